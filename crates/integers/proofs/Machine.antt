@@ -47,9 +47,10 @@ by! X s t h = subst X (sym (s .is t)) h
 pub unsigned! : {w : Width} {z : ℤ} (s : Held z) → T (s .test && ltb (s .bound) (2 ^ bits w)) → NonNeg (s .value) → T (nonNeg z) × Fits w (natAbs z)
 unsigned! {w} {z} s t h =
     let u = and-left (s .test) (ltb (s .bound) (2 ^ bits w)) t in
-    let e = sym (s .is u) in
-    (subst (λ x. T (nonNeg x)) e (h .holds),
-    record { fits = subst (λ x. natAbs x < 2 ^ bits w) e (lt-of-le-of-lt (s .under u) (ltb→lt (s .bound) (2 ^ bits w) (and-right (s .test) (ltb (s .bound) (2 ^ bits w)) t))) })
+    let e = sym (s .is u) in (
+      subst (λ x. T (nonNeg x)) e (h .holds),
+      record { fits = subst (λ x. natAbs x < 2 ^ bits w) e (lt-of-le-of-lt (s .under u) (ltb→lt (s .bound) (2 ^ bits w) (and-right (s .test) (ltb (s .bound) (2 ^ bits w)) t))) },
+    )
 
 -- ---- read by `search`: numbers that the code starts from
 abbrev pub held-size : {z : ℤ} → Size z → Held z

@@ -175,6 +175,9 @@ le-or-lt a b = go (leZ a b) (λ t. t) (λ t. t)
     go true f g = inl (leZ-yes (f tt))
     go false f g = inr (leZ-no (g tt))
 
+pub lt-or-ge : (m n : ℕ) → (m < n) ⊎ (n ≤ m)
+lt-or-ge m n = ⊎-elim (λ h. inr (le-pos h)) (λ h. inl (lt-pos h)) (le-or-lt (pos n) (pos m))
+
 pub +ℤ-mono : {a b c d : ℤ} → a ≤ℤ b → c ≤ℤ d → (a +ℤ c) ≤ℤ (b +ℤ d)
 +ℤ-mono {a} {b} {c} {d} h k = le-by (a ∷ b ∷ c ∷ d ∷ []) (gap h +₀ gap k) (search sides depth 20) refl
 

@@ -1,0 +1,2 @@
+-- Laws of curves and their halves. Each file opens with what it holds.
+pub mod Nodes

@@ -1,0 +1,24 @@
+-- How large control values get: what keeps 64-bit numbers from wrapping.
+use mathlib.Core.List.{List}
+use Prim.Native.Nat.{ℕ, _*_, _^_, _≤_}
+use lib.IntN.{ℤ, natAbs}
+use Rattle.integers.specs.Entry.{entry}
+use Rattle.bezier.specs.declared.Curve.{Curve}
+
+-- every entry is at most B in size
+pub record Each (B : ℕ) (cs : List ℤ) : Type 0 where
+  pub under : (k : ℕ) → natAbs (entry cs k) ≤ B
+
+-- A curve at depth k, of degree 1 to 3, from control points within 2^20.
+pub record Sized (k : ℕ) (c : Curve) : Type 0 where
+  pub least : 1 ≤ c .degree
+  pub most : c .degree ≤ 3
+  pub x : Each (2 ^ 20 * 2 ^ (c .degree * k)) (c .x)
+  pub y : Each (2 ^ 20 * 2 ^ (c .degree * k)) (c .y)
+
+-- A curve that 64 bits have room to halve.
+pub record Halvable (c : Curve) : Type 0 where
+  pub least : 1 ≤ c .degree
+  pub most : c .degree ≤ 3
+  pub x : Each (2 ^ 44) (c .x)
+  pub y : Each (2 ^ 44) (c .y)

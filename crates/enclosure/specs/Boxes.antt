@@ -1,0 +1,42 @@
+-- The boxes of a node, and the test that it meets the tolerance (document 01, "Enclosure rows").
+use mathlib.Core.Bool.{Bool, true, _&&_}
+use mathlib.Core.List.{List}
+use Prim.Native.Nat.{ℕ, zero, suc, _*_, _^_}
+use lib.IntN.{ℤ, pos, _-ℤ_}
+use lib.Signed.{leZ}
+use Rattle.bezier.specs.declared.Curve.{Curve}
+use Rattle.enclosure.specs.declared.Box.{Box}
+use Rattle.enclosure.specs.Rows.{pieces, thirds}
+use Rattle.enclosure.specs.Bounds.{high, low}
+
+-- the denominator of the control values of degree d at depth k
+abbrev pub over : ℕ → ℕ → ℤ
+over d k = pos (2 ^ (d * k))
+
+abbrev pub lowOf : ℕ → ℕ → List ℤ → ℕ → ℤ
+lowOf d k cs i = low pieces (thirds d) (over d k) d cs i
+
+abbrev pub highOf : ℕ → ℕ → List ℤ → ℕ → ℤ
+highOf d k cs i = high pieces (thirds d) (over d k) d cs i
+
+-- the box at break point i of a curve at depth k
+unfoldable pub boxAt : ℕ → Curve → ℕ → Box
+boxAt k c i = record {
+  «x_low» = lowOf (c .degree) k (c .x) i;
+  «x_high» = highOf (c .degree) k (c .x) i;
+  «y_low» = lowOf (c .degree) k (c .y) i;
+  «y_high» = highOf (c .degree) k (c .y) i;
+}
+
+-- high − low is at most T in both coordinates
+abbrev pub narrow : ℤ → Box → Bool
+narrow T b = leZ (b .«x_high» -ℤ b .«x_low») T && leZ (b .«y_high» -ℤ b .«y_low») T
+
+-- the boxes 0 to n are all narrow
+abbrev pub narrowTo : ℕ → ℤ → (ℕ → Box) → Bool
+narrowTo zero T box = narrow T (box 0)
+narrowTo (suc n) T box = narrowTo n T box && narrow T (box (suc n))
+
+-- the node meets T: at all break points
+unfoldable pub meets : ℤ → ℕ → Curve → Bool
+meets T k c = narrowTo pieces T (boxAt k c)

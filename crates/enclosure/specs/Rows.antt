@@ -1,0 +1,27 @@
+-- The enclosure rows (document 01, "Enclosure rows"), in ten-thousandths at the break points.
+use mathlib.Core.List.{List, [], _∷_}
+use Prim.Native.Nat.{ℕ, zero, suc}
+use lib.IntN.{ℤ, pos, negℤ}
+
+-- the rows of one second difference
+pub record Row : Type 0 where
+  pub high : List ℤ
+  pub low : List ℤ
+
+-- how many pieces a node has: its break points are 0 to 3
+abbrev pub pieces : ℕ
+pieces = 3
+
+abbrev minus : ℕ → ℤ
+minus n = negℤ (pos n)
+
+-- one row for each second difference of the degree, in their order; a degree without second differences has none
+abbrev pub thirds : ℕ → List Row
+thirds zero = []
+thirds (suc zero) = []
+thirds (suc (suc zero)) =
+    record { high = pos 0 ∷ minus 2222 ∷ minus 2222 ∷ pos 0 ∷ []; low = minus 278 ∷ minus 2500 ∷ minus 2500 ∷ minus 278 ∷ [] } ∷ []
+thirds (suc (suc (suc zero))) =
+    record { high = pos 0 ∷ minus 3703 ∷ minus 2962 ∷ pos 0 ∷ []; low = minus 696 ∷ minus 4400 ∷ minus 3155 ∷ minus 88 ∷ [] }
+    ∷ record { high = pos 0 ∷ minus 2962 ∷ minus 3703 ∷ pos 0 ∷ []; low = minus 88 ∷ minus 3155 ∷ minus 4400 ∷ minus 696 ∷ [] } ∷ []
+thirds (suc (suc (suc (suc d)))) = []
