@@ -1,10 +1,10 @@
 -- Straight-line code on signed numbers: each step fits its width, and the machine holds the formula's value, both by one computed test.
--- A signed local is its bits, so a need speaks of `toZ w (ofZ w z)`. `search machine` reads such a term as a formula, with a bound on each part,
+-- A signed local is its bits, so a need speaks of `stored w z`, which is `toZ w (ofZ w z)`. `search machine` reads such a term as a formula, with a bound on each part,
 -- from `Size x`, `SFits w x` or `Count n` of the numbers that the code starts from:
 --     mul-result c = fits! (search (machine, c .fits .a, c .fits .b) depth 40) tt
 --     returns c = is! (search (machine, c .fits .a, c .fits .b) depth 40) tt
--- `fits!` shows that a step fits, `is!` that what is held equals the formula, `by!` carries a fact of the formula over, `unsigned!` answers a cast
--- to an unsigned type, and `flag!`, `equal!` and `differ!` read what a comparison said.
+-- `fits!` shows that a step fits, `is!` that what is held equals the formula, `by!` carries a fact of the formula over, `unsigned!` and `unsigned-is!`
+-- answer a cast to an unsigned type, and `flag!` reads what a comparison said. `equal` of Ranges.antt reads what a test of equality said.
 use mathlib.Core.Path.{_≡_, refl, sym, _∙_, ap, ap₂, subst}
 use mathlib.Core.Bool.{Bool, true, _&&_}
 use Prim.Native.Nat.{ℕ, zero, suc, pred, _+_, _*_, _/_, _%_, _^_, _≤_, _<_, suc-le-suc}
@@ -16,6 +16,7 @@ use mir.Syntax.{Width}
 use mir.Val.{Fits, SFits, bits, hbits, toZ, ofZ}
 use mir.Facts.{toZ-ofZ, toZ-pos}
 use Rattle.integers.proofs.Order.{NonNeg}
+use Rattle.integers.proofs.Ranges.{stored}
 use Rattle.integers.proofs.Size.{Size, abs-neg, abs-add, abs-mul, fits-size}
 use Rattle.integers.proofs.Table.{and-left, and-right}
 
@@ -43,14 +44,17 @@ module _ {z : ℤ} (s : Held z) where
 pub by! : (X : ℤ → Type 0) {z : ℤ} (s : Held z) → T (s .test) → X (s .value) → X z
 by! X s t h = subst X (sym (s .is t)) h
 
--- a cast to an unsigned type of w bits
-pub unsigned! : {w : Width} {z : ℤ} (s : Held z) → T (s .test && ltb (s .bound) (2 ^ bits w)) → NonNeg (s .value) → T (nonNeg z) × Fits w (natAbs z)
-unsigned! {w} {z} s t h =
+-- a cast of z to an unsigned type of w bits, and what it gives
+pub unsigned! : {w : Width} (z : ℤ) (s : Held z) → T (s .test && ltb (s .bound) (2 ^ bits w)) → NonNeg (s .value) → T (nonNeg z) × Fits w (natAbs z)
+unsigned! {w} z s t h =
     let u = and-left (s .test) (ltb (s .bound) (2 ^ bits w)) t in
     let e = sym (s .is u) in (
       subst (λ x. T (nonNeg x)) e (h .holds),
       record { fits = subst (λ x. natAbs x < 2 ^ bits w) e (lt-of-le-of-lt (s .under u) (ltb→lt (s .bound) (2 ^ bits w) (and-right (s .test) (ltb (s .bound) (2 ^ bits w)) t))) },
     )
+
+pub unsigned-is! : (z : ℤ) (s : Held z) → T (s .test) → natAbs z ≡ natAbs (s .value)
+unsigned-is! z s t = ap natAbs (s .is t)
 
 -- ---- read by `search`: numbers that the code starts from
 abbrev pub held-size : {z : ℤ} → Size z → Held z
@@ -63,7 +67,7 @@ abbrev pub held-negsuc : {n : ℕ} → leb 0 n ≡ true → Held (negsuc n)
 held-negsuc {n} h = record { value = negsuc n; bound = suc n; test = true; is = λ t. refl; under = λ t. le-refl (suc n) }
 
 -- what is known to fit, as a parameter is (`c .fits .x`), with the width's own bound
-abbrev pub held-parameter : (w : Width) (z : ℤ) → SFits w z → Held (toZ w (ofZ w z))
+abbrev pub held-parameter : (w : Width) (z : ℤ) → SFits w z → Held (stored w z)
 held-parameter w z h = record { value = z; bound = 2 ^ hbits w; test = true; is = λ t. toZ-ofZ h; under = λ t. natAbs-le z (h .sfits) }
 
 -- an unsigned number that was cast
@@ -84,7 +88,7 @@ held-count w n s = record {
 }
 
 -- ---- what is kept in w bits and read again
-abbrev pub held-stored : (w : Width) (z : ℤ) → Held z → Held (toZ w (ofZ w z))
+abbrev pub held-stored : (w : Width) (z : ℤ) → Held z → Held (stored w z)
 held-stored w z s = record {
   value = s .value;
   bound = s .bound;
@@ -175,16 +179,3 @@ pub ruleset tests = (test-lt, test-le, machine)
 
 pub flag! : {b v : Bool} → b ≡ v → (s : Test b) → T (s .test) → s .value ≡ v
 flag! e s t = sym (s .is t) ∙ e
-
--- ---- an equality or a difference of two numbers, which code tests on their bits
-module _ (w : Width) {x y : ℤ} (s : Held x) (t : Held y) (u : T (s .test && ltb (s .bound) (2 ^ hbits w))) (v : T (t .test && ltb (t .bound) (2 ^ hbits w))) where
-  pub equal! : ofZ w x ≡ ofZ w y → s .value ≡ t .value
-  equal! e =
-      sym (s .is (and-left (s .test) (ltb (s .bound) (2 ^ hbits w)) u))
-      ∙ sym (toZ-ofZ (fits-in s w u)) ∙ ap (toZ w) e ∙ toZ-ofZ (fits-in t w v)
-      ∙ t .is (and-left (t .test) (ltb (t .bound) (2 ^ hbits w)) v)
-
-  pub differ! : (ofZ w x ≡ ofZ w y → ⊥) → s .value ≡ t .value → ⊥
-  differ! f e = f (ap (ofZ w) (
-      s .is (and-left (s .test) (ltb (s .bound) (2 ^ hbits w)) u) ∙ e
-      ∙ sym (t .is (and-left (t .test) (ltb (t .bound) (2 ^ hbits w)) v))))

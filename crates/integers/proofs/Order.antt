@@ -13,7 +13,7 @@ use Prim.Native.Nat.{ℕ, zero, suc, _+_, _-_, _≤_, _<_, zero-le, suc-le-suc}
 use native.Mathlib.Nat.{le-of-suc-le-suc, not-suc-le-zero}
 use native.Mathlib.Omega.{arith}
 use lib.Dec.{T, leb, ltb, ltb→lt, lt→ltb, nltb→le, nleb→lt, leb→le, le→leb}
-use lib.IntN.{ℤ, pos, negsuc, sucℤ, negℤ, subℕ, _+ℤ_, _-ℤ_, _*ℤ_, +ℤ-one}
+use lib.IntN.{ℤ, pos, negsuc, sucℤ, negℤ, subℕ, _+ℤ_, _-ℤ_, _*ℤ_, +ℤ-one, +ℤ-idr}
 use lib.Signed.{leZ, ltZ, nonNeg, _≤ℤ_, _<ℤ_, leZ-yes, ltZ-yes}
 use Rattle.integers.proofs.Polynomial.{num}
 use Rattle.integers.proofs.Ring.{Sides, residue, ring, sides}
@@ -89,6 +89,12 @@ gap {a} {b} h = record { holds = le-difference a b (h .le) }
 
 pub le-of-gap : {a b : ℤ} → NonNeg (b -ℤ a) → a ≤ℤ b
 le-of-gap {a} {b} h = leZ-yes (difference-le a b (h .holds))
+
+pub nonneg : {z : ℤ} → pos 0 ≤ℤ z → NonNeg z
+nonneg {z} h = nonneg-≡ (gap h) (sym (+ℤ-idr z))
+
+pub from-nonneg : {z : ℤ} → NonNeg z → pos 0 ≤ℤ z
+from-nonneg {z} h = le-of-gap (nonneg-≡ h (+ℤ-idr z))
 
 -- ---- less than: the difference less one is not negative
 suc-le : (a b : ℤ) → T (ltZ a b) → T (leZ (sucℤ a) b)

@@ -1,13 +1,18 @@
--- From the order to the machine and back: the Bool tests that comparisons of signed numbers give, and the range of a signed width.
-use mathlib.Core.Path.{_≡_, refl, sym, subst}
+-- From the order to the machine and back: the Bool tests that comparisons of signed numbers give, the range of a signed width, and equality of bits.
+use mathlib.Core.Path.{_≡_, refl, sym, _∙_, ap, subst}
 use mathlib.Core.Bool.{Bool, true, false, not}
 use Prim.Native.Nat.{ℕ, suc, _+_, _^_, _<_}
 use lib.Dec.{T, ltb→lt, lt→ltb}
 use lib.IntN.{ℤ, pos, negsuc, _+ℤ_, _-ℤ_}
 use lib.Signed.{mag, leZ, ltZ, _≤ℤ_, _<ℤ_, leZ-yes, ltZ-yes, ltZ-no, clashℤ}
 use mir.Syntax.{Width}
-use mir.Val.{SFits, hbits}
+use mir.Val.{SFits, hbits, toZ, ofZ}
+use mir.Facts.{toZ-ofZ}
 use Rattle.integers.proofs.Order.{NonNeg, natural, gap<, lt-of-gap, leZ-no, sub-nonneg, nonneg-sub}
+
+-- ---- a signed local is bits: z kept in w bits and read again
+abbrev pub stored : Width → ℤ → ℤ
+stored w z = toZ w (ofZ w z)
 
 -- ---- what a test says
 pub lt-yes : {a b : ℤ} → ltZ a b ≡ true → a <ℤ b
@@ -64,3 +69,10 @@ fits-high {w} {z} h = range-high (2 ^ hbits w) z (h .sfits)
 
 pub fits-between : {w : Width} {z : ℤ} → NonNeg (z +ℤ pos (2 ^ hbits w)) → NonNeg (pos (2 ^ hbits w) -ℤ z -ℤ pos 1) → SFits w z
 fits-between {w} {z} l h = record { sfits = in-range (2 ^ hbits w) z l h }
+
+-- ---- code tests an equality of signed numbers on their bits
+pub equal : {w : Width} {x y : ℤ} → SFits w x → SFits w y → ofZ w x ≡ ofZ w y → x ≡ y
+equal {w} hx hy e = sym (toZ-ofZ hx) ∙ ap (toZ w) e ∙ toZ-ofZ hy
+
+pub differ : (w : Width) {x y : ℤ} → (ofZ w x ≡ ofZ w y → ⊥) → x ≡ y → ⊥
+differ w f e = f (ap (ofZ w) e)

@@ -9,12 +9,12 @@ use lib.Dec.{T, ltb→lt}
 use lib.IntN.{ℤ, pos, negsuc, negℤ, _+ℤ_, _-ℤ_, _*ℤ_, negℤ-negℤ, natAbs}
 use lib.Signed.{mag, mag-rem, quotZ, remZ, ltZ, _≤ℤ_, _<ℤ_, ≤ℤ-refl}
 use mir.Syntax.{Width}
-use mir.Val.{SFits, toZ, ofZ}
+use mir.Val.{SFits, ofZ}
 use mir.Facts.{toZ-ofZ}
 use Rattle.integers.specs.Rounding.{floor, ceiling}
 use Rattle.integers.proofs.Ring.{ring, sides}
 use Rattle.integers.proofs.Order.{NonNeg, natural, nonneg-by, gap, gap<, le-by, lt-by, clash-by, pos-lt, le-or-lt, ≤ℤ-trans, ≤ℤ-antisymm, _+₀_, _×₀_}
-use Rattle.integers.proofs.Ranges.{lt-yes, lt-no}
+use Rattle.integers.proofs.Ranges.{stored, lt-yes, lt-no}
 
 -- q is n / d rounded down, and up
 pub record Floor (n d q : ℤ) : Type 0 where
@@ -231,10 +231,7 @@ module _ {w : Width} {n : ℤ} (d : ℤ) (hn : SFits w n) where
   pub remainder-fits : SFits w (remZ n d)
   remainder-fits = record { sfits = lt-of-le-of-lt (mag-rem n d) (hn .sfits) }
 
--- ---- the same of what the machine holds: `stored w z` is z kept in w bits and read again
-abbrev pub stored : Width → ℤ → ℤ
-stored w z = toZ w (ofZ w z)
-
+-- ---- the same of what the machine holds
 divisor-bits : (w : Width) (d : ℤ) → pos 0 <ℤ d → zero < ofZ w d
 divisor-bits w (pos D) h = ltb→lt zero D (h .lt)
 divisor-bits w (negsuc D) h = absurd (h .lt)

@@ -1,0 +1,2 @@
+-- The worked uses of the laws.
+pub mod Uses

@@ -1,0 +1,46 @@
+-- The number and the spot of each refusal (document 01, "Place of each check").
+use Prim.Native.Nat.{ℕ, _+_, _*_}
+use Rattle.refusals.specs.declared.Refusal.{Refusal}
+use Rattle.refusals.specs.declared.Refusal.the-variants.{Tolerance, Degree, CutShort, Coordinate, TooManyCurves, EmptyOutline, TooWide, TooFewRecords, LeafListLength, LeafListNumber, PointX, PointY, BoxNumber, TooFewVertices, NotAForm, OutOfOrder, TextTooLong}
+
+abbrev pub numberOf : Refusal → ℕ
+numberOf Tolerance = 1
+numberOf (Degree index) = 2
+numberOf (CutShort length) = 3
+numberOf (Coordinate index) = 4
+numberOf (TooManyCurves index) = 5
+numberOf EmptyOutline = 6
+numberOf (TooWide curve node) = 7
+numberOf (TooFewRecords leaves) = 8
+numberOf (LeafListLength length) = 9
+numberOf (LeafListNumber index) = 10
+numberOf PointX = 11
+numberOf PointY = 11
+numberOf (BoxNumber place) = 12
+numberOf (TooFewVertices length) = 13
+numberOf (NotAForm line) = 14
+numberOf (OutOfOrder line) = 15
+numberOf (TextTooLong first) = 16
+
+-- a curve and a node of it as one number
+abbrev pub nodeSpot : ℕ → ℕ → ℕ
+nodeSpot curve node = 512 * curve + node
+
+abbrev pub spotOf : Refusal → ℕ
+spotOf Tolerance = 0
+spotOf (Degree index) = index
+spotOf (CutShort length) = length
+spotOf (Coordinate index) = index
+spotOf (TooManyCurves index) = index
+spotOf EmptyOutline = 0
+spotOf (TooWide curve node) = nodeSpot curve node
+spotOf (TooFewRecords leaves) = leaves
+spotOf (LeafListLength length) = length
+spotOf (LeafListNumber index) = index
+spotOf PointX = 0
+spotOf PointY = 1
+spotOf (BoxNumber place) = place
+spotOf (TooFewVertices length) = length
+spotOf (NotAForm line) = line
+spotOf (OutOfOrder line) = line
+spotOf (TextTooLong first) = first
