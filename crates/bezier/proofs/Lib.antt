@@ -1,2 +1,3 @@
 -- Laws of curves and their halves. Each file opens with what it holds.
 pub mod Nodes
+pub mod Halving

@@ -2,3 +2,4 @@
 pub mod Rows
 pub mod Bounds
 pub mod Boxes
+pub mod Terms

@@ -1,4 +1,12 @@
 // Bounds of a curve at the break points of a node: the tabled second-difference enclosure, rounded outwards to whole sixteenths.
+ghost use mathlib.Core.Path.{_≡_};
+ghost use Prim.Native.Nat.{_<_, _≤_};
+ghost use Rattle.bezier.specs.Bounds.{Sized};
+ghost use Rattle.enclosure.specs.Boxes.{boxAt, narrow, meets};
+
+mod bounds;
+
+use bezier::Curve;
 
 // A box at a break point, in sixteenths of a stage unit.
 pub struct Box {
@@ -6,4 +14,24 @@ pub struct Box {
     pub x_high: i64,
     pub y_low: i64,
     pub y_high: i64,
+}
+
+// The box at break point i, from 0 to 3, of a curve at a depth.
+pub fn box_at(curve: Curve, depth: u32, i: usize) -> Box
+    requires { ⌜ (Sized depth curve) × (depth ≤ 8) × (i < 4) ⌝ }
+    ensures { λ b. ⌜ b ≡ boxAt depth curve i ⌝ }
+{
+    let degree = curve.degree;
+    let x = curve.x;
+    let y = curve.y;
+    let x_low = bounds::low(x, degree, depth, i);
+    let x_high = bounds::high(x, degree, depth, i);
+    let y_low = bounds::low(y, degree, depth, i);
+    let y_high = bounds::high(y, degree, depth, i);
+    Box {
+        x_low,
+        x_high,
+        y_low,
+        y_high,
+    }
 }

@@ -13,7 +13,8 @@ use mir.Val.{SFits, ofZ}
 use mir.Facts.{toZ-ofZ}
 use Rattle.integers.specs.Rounding.{floor, ceiling}
 use Rattle.integers.proofs.Ring.{ring, sides}
-use Rattle.integers.proofs.Order.{NonNeg, natural, nonneg-by, gap, gap<, le-by, lt-by, clash-by, pos-lt, le-or-lt, ≤ℤ-trans, ≤ℤ-antisymm, _+₀_, _×₀_}
+use Rattle.integers.proofs.Order.{NonNeg, natural, nonneg-by, gap, gap<, le-by, lt-by, clash-by, pos-lt, le-or-lt, ≤ℤ-trans, ≤ℤ-antisymm, *ℤ-cancel, _+₀_, _×₀_}
+use Rattle.integers.proofs.Size.{abs-within}
 use Rattle.integers.proofs.Ranges.{stored, lt-yes, lt-no}
 
 -- q is n / d rounded down, and up
@@ -133,6 +134,12 @@ module _ {d : ℤ} (hd : pos 0 <ℤ d) where
           below = lt-by (k ∷ d ∷ n ∷ q ∷ []) ((gap< hk +₀ natural 1) ×₀ gap< (f .below) +₀ gap< hk) (search sides depth 20) refl;
           above = le-by (k ∷ d ∷ n ∷ q ∷ []) ((gap< hk +₀ natural 1) ×₀ gap (f .above)) (search sides depth 20) refl;
         }))
+
+-- at most B in size where n is at most B · d
+pub ceiling-size : (B : ℕ) {n d : ℤ} → pos 0 <ℤ d → n ≤ℤ (pos B *ℤ d) → (negℤ (pos B) *ℤ d) ≤ℤ n → natAbs (ceiling n d) ≤ B
+ceiling-size B {n} {d} hd h l = abs-within B (ceiling n d)
+    (*ℤ-cancel {a = negℤ (pos B)} {b = ceiling n d} hd (le-by (pos B ∷ n ∷ d ∷ ceiling n d ∷ []) (gap l +₀ gap (ceiling-is n d hd .above)) (search sides depth 20) refl))
+    (ceiling-le hd h)
 
 -- ---- as code computes them: `if n % d < 0 { n / d - 1 } else { n / d }`, and `if 0 < n % d { n / d + 1 } else { n / d }`
 quotient-remainder : (n : ℤ) (D : ℕ) → n ≡ quotZ n (pos D) *ℤ pos D +ℤ remZ n (pos D)

@@ -1,0 +1,150 @@
+-- The code of one coordinate: what each function holds is its formula, within its bound.
+--     mul-result c = fits! (search bounded depth 40) tt
+--     returns c = holds! (search bounded depth 40) tt refl
+use mathlib.Core.Path.{_≡_, refl, sym, _∙_, ap, ap₂, subst}
+use mathlib.Core.Bool.{Bool, true, false, _&&_, cond}
+use mathlib.Core.List.{List, [], _∷_}
+use Prim.Native.Nat.{ℕ, zero, suc, _+_, _*_, _%_, _^_, _≤_, _<_}
+use native.Mathlib.Nat.{le-trans, lt-of-le-of-lt, mul-le-mul, one-mul, mod-eq-of-lt}
+use native.Mathlib.Omega.{arith}
+use native.Mathlib.Numerals.{add-one, add-two}
+use lib.Dec.{T, leb, ltb, leb→le, lit<}
+use lib.Pow.{pow-mono, pow-pos}
+use lib.ListN.{length}
+use lib.IntN.{ℤ, pos, natAbs, _+ℤ_, _-ℤ_, _*ℤ_, +ℤ-idr}
+use lib.Signed.{ltZ, _<ℤ_, ltZ-yes}
+use mir.Syntax.{w64}
+use mir.Val.{toZ}
+use mir.Facts.{toZ-ofZ, toZ-pos}
+use Rattle.integers.specs.Entry.{entry}
+use Rattle.integers.specs.Rounding.{ceiling}
+use Rattle.integers.proofs.Table.{every, at, and-left, and-right}
+use Rattle.integers.proofs.Ring.{sides}
+use Rattle.integers.proofs.Ranges.{stored}
+use Rattle.integers.proofs.Size.{fits-size, abs-high, abs-low}
+use Rattle.integers.proofs.Rounding.{ceiling-size}
+use Rattle.integers.proofs.Order.{natural, gap, gap<, le-by, pos-lt, _+₀_, _×₀_}
+use Rattle.integers.proofs.Machine.{Held, Count, tests}
+use Rattle.bezier.specs.Differences.{difference}
+use Rattle.bezier.proofs.Halving.{held-entry}
+use Rattle.enclosure.specs.Rows.{thirds}
+use Rattle.enclosure.specs.Bounds.{rowSum}
+use Rattle.enclosure.specs.Boxes.{over}
+use Rattle.enclosure.specs.Terms.{Readable, Small, Holds, highs, lows, term}
+use Rattle.enclosure.proofs.Orders.{times-positive}
+
+pub holds! : {B : ℕ} {z r : ℤ} (s : Held r) → T (s .test && leb (s .bound) B) → s .value ≡ z → Holds B z r
+holds! {B} {z} {r} s t e =
+    let u = and-left (s .test) (leb (s .bound) B) t in
+    record {
+      is = s .is u ∙ e;
+      size = subst (λ x. natAbs x ≤ B) (sym (s .is u)) (le-trans (s .under u) (leb→le (s .bound) B (and-right (s .test) (leb (s .bound) B) t)));
+    }
+
+-- ---- what the code starts from
+abbrev pub count-point : {cs : List ℤ} {d i : ℕ} → Readable cs d i → Count i
+count-point h = record { bound = 4; under = h .point }
+
+abbrev pub held-holds : {B : ℕ} {z r : ℤ} → Holds B z r → Held r
+held-holds {B} {z} {r} h = record { value = z; bound = B; test = true; is = λ t. h .is; under = λ t. subst (λ x. natAbs x ≤ B) (h .is) (h .size) }
+
+abbrev pub held-small : {B : ℕ} {z : ℤ} → Small B z → Held z
+held-small {B} {z} h = record { value = z; bound = B; test = true; is = λ t. refl; under = λ t. h .size }
+
+abbrev pub small? : ℕ → ℤ → Bool
+small? k x = leb (natAbs x) 4400
+
+pub small-at : (xs : List ℤ) → T (every small? 0 xs) → (k : ℕ) → k < length xs → natAbs (entry xs k) ≤ 4400
+small-at xs t k h = leb→le (natAbs (entry xs k)) 4400 (at small? xs (pos 0) t k h)
+
+abbrev pub held-table : (xs : List ℤ) → T (every small? 0 xs) → (k : ℕ) → k < length xs → Held (entry xs k)
+held-table xs t k h = record { value = entry xs k; bound = 4400; test = true; is = λ _. refl; under = λ _. small-at xs t k h }
+
+abbrev pub held-low : (place : ℕ) → place < 12 → Held (entry lows place)
+held-low place h = held-table lows tt place h
+
+abbrev pub held-high : (place : ℕ) → place < 12 → Held (entry highs place)
+held-high place h = held-table highs tt place h
+
+pub ruleset bounded = (held-entry, held-holds, held-small, count-point, held-low, held-high, tests)
+
+-- what a function returned, as its caller holds it
+pub stored-is : {B : ℕ} {z r : ℤ} → Holds B z r → T (ltb B (2 ^ 63)) → stored w64 r ≡ z
+stored-is {B} {z} {r} h t = toZ-ofZ (fits-size {w = w64} {z = r} (record { bound = B; under = h .size }) t) ∙ h .is
+
+-- ---- formulas as the definitions have them
+pub difference-is : (cs : List ℤ) (k : ℕ) → entry cs k -ℤ pos 2 *ℤ entry cs (k + 1) +ℤ entry cs (k + 2) ≡ difference cs k
+difference-is cs k = ap₂ (λ (a b : ℕ). entry cs k -ℤ pos 2 *ℤ entry cs a +ℤ entry cs b) (add-one k) (add-two k)
+
+pub term-negative : (place : ℕ) (δ : ℤ) → ltZ δ (pos 0) ≡ true → entry lows place *ℤ δ ≡ term place δ
+unfolding term
+term-negative place δ t = ap (λ (b : Bool). cond b (entry lows place) (entry highs place) *ℤ δ) (sym t)
+
+pub term-other : (place : ℕ) (δ : ℤ) → ltZ δ (pos 0) ≡ false → entry highs place *ℤ δ ≡ term place δ
+unfolding term
+term-other place δ t = ap (λ (b : Bool). cond b (entry lows place) (entry highs place) *ℤ δ) (sym t)
+
+-- ---- the sums, by the degree
+pub sum-line : (i : ℕ) (cs : List ℤ) → pos 0 ≡ rowSum (thirds 1) i 0 cs
+unfolding rowSum
+sum-line i cs = refl
+
+pub sum-quadratic : (i : ℕ) (cs : List ℤ) → i < 4 → term i (difference cs 0) ≡ rowSum (thirds 2) i 0 cs
+unfolding rowSum term
+sum-quadratic zero cs h = sym (+ℤ-idr (term 0 (difference cs 0)))
+sum-quadratic (suc zero) cs h = sym (+ℤ-idr (term 1 (difference cs 0)))
+sum-quadratic (suc (suc zero)) cs h = sym (+ℤ-idr (term 2 (difference cs 0)))
+sum-quadratic (suc (suc (suc zero))) cs h = sym (+ℤ-idr (term 3 (difference cs 0)))
+sum-quadratic (suc (suc (suc (suc i)))) cs h = absurd (omega arith)
+
+pub sum-cubic : (i : ℕ) (cs : List ℤ) → i < 4 → term (4 + i) (difference cs 0) +ℤ term (8 + i) (difference cs 1) ≡ rowSum (thirds 3) i 0 cs
+unfolding rowSum term
+sum-cubic zero cs h = ap (λ z. term 4 (difference cs 0) +ℤ z) (sym (+ℤ-idr (term 8 (difference cs 1))))
+sum-cubic (suc zero) cs h = ap (λ z. term 5 (difference cs 0) +ℤ z) (sym (+ℤ-idr (term 9 (difference cs 1))))
+sum-cubic (suc (suc zero)) cs h = ap (λ z. term 6 (difference cs 0) +ℤ z) (sym (+ℤ-idr (term 10 (difference cs 1))))
+sum-cubic (suc (suc (suc zero))) cs h = ap (λ z. term 7 (difference cs 0) +ℤ z) (sym (+ℤ-idr (term 11 (difference cs 1))))
+sum-cubic (suc (suc (suc (suc i)))) cs h = absurd (omega arith)
+
+-- ---- the denominator: a power of 2 by a shift
+pub shift-small : {d k : ℕ} → d ≤ 3 → k ≤ 8 → d * k ≤ 24
+shift-small h l = mul-le-mul h l
+
+pub shifted : (s : ℕ) → s ≤ 24 → (1 * 2 ^ s) % 2 ^ 64 ≡ 2 ^ s
+shifted s h = ap (λ (x : ℕ). x % 2 ^ 64) (one-mul (2 ^ s)) ∙ mod-eq-of-lt (lt-of-le-of-lt (pow-mono h) (lit< tt))
+
+abbrev pub held-shift : (s : ℕ) → s ≤ 24 → Held (toZ w64 ((1 * 2 ^ s) % 2 ^ 64))
+held-shift s h = record {
+  value = pos (2 ^ s);
+  bound = 2 ^ 24;
+  test = true;
+  is = λ t. ap (toZ w64) (shifted s h) ∙ toZ-pos w64 (lt-of-le-of-lt (pow-mono h) (lit< tt));
+  under = λ t. pow-mono h;
+}
+
+-- ---- a quotient by k times 1875, and what its caller holds of it
+pub restored : {B : ℕ} {z r : ℤ} → Holds B z r → T (ltb B (2 ^ 63)) → Holds B z (stored w64 r)
+restored {B} {z} {r} h t = record { is = stored-is h t; size = subst (λ x. natAbs x ≤ B) (h .is ∙ sym (stored-is h t)) (h .size) }
+
+module _ (B k : ℕ) (some : 0 < k) where
+  quotient-size : (n : ℤ) → natAbs n ≤ B * 1875 → natAbs (ceiling n (pos 1875 *ℤ pos k)) ≤ B
+  quotient-size n h = ceiling-size B (times-positive {x = pos 1875} (ltZ-yes tt) (pos-lt some))
+      (le-by (pos B ∷ pos k ∷ n ∷ []) (gap (abs-high n h) +₀ natural (B * 1875) ×₀ gap< (pos-lt some)) (search sides depth 20) refl)
+      (le-by (pos B ∷ pos k ∷ n ∷ []) (gap (abs-low n h) +₀ natural (B * 1875) ×₀ gap< (pos-lt some)) (search sides depth 20) refl)
+
+  pub ceiling-holds : {n q r : ℤ} → r ≡ ceiling n q → q ≡ pos 1875 *ℤ pos k → (s : Held n) → T (s .test && leb (s .bound) (B * 1875))
+      → Holds B (ceiling (s .value) (pos 1875 *ℤ pos k)) r
+  ceiling-holds {n} {q} {r} e f s t =
+      let u = and-left (s .test) (leb (s .bound) (B * 1875)) t in
+      let g = e ∙ ap₂ ceiling (s .is u) f in
+      record {
+        is = g;
+        size = subst (λ x. natAbs x ≤ B) (sym g)
+            (quotient-size (s .value) (le-trans (s .under u) (leb→le (s .bound) (B * 1875) (and-right (s .test) (leb (s .bound) (B * 1875)) t))));
+      }
+
+-- the denominator is positive
+pub over-positive : (d k : ℕ) → pos 0 <ℤ over d k
+over-positive d k = pos-lt (pow-pos (d * k))
+
+pub denominator-positive : (d k : ℕ) → pos 0 <ℤ (pos 1875 *ℤ over d k)
+denominator-positive d k = times-positive {x = pos 1875} (ltZ-yes tt) (over-positive d k)
