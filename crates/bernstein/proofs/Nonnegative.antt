@@ -8,30 +8,22 @@ use mathlib.Core.Logic.{⊎-elim}
 use mathlib.Core.List.{List, [], _∷_}
 use Prim.Native.Nat.{ℕ, zero, suc}
 use lib.Dec.{T}
-use lib.IntN.{ℤ, pos, negsuc, _+ℤ_, _-ℤ_, _*ℤ_, pow, one, +ℤ-idr}
+use lib.IntN.{ℤ, pos, _-ℤ_, _*ℤ_, pow, one, +ℤ-idr}
 use lib.Signed.{nonNeg, _≤ℤ_, _<ℤ_, ltZ-yes}
 use Rattle.integers.specs.Entry.{entry}
 use Rattle.integers.proofs.Ring.{ring, sides}
 use Rattle.integers.proofs.Order.{NonNeg, natural, nonneg-≡, nonneg-cancel, gap, gap<, le-of-gap, lt-by, lt-le, le-or-lt, _+₀_, _×₀_}
 use Rattle.integers.proofs.Table.{and-left, and-right}
 use Rattle.bernstein.specs.Value.{value}
-use Rattle.bernstein.proofs.Recursion.{casteljau, casteljau-nonneg, casteljau-times, value-is}
-use Rattle.bernstein.proofs.Stretch.{stretch, stretch-value}
+use Rattle.bernstein.proofs.Recursion.{casteljau-nonneg, casteljau-times, value-is}
+use Rattle.bernstein.proofs.Stretch.{stretch, stretch-is, half-part-value}
 
--- ---- the halves, times 2^n, and their values
+-- ---- the halves, times 2^n
 abbrev pub left : ℕ → List ℤ → List ℤ
 left n cs = stretch (pos 0) (pos 2) (pos 1) (pos 1) n cs
 
 abbrev pub right : ℕ → List ℤ → List ℤ
 right n cs = stretch (pos 1) (pos 1) (pos 2) (pos 0) n cs
-
-pub left-value : (p r : ℤ) (n : ℕ) (cs : List ℤ) → value p r n (left n cs) ≡ value p (p +ℤ pos 2 *ℤ r) n cs
-left-value p r n cs = stretch-value (pos 0) (pos 2) (pos 1) (pos 1) r p n cs
-    ∙ ap₂ (λ x y. value x y n cs) (ring (p ∷ r ∷ []) (search sides depth 20) refl) (ring (p ∷ r ∷ []) (search sides depth 20) refl)
-
-pub right-value : (p r : ℤ) (n : ℕ) (cs : List ℤ) → value p r n (right n cs) ≡ value (pos 2 *ℤ p +ℤ r) r n cs
-right-value p r n cs = stretch-value (pos 1) (pos 1) (pos 2) (pos 0) r p n cs
-    ∙ ap₂ (λ x y. value x y n cs) (ring (p ∷ r ∷ []) (search sides depth 20) refl) (ring (p ∷ r ∷ []) (search sides depth 20) refl)
 
 pub value-times : (k p r : ℤ) (n : ℕ) (cs : List ℤ) → value (k *ℤ p) (k *ℤ r) n cs ≡ pow k n *ℤ value p r n cs
 value-times k p r n cs =
@@ -67,12 +59,12 @@ halved : (p r : ℤ) (n : ℕ) (cs : List ℤ) → NonNeg (value (pos 2 *ℤ p) 
 halved p r n cs h = nonneg-cancel (pow-positive {k = pos 2} (ltZ-yes tt) n) (nonneg-≡ h (sym (value-times (pos 2) p r n cs)))
 
 from-left : (p r : ℤ) (n : ℕ) (cs : List ℤ) → NonNeg (value (pos 2 *ℤ p) (r -ℤ p) n (left n cs)) → NonNeg (value p r n cs)
-from-left p r n cs h = halved p r n cs (nonneg-≡ h (sym (left-value (pos 2 *ℤ p) (r -ℤ p) n cs
-    ∙ ap (λ x. value (pos 2 *ℤ p) x n cs) (ring (p ∷ r ∷ []) (search sides depth 20) refl))))
+from-left p r n cs h = halved p r n cs (nonneg-≡ h (sym (half-part-value 0 (pos 2 *ℤ p) (r -ℤ p) n cs (left n cs) (stretch-is (pos 0) (pos 2) (pos 1) (pos 1) n cs)
+    ∙ ap₂ (λ x y. value x y n cs) (ring (p ∷ r ∷ []) (search sides depth 20) refl) (ring (p ∷ r ∷ []) (search sides depth 20) refl))))
 
 from-right : (p r : ℤ) (n : ℕ) (cs : List ℤ) → NonNeg (value (p -ℤ r) (pos 2 *ℤ r) n (right n cs)) → NonNeg (value p r n cs)
-from-right p r n cs h = halved p r n cs (nonneg-≡ h (sym (right-value (p -ℤ r) (pos 2 *ℤ r) n cs
-    ∙ ap (λ x. value x (pos 2 *ℤ r) n cs) (ring (p ∷ r ∷ []) (search sides depth 20) refl))))
+from-right p r n cs h = halved p r n cs (nonneg-≡ h (sym (half-part-value 1 (p -ℤ r) (pos 2 *ℤ r) n cs (right n cs) (stretch-is (pos 1) (pos 1) (pos 2) (pos 0) n cs)
+    ∙ ap₂ (λ x y. value x y n cs) (ring (p ∷ r ∷ []) (search sides depth 20) refl) (ring (p ∷ r ∷ []) (search sides depth 20) refl))))
 
 -- the test with this fuel is right for n + 1 coefficients
 abbrev pub Right : ℕ → ℕ → Type 0

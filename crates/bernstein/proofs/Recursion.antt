@@ -2,13 +2,14 @@
 -- the degree, and `value-is` carries them to the sum.
 use mathlib.Core.Path.{_≡_, refl, sym, _∙_, ap, ap₂}
 use mathlib.Core.List.{List, [], _∷_}
-use Prim.Native.Nat.{ℕ, zero, suc, _+_, _*_, _-_, _≤_, _<_, zero-le, suc-le-suc}
-use native.Mathlib.Nat.{le-refl, le-of-suc-le-suc}
+use Prim.Native.Nat.{ℕ, zero, suc, _+_, _*_, _-_, _^_, _≤_, _<_, zero-le, suc-le-suc}
+use native.Mathlib.Nat.{le-refl, le-of-suc-le-suc, le-trans, add-le-add, mul-le-mul-left, add-comm, add-mul, mul-assoc, one-mul, pow-zero, pow-succ'}
 use native.Mathlib.Omega.{arith}
-use lib.IntN.{ℤ, pos, negsuc, _+ℤ_, _-ℤ_, _*ℤ_, pow, one, zero-*ℤ, +ℤ-idr}
+use lib.IntN.{ℤ, pos, natAbs, _+ℤ_, _*ℤ_, pow, one}
 use Rattle.integers.specs.Entry.{entry}
 use Rattle.integers.proofs.Ring.{ring, sides}
 use Rattle.integers.proofs.Order.{NonNeg, _+₀_, _×₀_}
+use Rattle.integers.proofs.Size.{abs-add, abs-mul}
 use Rattle.bernstein.specs.Value.{choose, sum, value}
 
 pub one-on : {k n : ℕ} → k ≤ n → k ≤ suc n
@@ -164,3 +165,14 @@ module _ (p r : ℤ) where
       let b = casteljau p r d (λ i. f (suc i)) in
       ap₂ (λ x y. k *ℤ r *ℤ x +ℤ k *ℤ p *ℤ y) (casteljau-times k d f) (casteljau-times k d (λ i. f (suc i)))
       ∙ ring (k ∷ p ∷ r ∷ a ∷ b ∷ w ∷ []) (search sides depth 20) refl
+
+-- ---- sizes, for weights that are naturals: at most (p + r)^d times the largest coefficient
+pub mix-size : (p r : ℕ) (a b : ℤ) {B : ℕ} → natAbs a ≤ B → natAbs b ≤ B → natAbs (pos r *ℤ a +ℤ pos p *ℤ b) ≤ (p + r) * B
+mix-size p r a b {B} h k = le-trans (abs-add (pos r *ℤ a) (pos p *ℤ b))
+    (rw (abs-mul (pos r) a, abs-mul (pos p) b, add-comm p r, add-mul) (add-le-add (mul-le-mul-left r h) (mul-le-mul-left p k)))
+
+pub casteljau-size : (p r B d : ℕ) (f : ℕ → ℤ) → ((k : ℕ) → k ≤ d → natAbs (f k) ≤ B) → natAbs (casteljau (pos p) (pos r) d f) ≤ (p + r) ^ d * B
+unfolding casteljau
+casteljau-size p r B zero f h = rw (pow-zero, one-mul) (h zero zero-le)
+casteljau-size p r B (suc d) f h = rw (pow-succ', mul-assoc) (mix-size p r (casteljau (pos p) (pos r) d f) (casteljau (pos p) (pos r) d (λ k. f (suc k)))
+    (casteljau-size p r B d f (λ k l. h k (one-on l))) (casteljau-size p r B d (λ k. f (suc k)) (λ k l. h (suc k) (suc-le-suc l))))

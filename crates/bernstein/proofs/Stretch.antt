@@ -1,15 +1,15 @@
 -- The coefficients of a polynomial over a stretch of its parameters, between any two rational parameters: p0 / w and p1 / w, where
--- w = p0 + r0 = p1 + r1. `stretch-value` says what their value is; halving at 1/2 is one case, and a third of a stretch another.
+-- w = p0 + r0 = p1 + r1. `stretch-value` says what their value is; halving at 1/2 is one case (`half-part`), and a third of a stretch another.
 use mathlib.Core.Path.{_≡_, refl, sym, _∙_, ap, ap₂, fun-ext}
 use mathlib.Core.List.{List, [], _∷_}
-use Prim.Native.Nat.{ℕ, zero, suc, _≤_, zero-le, suc-le-suc}
-use native.Mathlib.Nat.{le-of-suc-le-suc, not-suc-le-zero}
-use lib.IntN.{ℤ, pos, _+ℤ_, _*ℤ_, pow, one}
+use Prim.Native.Nat.{ℕ, zero, suc, _+_, _*_, _-_, _^_, _≤_, zero-le, suc-le-suc}
+use native.Mathlib.Nat.{le-of-suc-le-suc, not-suc-le-zero, mul-assoc, pow-zero, pow-suc, one-mul}
+use lib.IntN.{ℤ, pos, negsuc, natAbs, _+ℤ_, _-ℤ_, _*ℤ_, pow, one}
 use Rattle.integers.specs.Entry.{entry}
 use Rattle.integers.proofs.Ring.{ring, sides}
 use Rattle.integers.proofs.Order.{NonNeg, _+₀_, _×₀_}
 use Rattle.bernstein.specs.Value.{value}
-use Rattle.bernstein.proofs.Recursion.{casteljau, casteljau-ext, casteljau-mix, casteljau-nonneg, casteljau-constant, value-is, one-on}
+use Rattle.bernstein.proofs.Recursion.{casteljau, casteljau-ext, casteljau-mix, casteljau-nonneg, casteljau-constant, casteljau-size, mix-size, value-is, one-on}
 
 -- ---- one de Casteljau step at the weights p, r: neighbours mixed
 abbrev pub mix : ℤ → ℤ → (ℕ → ℤ) → ℕ → ℤ
@@ -85,6 +85,32 @@ module _ (p0 r0 p1 r1 : ℤ) where
       ∙ part-constant w e0 e1 (w *ℤ B) n k (le-of-suc-le-suc l)
       ∙ ring (pow w n ∷ w ∷ B ∷ []) (search sides depth 20) refl
 
+  -- where the ends are 1 / w apart, the differences of neighbours are the stretch of the differences
+  pub part-difference : p1 ≡ p0 +ℤ pos 1 → r0 ≡ r1 +ℤ pos 1 → (n : ℕ) (f : ℕ → ℤ) (k : ℕ) → k ≤ n
+      → part (suc n) f (suc k) -ℤ part (suc n) f k ≡ part n (λ j. f (suc j) -ℤ f j) k
+  unfolding part
+  part-difference e0 e1 n f k l =
+      ap (λ z. part n (mix p1 r1 f) k -ℤ z) (part-near n f k l)
+      ∙ back (part n (mix p1 r1 f) k) (part n (mix p0 r0 f) k)
+      ∙ sym (part-mix (pos 1) (negsuc 0) n (mix p1 r1 f) (mix p0 r0 f) k)
+      ∙ ap (λ g. part n g k) (fun-ext (λ j. turn (f j) (f (suc j))))
+    where
+      back : (x y : ℤ) → x -ℤ y ≡ pos 1 *ℤ x +ℤ negsuc 0 *ℤ y
+      back x y = ring (x ∷ y ∷ []) (search sides depth 20) refl
+
+      turn : (x y : ℤ) → pos 1 *ℤ (r1 *ℤ x +ℤ p1 *ℤ y) +ℤ negsuc 0 *ℤ (r0 *ℤ x +ℤ p0 *ℤ y) ≡ y -ℤ x
+      turn x y = ap₂ (λ p r. pos 1 *ℤ (r1 *ℤ x +ℤ p *ℤ y) +ℤ negsuc 0 *ℤ (r *ℤ x +ℤ p0 *ℤ y)) e0 e1
+          ∙ ring (p0 ∷ r1 ∷ x ∷ y ∷ []) (search sides depth 20) refl
+
+-- at most w^n times the largest coefficient in size
+pub part-size : (p0 r0 p1 r1 w : ℕ) → p0 + r0 ≡ w → p1 + r1 ≡ w → (B n : ℕ) (f : ℕ → ℤ) → ((k : ℕ) → k ≤ n → natAbs (f k) ≤ B)
+    → (k : ℕ) → k ≤ n → natAbs (part (pos p0) (pos r0) (pos p1) (pos r1) n f k) ≤ w ^ n * B
+unfolding part
+part-size p0 r0 p1 r1 w e0 e1 B zero f h k l = rw (pow-zero, one-mul) (h zero zero-le)
+part-size p0 r0 p1 r1 w e0 e1 B (suc n) f h zero l = rw (← e0) (casteljau-size p0 r0 B (suc n) f h)
+part-size p0 r0 p1 r1 w e0 e1 B (suc n) f h (suc k) l = rw (pow-suc, mul-assoc) (part-size p0 r0 p1 r1 w e0 e1 (w * B) n (mix (pos p1) (pos r1) f)
+    (λ j m. rw (← e1) (mix-size p1 r1 (f j) (f (suc j)) (h j (one-on m)) (h (suc j) (suc-le-suc m)))) k (le-of-suc-le-suc l))
+
 -- ---- over lists, which compute
 -- neighbours mixed; past the end they are 0
 abbrev pub mixed : ℤ → ℤ → List ℤ → List ℤ
@@ -125,9 +151,24 @@ module _ (p0 r0 p1 r1 : ℤ) where
   stretch-is (suc n) cs zero h = mixing-is p0 r0 (suc n) cs
   stretch-is (suc n) cs (suc k) h = stretch-is n (mixed p1 r1 cs) k (le-of-suc-le-suc h) ∙ ap (λ g. part p0 r0 p1 r1 n g k) (mixed-is p1 r1 cs)
 
-  pub stretch-value : (a b : ℤ) (n : ℕ) (cs : List ℤ) → value b a n (stretch p0 r0 p1 r1 n cs) ≡ value (a *ℤ p0 +ℤ b *ℤ p1) (a *ℤ r0 +ℤ b *ℤ r1) n cs
-  stretch-value a b n cs =
-      value-is b a n (stretch p0 r0 p1 r1 n cs)
-      ∙ casteljau-ext b a n (entry (stretch p0 r0 p1 r1 n cs)) (part p0 r0 p1 r1 n (entry cs)) (stretch-is n cs)
+  -- the value of any list that has the coefficients of a stretch
+  pub part-list-value : (a b : ℤ) (n : ℕ) (cs hs : List ℤ) → ((k : ℕ) → k ≤ n → entry hs k ≡ part p0 r0 p1 r1 n (entry cs) k)
+      → value b a n hs ≡ value (a *ℤ p0 +ℤ b *ℤ p1) (a *ℤ r0 +ℤ b *ℤ r1) n cs
+  part-list-value a b n cs hs h =
+      value-is b a n hs
+      ∙ casteljau-ext b a n (entry hs) (part p0 r0 p1 r1 n (entry cs)) h
       ∙ part-value p0 r0 p1 r1 a b n (entry cs)
       ∙ sym (value-is (a *ℤ p0 +ℤ b *ℤ p1) (a *ℤ r0 +ℤ b *ℤ r1) n cs)
+
+  pub stretch-value : (a b : ℤ) (n : ℕ) (cs : List ℤ) → value b a n (stretch p0 r0 p1 r1 n cs) ≡ value (a *ℤ p0 +ℤ b *ℤ p1) (a *ℤ r0 +ℤ b *ℤ r1) n cs
+  stretch-value a b n cs = part-list-value a b n cs (stretch p0 r0 p1 r1 n cs) (stretch-is n cs)
+
+-- ---- the halves, times 2^n, by a bit b: 0 for the left one and 1 for the right one
+abbrev pub half-part : ℕ → ℕ → (ℕ → ℤ) → ℕ → ℤ
+half-part b n f k = part (pos b) (pos (suc (1 - b))) (pos (suc b)) (pos (1 - b)) n f k
+
+pub half-part-value : (b : ℕ) (p r : ℤ) (n : ℕ) (cs hs : List ℤ) → ((k : ℕ) → k ≤ n → entry hs k ≡ half-part b n (entry cs) k)
+    → value p r n hs ≡ value (pos b *ℤ (p +ℤ r) +ℤ p) (pos (1 - b) *ℤ (p +ℤ r) +ℤ r) n cs
+half-part-value b p r n cs hs h =
+    part-list-value (pos b) (pos (suc (1 - b))) (pos (suc b)) (pos (1 - b)) r p n cs hs h
+    ∙ ap₂ (λ x y. value x y n cs) (ring (pos b ∷ p ∷ r ∷ []) (search sides depth 20) refl) (ring (pos (1 - b) ∷ p ∷ r ∷ []) (search sides depth 20) refl)

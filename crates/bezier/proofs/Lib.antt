@@ -1,3 +1,7 @@
 -- Laws of curves and their halves. Each file opens with what it holds.
 pub mod Nodes
 pub mod Halving
+pub mod Values
+pub mod Coordinates
+pub mod Parameters
+pub mod Quarter

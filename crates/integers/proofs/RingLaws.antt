@@ -1,7 +1,8 @@
 -- The ring laws of ℤ that `lib.IntN` leaves out. Assumes nothing.
 use mathlib.Core.Path.{_≡_, refl, sym, _∙_, ap, ap₂, _≡⟨_⟩_, _∎}
-use Prim.Native.Nat.{ℕ, zero, suc}
-use lib.IntN.{ℤ, pos, negsuc, sucℤ, predℤ, negℤ, _+ℤ_, _-ℤ_, _*ℤ_, one, sucℤ-+ℤ, predℤ-+ℤ, +ℤ-idl, +ℤ-idr, +ℤ-assoc, +ℤ-comm, +ℤ-invr, +ℤ-invl, negℤ-+ℤ, negℤ-negℤ, negℤ-sucℤ, negℤ-predℤ, *ℤ-comm, *ℤ-one, zero-*ℤ, *ℤ-zero, sucℤ-*ℤ, predℤ-*ℤ}
+use Prim.Native.Nat.{ℕ, zero, suc, _^_}
+use native.Mathlib.Nat.{pow-zero, pow-suc}
+use lib.IntN.{ℤ, pos, negsuc, sucℤ, predℤ, negℤ, _+ℤ_, _-ℤ_, _*ℤ_, pow, one, sucℤ-+ℤ, predℤ-+ℤ, +ℤ-idl, +ℤ-idr, +ℤ-assoc, +ℤ-comm, +ℤ-invr, +ℤ-invl, negℤ-+ℤ, negℤ-negℤ, negℤ-sucℤ, negℤ-predℤ, *ℤ-comm, *ℤ-one, zero-*ℤ, *ℤ-zero, sucℤ-*ℤ, predℤ-*ℤ}
 
 -- induction by successor and predecessor
 pub induct {ℓ} : (P : ℤ → Type ℓ) → P (pos zero) → ((k : ℤ) → P k → P (sucℤ k)) → ((k : ℤ) → P k → P (predℤ k)) → (k : ℤ) → P k
@@ -58,3 +59,9 @@ pub *ℤ-assoc : (a b c : ℤ) → (a *ℤ b) *ℤ c ≡ a *ℤ (b *ℤ c)
 
 pub *ℤ-left-comm : (a b c : ℤ) → a *ℤ (b *ℤ c) ≡ b *ℤ (a *ℤ c)
 *ℤ-left-comm a b c = sym (*ℤ-assoc a b c) ∙ ap (λ x. x *ℤ c) (*ℤ-comm a b) ∙ *ℤ-assoc b a c
+
+-- a natural's power is a natural
+pub pow-natural : (n d : ℕ) → pow (pos n) d ≡ pos (n ^ d)
+unfolding pow one
+pow-natural n zero = rw pow-zero
+pow-natural n (suc d) = rw pow-suc (ap (λ z. z *ℤ pos n) (pow-natural n d))

@@ -3,15 +3,15 @@
 -- with `Size p` and so on among the hypotheses. `size-of` makes one of `mag p < 2 ^ 30`, `size-within` of −B ≤ p ≤ B.
 use mathlib.Core.Path.{_≡_, refl}
 use mathlib.Core.Bool.{true}
-use Prim.Native.Nat.{ℕ, zero, suc, _+_, _*_, _-_, _^_, _≤_, _<_, suc-le-suc}
-use native.Mathlib.Nat.{le-refl, le-trans, le-of-eq, add-le-add, mul-le-mul, lt-of-le-of-lt, le-suc}
+use Prim.Native.Nat.{ℕ, zero, suc, _+_, _*_, _-_, _^_, _≤_, _<_, zero-le, suc-le-suc}
+use native.Mathlib.Nat.{le-refl, le-trans, le-of-eq, add-le-add, mul-le-mul, lt-of-le-of-lt, le-suc, le-of-suc-le-suc, not-suc-le-zero}
 use native.Mathlib.Omega.{arith}
-use lib.Dec.{T, leb, ltb, ltb→lt, leb→le}
+use lib.Dec.{T, leb, ltb, ltb→lt, leb→le, le→leb}
 use lib.IntN.{ℤ, pos, negsuc, negℤ, natAbs, subℕ, _+ℤ_, _-ℤ_, _*ℤ_}
-use lib.Signed.{mag, natAbs-le, _≤ℤ_}
+use lib.Signed.{mag, natAbs-le, _≤ℤ_, leZ-yes}
 use mir.Syntax.{Width}
 use mir.Val.{SFits, hbits}
-use Rattle.integers.proofs.Order.{cond-cases, le-pos}
+use Rattle.integers.proofs.Order.{cond-cases, le-pos, pos-le}
 
 pub record Size (z : ℤ) : Type 0 where
   pub bound : ℕ
@@ -76,6 +76,16 @@ pub abs-within : (B : ℕ) (z : ℤ) → negℤ (pos B) ≤ℤ z → z ≤ℤ po
 abs-within B (pos n) l h = le-pos h
 abs-within zero (negsuc n) l h = absurd (l .le)
 abs-within (suc B) (negsuc n) l h = suc-le-suc (leb→le n B (l .le))
+
+pub abs-high : {B : ℕ} (z : ℤ) → natAbs z ≤ B → z ≤ℤ pos B
+abs-high (pos n) h = pos-le h
+abs-high (negsuc n) h = leZ-yes tt
+
+pub abs-low : {B : ℕ} (z : ℤ) → natAbs z ≤ B → negℤ (pos B) ≤ℤ z
+abs-low {B = zero} (pos n) h = pos-le zero-le
+abs-low {B = suc B} (pos n) h = leZ-yes tt
+abs-low {B = zero} (negsuc n) h = absurd (not-suc-le-zero h)
+abs-low {B = suc B} (negsuc n) h = leZ-yes (le→leb n B (le-of-suc-le-suc h))
 
 abbrev pub size-within : (B : ℕ) (z : ℤ) → negℤ (pos B) ≤ℤ z → z ≤ℤ pos B → Size z
 size-within B z l h = record { bound = B; under = abs-within B z l h }
