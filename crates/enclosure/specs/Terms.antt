@@ -6,6 +6,7 @@ use Prim.Native.Nat.{ℕ, _≤_, _<_, _^_}
 use lib.IntN.{ℤ, pos, natAbs, negℤ, _*ℤ_}
 use lib.Signed.{ltZ}
 use Rattle.integers.specs.Entry.{entry}
+use Rattle.bezier.specs.Halves.{listed}
 use Rattle.bezier.specs.Bounds.{Each}
 use Rattle.enclosure.specs.Rows.{Row, thirds}
 
@@ -39,3 +40,7 @@ lows = joined (λ ρ. ρ .low) (thirds 2 ++ thirds 3)
 -- row × difference for a high, with the row's place in the list
 unfoldable pub term : ℕ → ℤ → ℤ
 term place δ = cond (ltZ δ (pos 0)) (entry lows place) (entry highs place) *ℤ δ
+
+-- four control values, each negated
+abbrev pub opposite : List ℤ → List ℤ
+opposite cs = listed 4 (λ k. negℤ (entry cs k))

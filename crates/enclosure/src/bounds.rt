@@ -7,7 +7,7 @@ ghost use Rattle.bezier.specs.Differences.{difference};
 ghost use Rattle.enclosure.specs.Rows.{thirds};
 ghost use Rattle.enclosure.specs.Bounds.{rowSum, chord};
 ghost use Rattle.enclosure.specs.Boxes.{lowOf, highOf, over};
-ghost use Rattle.enclosure.specs.Terms.{Readable, Small, Holds, term};
+ghost use Rattle.enclosure.specs.Terms.{Readable, Small, Holds, term, opposite};
 
 // The high rows and the low rows: degree 2, then the first and the second of degree 3, four break points each.
 const HIGH: [i64; 12] = [0, -2222, -2222, 0, 0, -3703, -2962, 0, 0, -2962, -3703, 0];
@@ -71,10 +71,18 @@ pub fn high(c: [i64; 4], degree: u32, depth: u32, i: usize) -> i64
     integers::ceiling_div(n, denominator(degree, depth))
 }
 
+// The control values negated.
+fn negated(c: [i64; 4]) -> [i64; 4]
+    requires { ⌜ Each (2 ^ 44) c ⌝ }
+    ensures { λ r. ⌜ r ≡ opposite c ⌝ }
+{
+    [-c[0], -c[1], -c[2], -c[3]]
+}
+
 // The low at break point i: minus the high of the negated control values.
 pub fn low(c: [i64; 4], degree: u32, depth: u32, i: usize) -> i64
     requires { ⌜ (Readable c degree i) × (depth ≤ 8) ⌝ }
     ensures { λ r. ⌜ Holds (2 ^ 51) (lowOf degree depth c i) r ⌝ }
 {
-    -high([-c[0], -c[1], -c[2], -c[3]], degree, depth, i)
+    -high(negated(c), degree, depth, i)
 }
