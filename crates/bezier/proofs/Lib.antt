@@ -1,2 +1,5 @@
 -- Laws of curves and their halves. Each file opens with what it holds.
 pub mod Nodes
+pub mod Numbers
+pub mod Sizes
+mod Halving
