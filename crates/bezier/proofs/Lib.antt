@@ -1,5 +1,7 @@
 -- Laws of curves and their halves. Each file opens with what it holds.
 pub mod Nodes
+pub mod Numbers
+pub mod Sizes
 pub mod Halving
 pub mod Values
 pub mod Coordinates

@@ -1,0 +1,135 @@
+// A curve's halves by the de Casteljau step at 1/2, exactly: no midpoint is divided, so a half of degree d has 2^d times the exact control values.
+
+ghost use mathlib.Core.Path.{_≡_};
+ghost use Prim.Native.Nat.{_^_, _≤_};
+ghost use Rattle.bezier.specs.Halves.{left, right, four, leftHalf, rightHalf};
+ghost use Rattle.bezier.specs.Bounds.{Each, Halvable};
+use crate::Curve;
+
+impl Curve {
+    // The half from t = 0 to 1/2.
+    pub fn left(self) -> Curve
+        requires { ⌜ Halvable self ⌝ }
+        ensures { λ r. ⌜ r ≡ leftHalf self ⌝ }
+    {
+        let degree = self.degree;
+        let cx = self.x;
+        let cy = self.y;
+        let x = left_values(degree, cx);
+        let y = left_values(degree, cy);
+        Curve { degree, x, y }
+    }
+
+    // The half from t = 1/2 to 1.
+    pub fn right(self) -> Curve
+        requires { ⌜ Halvable self ⌝ }
+        ensures { λ r. ⌜ r ≡ rightHalf self ⌝ }
+    {
+        let degree = self.degree;
+        let cx = self.x;
+        let cy = self.y;
+        let x = right_values(degree, cx);
+        let y = right_values(degree, cy);
+        Curve { degree, x, y }
+    }
+}
+
+// One coordinate of the left half.
+fn left_values(degree: u32, c: [i64; 4]) -> [i64; 4]
+    requires { ⌜ (1 ≤ degree) × (degree ≤ 3) × Each (2 ^ 44) c ⌝ }
+    ensures { λ r. ⌜ r ≡ four (left degree c) ⌝ }
+{
+    match degree {
+        1 => left_line(c),
+        2 => left_quadratic(c),
+        _ => left_cubic(c),
+    }
+}
+
+// One coordinate of the right half.
+fn right_values(degree: u32, c: [i64; 4]) -> [i64; 4]
+    requires { ⌜ (1 ≤ degree) × (degree ≤ 3) × Each (2 ^ 44) c ⌝ }
+    ensures { λ r. ⌜ r ≡ four (right degree c) ⌝ }
+{
+    match degree {
+        1 => right_line(c),
+        2 => right_quadratic(c),
+        _ => right_cubic(c),
+    }
+}
+
+// One degree and side each. s and t are rows 1 and 2 of de Casteljau's triangle: sums of neighbours in the row before.
+
+fn left_line(c: [i64; 4]) -> [i64; 4]
+    requires { ⌜ Each (2 ^ 44) c ⌝ }
+    ensures { λ r. ⌜ r ≡ four (left 1 c) ⌝ }
+{
+    let c0 = c[0];
+    let c1 = c[1];
+    [2 * c0, c0 + c1, 0, 0]
+}
+
+fn right_line(c: [i64; 4]) -> [i64; 4]
+    requires { ⌜ Each (2 ^ 44) c ⌝ }
+    ensures { λ r. ⌜ r ≡ four (right 1 c) ⌝ }
+{
+    let c0 = c[0];
+    let c1 = c[1];
+    [c0 + c1, 2 * c1, 0, 0]
+}
+
+fn left_quadratic(c: [i64; 4]) -> [i64; 4]
+    requires { ⌜ Each (2 ^ 44) c ⌝ }
+    ensures { λ r. ⌜ r ≡ four (left 2 c) ⌝ }
+{
+    let c0 = c[0];
+    let c1 = c[1];
+    let c2 = c[2];
+    let s0 = c0 + c1;
+    let s1 = c1 + c2;
+    [4 * c0, 2 * s0, s0 + s1, 0]
+}
+
+fn right_quadratic(c: [i64; 4]) -> [i64; 4]
+    requires { ⌜ Each (2 ^ 44) c ⌝ }
+    ensures { λ r. ⌜ r ≡ four (right 2 c) ⌝ }
+{
+    let c0 = c[0];
+    let c1 = c[1];
+    let c2 = c[2];
+    let s0 = c0 + c1;
+    let s1 = c1 + c2;
+    [s0 + s1, 2 * s1, 4 * c2, 0]
+}
+
+fn left_cubic(c: [i64; 4]) -> [i64; 4]
+    requires { ⌜ Each (2 ^ 44) c ⌝ }
+    ensures { λ r. ⌜ r ≡ four (left 3 c) ⌝ }
+{
+    let c0 = c[0];
+    let c1 = c[1];
+    let c2 = c[2];
+    let c3 = c[3];
+    let s0 = c0 + c1;
+    let s1 = c1 + c2;
+    let s2 = c2 + c3;
+    let t0 = s0 + s1;
+    let t1 = s1 + s2;
+    [8 * c0, 4 * s0, 2 * t0, t0 + t1]
+}
+
+fn right_cubic(c: [i64; 4]) -> [i64; 4]
+    requires { ⌜ Each (2 ^ 44) c ⌝ }
+    ensures { λ r. ⌜ r ≡ four (right 3 c) ⌝ }
+{
+    let c0 = c[0];
+    let c1 = c[1];
+    let c2 = c[2];
+    let c3 = c[3];
+    let s0 = c0 + c1;
+    let s1 = c1 + c2;
+    let s2 = c2 + c3;
+    let t0 = s0 + s1;
+    let t1 = s1 + s2;
+    [t0 + t1, 2 * t1, 4 * s2, 8 * c3]
+}
