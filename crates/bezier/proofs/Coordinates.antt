@@ -7,6 +7,7 @@ use Rattle.bezier.specs.declared.Curve.{Curve}
 use Rattle.bezier.specs.Halves.{four}
 use Rattle.bezier.specs.Nodes.{descend, halfOf, nodeCurve}
 use Rattle.bezier.proofs.Nodes.{descend-one, descend-half, node-induction}
+use Rattle.bezier.proofs.Numbers.{node-one, node-half}
 use Rattle.bezier.proofs.Values.{half, curve-half}
 
 module _ (d : ℕ) (cs : List ℤ) where
@@ -21,14 +22,6 @@ module _ (d : ℕ) (cs : List ℤ) where
   pub values-half : (n b : ℕ) → 0 < n → b < 2 → nodeValues (2 * n + b) ≡ four (half b d (nodeValues n))
   unfolding nodeValues
   values-half = descend-half cs (λ b hs. four (half b d hs))
-
-pub node-one : (c : Curve) → nodeCurve c 1 ≡ c
-unfolding nodeCurve
-node-one c = descend-one c halfOf
-
-pub node-half : (c : Curve) (n b : ℕ) → 0 < n → b < 2 → nodeCurve c (2 * n + b) ≡ halfOf b (nodeCurve c n)
-unfolding nodeCurve
-node-half c = descend-half c halfOf
 
 pub node-curve : (c : Curve) (n : ℕ) → 0 < n
     → nodeCurve c n ≡ record { degree = c .degree; x = nodeValues (c .degree) (c .x) n; y = nodeValues (c .degree) (c .y) n }

@@ -61,13 +61,13 @@ start-below n hn = omega (arith, pow-suc 2 (depth n), depth-low n hn, depth-high
 
 -- ---- the curve of a node
 module _ (root : Curve) where
-  pub curve-one : nodeCurve root 1 ≡ root
+  pub node-one : nodeCurve root 1 ≡ root
   unfolding nodeCurve
-  curve-one = descend-one root halfOf
+  node-one = descend-one root halfOf
 
-  pub curve-half : (n b : ℕ) → 0 < n → b < 2 → nodeCurve root (2 * n + b) ≡ halfOf b (nodeCurve root n)
+  pub node-half : (n b : ℕ) → 0 < n → b < 2 → nodeCurve root (2 * n + b) ≡ halfOf b (nodeCurve root n)
   unfolding nodeCurve
-  curve-half n b hn hb = descend-half root halfOf n b hn hb
+  node-half n b hn hb = descend-half root halfOf n b hn hb
 
 -- ---- the node after a leaf: by the lowest bit
 even-or-odd : (n : ℕ) → (n % 2 ≡ 0) ⊎ (n % 2 ≡ 1)

@@ -13,41 +13,17 @@ use Rattle.bernstein.specs.Value.{value}
 use Rattle.bernstein.proofs.Nonnegative.{value-times}
 use Rattle.bezier.specs.declared.Curve.{Curve}
 use Rattle.bezier.specs.Nodes.{depth, start, nodeCurve}
-use Rattle.bezier.proofs.Nodes.{descend-one, descend-half, node-induction}
+use Rattle.bezier.proofs.Nodes.{node-induction}
+use Rattle.bezier.proofs.Numbers.{depth-one, depth-half, start-half, start-below}
 use Rattle.bezier.proofs.Values.{half-four-value}
 use Rattle.bezier.proofs.Coordinates.{nodeValues, values-one, values-half, node-curve}
-
--- ---- depth and start of a node from those of the node that it is a half of
-pub depth-one : depth 1 ≡ 0
-unfolding depth
-depth-one = descend-one 0 (λ b k. suc k)
-
-pub depth-half : (n b : ℕ) → 0 < n → b < 2 → depth (2 * n + b) ≡ suc (depth n)
-unfolding depth
-depth-half = descend-half 0 (λ b k. suc k)
-
-width-half : (n b : ℕ) → 0 < n → b < 2 → 2 ^ depth (2 * n + b) ≡ 2 * 2 ^ depth n
-width-half n b hn hb = ap (λ k. 2 ^ k) (depth-half n b hn hb) ∙ pow-succ' 2 (depth n)
-
--- the highest bit of n is 2^depth
-record Highest (n : ℕ) : Type 0 where
-  low : 2 ^ depth n ≤ n
-  high : n < 2 * 2 ^ depth n
-
-highest : (n : ℕ) → 0 < n → Highest n
-highest = node-induction Highest
-    (record { low = rw depth-one (omega arith); high = rw depth-one (omega arith) })
-    (λ n b hn hb h. record { low = rw (width-half n b hn hb) (omega arith); high = rw (width-half n b hn hb) (omega arith) })
-
-pub start-half : (n b : ℕ) → 0 < n → b < 2 → start (2 * n + b) ≡ 2 * start n + b
-start-half n b hn hb = let h = highest n hn in rw (width-half n b hn hb) (omega arith)
-
-pub start-below : (n : ℕ) → 0 < n → start n < 2 ^ depth n
-start-below n hn = let h = highest n hn in omega arith
 
 -- ---- of the 2^depth nodes of one depth, `start n` come before node n, and these after it
 abbrev pub remaining : ℕ → ℕ
 remaining n = 2 ^ depth n - start n - 1
+
+width-half : (n b : ℕ) → 0 < n → b < 2 → 2 ^ depth (2 * n + b) ≡ 2 * 2 ^ depth n
+width-half n b hn hb = ap (λ k. 2 ^ k) (depth-half n b hn hb) ∙ pow-succ' 2 (depth n)
 
 pub remaining-half : (n b : ℕ) → 0 < n → b < 2 → remaining (2 * n + b) ≡ 2 * remaining n + (1 - b)
 remaining-half n b hn hb =

@@ -18,8 +18,8 @@ use Rattle.bezier.specs.Nodes.{depth, halfOf, nodeCurve}
 use Rattle.bezier.specs.Differences.{difference, largestOf, bend, largest}
 use Rattle.bezier.proofs.Nodes.{node-induction}
 use Rattle.bezier.proofs.Values.{listed-entry, half, half-entry, curve-half}
-use Rattle.bezier.proofs.Coordinates.{node-one, node-half, node-degree}
-use Rattle.bezier.proofs.Parameters.{depth-one, depth-half}
+use Rattle.bezier.proofs.Coordinates.{node-degree}
+use Rattle.bezier.proofs.Numbers.{depth-one, depth-half, node-one, node-half}
 
 -- ---- the largest of some numbers
 largest-at : (n : ℕ) (f : ℕ → ℕ) (k : ℕ) → k < n → f k ≤ largestOf n f

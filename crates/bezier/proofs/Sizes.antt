@@ -1,19 +1,20 @@
 -- How large control values get: a halving makes them at most 2^d times as large, so at depth 8 they are within 2^44 where the root's are within 2^20.
-use mathlib.Core.Path.{_≡_, refl, sym, _∙_, ap}
+use mathlib.Core.Path.{_≡_, _∙_, ap}
 use mathlib.Core.List.{List}
 use Prim.Native.Nat.{ℕ, zero, suc, _+_, _-_, _*_, _^_, _≤_, _<_, zero-le}
-use native.Mathlib.Nat.{le-refl, le-trans, le-of-eq, add-le-add, mul-le-mul, two-pow-succ, pow-suc, add-mul, mul-assoc, mul-comm, mul-left-comm, mul-suc}
+use native.Mathlib.Nat.{le-refl, le-trans, le-of-eq, add-le-add, mul-le-mul, two-pow-succ, add-mul, mul-assoc, mul-comm, mul-left-comm, mul-suc}
 use native.Mathlib.Omega.{arith}
 use lib.Pow.{pow-add, pow-mono}
-use lib.IntN.{ℤ, pos, natAbs, _*ℤ_, pow, one}
+use lib.IntN.{ℤ, pos, natAbs, _*ℤ_, pow}
 use Rattle.integers.specs.Entry.{entry}
+use Rattle.integers.proofs.RingLaws.{pow-natural}
 use Rattle.integers.proofs.Size.{abs-add, abs-mul}
 use Rattle.bezier.specs.declared.Curve.{Curve}
 use Rattle.bezier.specs.Halves.{listed, triangle, left, right, four, leftHalf, rightHalf}
 use Rattle.bezier.specs.Nodes.{depth, halfOf, nodeCurve}
 use Rattle.bezier.specs.Bounds.{Each, Sized, Halvable}
 use Rattle.bezier.proofs.Nodes.{node-induction}
-use Rattle.bezier.proofs.Numbers.{depth-one, depth-half, depth-under, curve-one, curve-half}
+use Rattle.bezier.proofs.Numbers.{depth-one, depth-half, depth-under, node-one, node-half}
 
 -- ---- lists
 pub each-wider : {B C : ℕ} {cs : List ℤ} → B ≤ C → Each B cs → Each C cs
@@ -28,11 +29,6 @@ pub each-four : {B : ℕ} {cs : List ℤ} → Each B cs → Each B (four cs)
 each-four {B} {cs} h = record { under = listed-under B 4 (entry cs) (λ k l. h .under k) }
 
 -- ---- halves
-abs-power : (n : ℕ) → natAbs (pow (pos 2) n) ≡ 2 ^ n
-unfolding pow one
-abs-power zero = refl
-abs-power (suc n) = abs-mul (pow (pos 2) n) (pos 2) ∙ ap (λ (m : ℕ). m * 2) (abs-power n) ∙ sym (pow-suc 2 n)
-
 module _ {B : ℕ} {cs : List ℤ} (h : Each B cs) where
   triangle-under : (j i : ℕ) → natAbs (triangle cs j i) ≤ 2 ^ j * B
   unfolding triangle
@@ -43,7 +39,7 @@ module _ {B : ℕ} {cs : List ℤ} (h : Each B cs) where
   -- an entry of either half
   half-under : (d m j i : ℕ) → m + j ≡ d → natAbs (pow (pos 2) m *ℤ triangle cs j i) ≤ 2 ^ d * B
   half-under d m j i e = rw (← e, pow-add, mul-assoc)
-      (le-trans (le-of-eq (abs-mul (pow (pos 2) m) (triangle cs j i))) (mul-le-mul (le-of-eq (abs-power m)) (triangle-under j i)))
+      (le-trans (le-of-eq (abs-mul (pow (pos 2) m) (triangle cs j i))) (mul-le-mul (le-of-eq (ap natAbs (pow-natural 2 m))) (triangle-under j i)))
 
   pub each-left : (d : ℕ) → Each (2 ^ d * B) (left d cs)
   unfolding left
@@ -87,8 +83,8 @@ sized-halvable {k} {c} l h = record { least = h .least; most = h .most; x = each
 
 module _ {root : Curve} (h : Sized 0 root) where
   pub node-sized : (n : ℕ) → 0 < n → Sized (depth n) (nodeCurve root n)
-  node-sized = node-induction (λ n. Sized (depth n) (nodeCurve root n)) (rw (depth-one, curve-one root) h)
-      (λ n b hn hb s. rw (depth-half n b hn hb, curve-half root n b hn hb) (half-sized b s))
+  node-sized = node-induction (λ n. Sized (depth n) (nodeCurve root n)) (rw (depth-one, node-one root) h)
+      (λ n b hn hb s. rw (depth-half n b hn hb, node-half root n b hn hb) (half-sized b s))
 
   pub node-halvable : (n : ℕ) → 0 < n → n < 512 → Halvable (nodeCurve root n)
   node-halvable n hn l = sized-halvable (depth-under n 8 hn l) (node-sized n hn)

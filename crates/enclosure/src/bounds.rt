@@ -11,14 +11,32 @@ ghost use Rattle.enclosure.specs.Terms.{Readable, Small, Holds, term, op
 
 // The high rows and the low rows: degree 2, then the first and the second of degree 3, four break points each.
 const HIGH: [i64; 12] = [0, -2222, -2222, 0, 0, -3703, -2962, 0, 0, -2962, -3703, 0];
-const LOW: [i64; 12] = [-278, -2500, -2500, -278, -696, -4400, -3155, -88, -88, -3155, -4400, -696];
+
+const LOW: [i64; 12] = [
+    -278,
+    -2500,
+    -2500,
+    -278,
+    -696,
+    -4400,
+    -3155,
+    -88,
+    -88,
+    -3155,
+    -4400,
+    -696,
+];
 
 // Row times difference for a high: the difference chooses its row by its own sign.
 fn row_term(place: usize, difference: i64) -> i64
     requires { ⌜ (place < 12) × (Small (2 ^ 46) difference) ⌝ }
     ensures { λ r. ⌜ Holds (4400 * 2 ^ 46) (term place difference) r ⌝ }
 {
-    if difference < 0 { LOW[place] * difference } else { HIGH[place] * difference }
+    if difference < 0 {
+        LOW[place] * difference
+    } else {
+        HIGH[place] * difference
+    }
 }
 
 // The second difference of the control values from place k on.

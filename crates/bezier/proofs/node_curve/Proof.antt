@@ -8,7 +8,7 @@ use borrow.Author.Needs.{needs}
 use Rattle.bezier.specs.declared.Curve.{Curve}
 use Rattle.bezier.specs.Nodes.{halfOf, nodeCurve}
 use Rattle.bezier.specs.Bounds.{Sized, Halvable}
-use Rattle.bezier.proofs.Numbers.{depth-bit, next-bit, depth-under, curve-one, curve-half}
+use Rattle.bezier.proofs.Numbers.{depth-bit, next-bit, depth-under, node-one, node-half}
 use Rattle.bezier.proofs.Sizes.{node-halvable}
 use Rattle.bezier.proofs.node_curve.Statement.{statement}
 use Rattle.bezier.proofs.node_curve.Tie as tie
@@ -29,7 +29,7 @@ module _ {root : Curve} {node : ℕ} {curve : Curve} {i : ℕ} (r : Reached root
       let e : 2 * (node / 2 ^ i) + b ≡ node / 2 ^ (i - 1) = omega (arith, next-bit node i h) in record {
         few = omega arith;
         some = omega arith;
-        is = ap (halfOf b) (r .is) ∙ sym (curve-half root (node / 2 ^ i) b (r .some) l) ∙ ap (nodeCurve root) e;
+        is = ap (halfOf b) (r .is) ∙ sym (node-half root (node / 2 ^ i) b (r .some) l) ∙ ap (nodeCurve root) e;
       }
 
 abbrev Inv-loop : tie.InvT-loop
@@ -49,7 +49,7 @@ loop-holds c =
     rw (c .depth .ensures) (record {
       few = depth-under node 8 (c .before .pre .0) (c .before .pre .1);
       some = omega arith;
-      is = sym (curve-one root) ∙ ap (nodeCurve root) (sym top);
+      is = sym (node-one root) ∙ ap (nodeCurve root) (sym top);
     })
 
 sub-i : tie.Need-sub-i Inv-loop μ-loop
