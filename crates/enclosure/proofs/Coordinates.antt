@@ -4,14 +4,14 @@
 use mathlib.Core.Path.{_≡_, refl, sym, _∙_, ap, ap₂, subst}
 use mathlib.Core.Bool.{Bool, true, false, _&&_, cond}
 use mathlib.Core.List.{List, [], _∷_}
-use Prim.Native.Nat.{ℕ, zero, suc, _+_, _*_, _%_, _^_, _≤_, _<_}
+use Prim.Native.Nat.{ℕ, zero, suc, _+_, _*_, _%_, _^_, _≤_, _<_, zero-le}
 use native.Mathlib.Nat.{le-trans, lt-of-le-of-lt, mul-le-mul, one-mul, mod-eq-of-lt}
 use native.Mathlib.Omega.{arith}
 use native.Mathlib.Numerals.{add-one, add-two}
 use lib.Dec.{T, leb, ltb, leb→le, lit<}
 use lib.Pow.{pow-mono, pow-pos}
 use lib.ListN.{length}
-use lib.IntN.{ℤ, pos, natAbs, _+ℤ_, _-ℤ_, _*ℤ_, +ℤ-idr}
+use lib.IntN.{ℤ, pos, natAbs, negℤ, _+ℤ_, _-ℤ_, _*ℤ_, +ℤ-idr}
 use lib.Signed.{ltZ, _<ℤ_, ltZ-yes}
 use mir.Syntax.{w64}
 use mir.Val.{toZ}
@@ -21,17 +21,21 @@ use Rattle.integers.specs.Rounding.{ceiling}
 use Rattle.integers.proofs.Table.{every, at, and-left, and-right}
 use Rattle.integers.proofs.Ring.{sides}
 use Rattle.integers.proofs.Ranges.{stored}
-use Rattle.integers.proofs.Size.{fits-size, abs-high, abs-low}
+use Rattle.integers.proofs.Size.{fits-size, abs-neg, abs-high, abs-low}
 use Rattle.integers.proofs.Rounding.{ceiling-size}
 use Rattle.integers.proofs.Order.{natural, gap, gap<, le-by, pos-lt, _+₀_, _×₀_}
 use Rattle.integers.proofs.Machine.{Held, Count, tests}
 use Rattle.bezier.specs.Differences.{difference}
+use Rattle.bezier.specs.Halves.{listed, four}
+use Rattle.bezier.proofs.Values.{listed-ext}
 use Rattle.bezier.proofs.Halving.{held-entry}
-use Rattle.enclosure.specs.Rows.{thirds}
-use Rattle.enclosure.specs.Bounds.{rowSum}
-use Rattle.enclosure.specs.Boxes.{over}
-use Rattle.enclosure.specs.Terms.{Readable, Small, Holds, highs, lows, term}
+use Rattle.enclosure.specs.Rows.{pieces, thirds}
+use Rattle.enclosure.specs.Bounds.{rowSum, high}
+use Rattle.enclosure.specs.Boxes.{over, highOf, lowOf}
+use Rattle.enclosure.specs.Terms.{Readable, Small, Holds, highs, lows, term, opposite}
 use Rattle.enclosure.proofs.Orders.{times-positive}
+use Rattle.enclosure.proofs.Lists.{negated, entry-negated}
+use Rattle.enclosure.proofs.Negation.{low-is}
 
 pub holds! : {B : ℕ} {z r : ℤ} (s : Held r) → T (s .test && leb (s .bound) B) → s .value ≡ z → Holds B z r
 holds! {B} {z} {r} s t e =
@@ -148,3 +152,28 @@ over-positive d k = pos-lt (pow-pos (d * k))
 
 pub denominator-positive : (d k : ℕ) → pos 0 <ℤ (pos 1875 *ℤ over d k)
 denominator-positive d k = times-positive {x = pos 1875} (ltZ-yes tt) (over-positive d k)
+
+-- ---- the control values negated
+pub readable-opposite : {cs : List ℤ} {d i : ℕ} → Readable cs d i → Readable (opposite cs) d i
+readable-opposite {cs} h = record { least = h .least; most = h .most; point = h .point; values = record { under = under } }
+  where
+    under : (k : ℕ) → natAbs (entry (opposite cs) k) ≤ 2 ^ 44
+    under zero = rw abs-neg (h .values .under 0)
+    under (suc zero) = rw abs-neg (h .values .under 1)
+    under (suc (suc zero)) = rw abs-neg (h .values .under 2)
+    under (suc (suc (suc zero))) = rw abs-neg (h .values .under 3)
+    under (suc (suc (suc (suc k)))) = zero-le
+
+-- a high looks at no control value past the fourth
+high-four : (d k : ℕ) (cs : List ℤ) (i : ℕ) → d ≤ 3 → highOf d k (four cs) i ≡ highOf d k cs i
+unfolding high rowSum
+high-four zero k cs i h = refl
+high-four (suc zero) k cs i h = refl
+high-four (suc (suc zero)) k cs i h = refl
+high-four (suc (suc (suc zero))) k cs i h = refl
+high-four (suc (suc (suc (suc d)))) k cs i h = absurd (omega arith)
+
+pub low-opposite : (d k : ℕ) (cs : List ℤ) (i : ℕ) → d ≤ 3 → negℤ (highOf d k (opposite cs) i) ≡ lowOf d k cs i
+low-opposite d k cs i h =
+    ap negℤ (ap (λ xs. highOf d k xs i) (listed-ext 4 (λ j. negℤ (entry cs j)) (entry (negated cs)) (λ j l. sym (entry-negated cs j))) ∙ high-four d k (negated cs) i h)
+    ∙ sym (low-is pieces (thirds d) (over d k) d cs i)

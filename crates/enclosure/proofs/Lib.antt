@@ -4,3 +4,4 @@ pub mod Lists
 pub mod Negation
 pub mod Orders
 pub mod Reduced
+pub mod Boxes

@@ -1,8 +1,8 @@
 -- The boxes of a node, and the test that it meets the tolerance (document 01, "Enclosure rows").
 use mathlib.Core.Bool.{Bool, true, _&&_}
 use mathlib.Core.List.{List}
-use Prim.Native.Nat.{ℕ, zero, suc, _*_, _^_}
-use lib.IntN.{ℤ, pos, _-ℤ_}
+use Prim.Native.Nat.{ℕ, zero, suc, _*_, _^_, _≤_}
+use lib.IntN.{ℤ, pos, natAbs, _-ℤ_}
 use lib.Signed.{leZ}
 use Rattle.bezier.specs.declared.Curve.{Curve}
 use Rattle.enclosure.specs.declared.Box.{Box}
@@ -28,15 +28,22 @@ boxAt k c i = record {
   «y_high» = highOf (c .degree) k (c .y) i;
 }
 
+-- every number of a box is at most B in size
+pub record Sides (B : ℕ) (b : Box) : Type 0 where
+  pub x-low : natAbs (b .«x_low») ≤ B
+  pub x-high : natAbs (b .«x_high») ≤ B
+  pub y-low : natAbs (b .«y_low») ≤ B
+  pub y-high : natAbs (b .«y_high») ≤ B
+
 -- high − low is at most T in both coordinates
 abbrev pub narrow : ℤ → Box → Bool
 narrow T b = leZ (b .«x_high» -ℤ b .«x_low») T && leZ (b .«y_high» -ℤ b .«y_low») T
 
--- the boxes 0 to n are all narrow
-abbrev pub narrowTo : ℕ → ℤ → (ℕ → Box) → Bool
-narrowTo zero T box = narrow T (box 0)
-narrowTo (suc n) T box = narrowTo n T box && narrow T (box (suc n))
+-- the first n boxes are all narrow
+abbrev pub allNarrow : ℕ → ℤ → (ℕ → Box) → Bool
+allNarrow zero T box = true
+allNarrow (suc n) T box = allNarrow n T box && narrow T (box n)
 
--- the node meets T: at all break points
+-- a node at depth k meets T: at all break points, 0 to the number of pieces
 unfoldable pub meets : ℤ → ℕ → Curve → Bool
-meets T k c = narrowTo pieces T (boxAt k c)
+meets T k c = allNarrow (suc pieces) T (boxAt k c)

@@ -1,8 +1,8 @@
 // Bounds of a curve at the break points of a node: the tabled second-difference enclosure, rounded outwards to whole sixteenths.
 ghost use mathlib.Core.Path.{_≡_};
-ghost use Prim.Native.Nat.{_<_, _≤_};
+ghost use Prim.Native.Nat.{_<_, _≤_, _^_};
 ghost use Rattle.bezier.specs.Bounds.{Sized};
-ghost use Rattle.enclosure.specs.Boxes.{boxAt, narrow, meets};
+ghost use Rattle.enclosure.specs.Boxes.{Sides, boxAt, narrow, meets};
 
 mod bounds;
 
@@ -19,7 +19,7 @@ pub struct Box {
 // The box at break point i, from 0 to 3, of a curve at a depth.
 pub fn box_at(curve: Curve, depth: u32, i: usize) -> Box
     requires { ⌜ (Sized depth curve) × (depth ≤ 8) × (i < 4) ⌝ }
-    ensures { λ b. ⌜ b ≡ boxAt depth curve i ⌝ }
+    ensures { λ b. ⌜ (b ≡ boxAt depth curve i) × (Sides (2 ^ 51) b) ⌝ }
 {
     let degree = curve.degree;
     let x = curve.x;
@@ -34,4 +34,31 @@ pub fn box_at(curve: Curve, depth: u32, i: usize) -> Box
         y_low,
         y_high,
     }
+}
+
+impl Box {
+    // High less low is at most t in both coordinates.
+    pub fn is_narrow(self, t: i64) -> bool
+        requires { ⌜ Sides (2 ^ 51) self ⌝ }
+        ensures { λ r. ⌜ r ≡ narrow t self ⌝ }
+    {
+        let width = self.x_high - self.x_low;
+        let height = self.y_high - self.y_low;
+        width <= t && height <= t
+    }
+}
+
+// The node meets the tolerance: its boxes at all four break points are narrow.
+pub fn meets(curve: Curve, depth: u32, t: i64) -> bool
+    requires { ⌜ (Sized depth curve) × (depth ≤ 8) ⌝ }
+    ensures { λ r. ⌜ r ≡ meets t depth curve ⌝ }
+{
+    let mut i: usize = 0;
+    while i < 4 {
+        if !box_at(curve, depth, i).is_narrow(t) {
+            return false;
+        }
+        i += 1;
+    }
+    true
 }

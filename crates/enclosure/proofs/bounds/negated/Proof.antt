@@ -1,44 +1,38 @@
+-- Four control values, each negated.
+use lib.IntN.{+ℤ-idl}
+use Rattle.integers.proofs.Machine.{fits! }
+use Rattle.bezier.proofs.Halving.{coordinates, are! }
+use Rattle.enclosure.proofs.Coordinates.{bounded}
 use borrow.Author.Needs.{needs}
 use Rattle.enclosure.proofs.bounds.negated.Statement.{statement}
 use Rattle.enclosure.proofs.bounds.negated.Tie as tie
-use Rattle.enclosure.proofs.bounds.negated.Reads as reads
-use Rattle.enclosure.proofs.bounds.negated.Lts as lts
 
--- src/bounds.rt:79:7
 array-copy-out-t5 : tie.Need-array-copy-out-t5
 array-copy-out-t5 c = search needs
 
--- src/bounds.rt:79:6
 sub-t6 : tie.Need-sub-t6
-sub-t6 c = ?
+sub-t6 c = fits! (search (c .before .pre, bounded) depth 40) tt
 
--- src/bounds.rt:79:14
 array-copy-out-t9 : tie.Need-array-copy-out-t9
 array-copy-out-t9 c = search needs
 
--- src/bounds.rt:79:13
 sub-t10 : tie.Need-sub-t10
-sub-t10 c = ?
+sub-t10 c = fits! (search (c .before .before .pre, bounded) depth 40) tt
 
--- src/bounds.rt:79:21
 array-copy-out-t13 : tie.Need-array-copy-out-t13
 array-copy-out-t13 c = search needs
 
--- src/bounds.rt:79:20
 sub-t14 : tie.Need-sub-t14
-sub-t14 c = ?
+sub-t14 c = fits! (search (c .before .before .before .pre, bounded) depth 40) tt
 
--- src/bounds.rt:79:28
 array-copy-out-t17 : tie.Need-array-copy-out-t17
 array-copy-out-t17 c = search needs
 
--- src/bounds.rt:79:27
 sub-t18 : tie.Need-sub-t18
-sub-t18 c = ?
+sub-t18 c = fits! (search (c .before .before .before .before .pre, bounded) depth 40) tt
 
--- src/bounds.rt:75:1
 returns : tie.Need-returns
-returns c = ?
+returns c = simp +ℤ-idl (are! (search (c .before .before .before .before .pre, coordinates) depth 40) tt)
 
 pub negated-spec : {M : Type 1} → statement M
 negated-spec =
