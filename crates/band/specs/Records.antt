@@ -1,0 +1,43 @@
+-- Leaf records (document 01): curve, node, then for each break point a box: x low, x high, y low, y high.
+use mathlib.Core.Bool.{Bool}
+use mathlib.Core.List.{List, [], _∷_, _++_}
+use Prim.Native.Nat.{ℕ, suc}
+use lib.IntN.{ℤ, pos}
+use Rattle.bezier.specs.declared.Curve.{Curve}
+use Rattle.bezier.specs.Nodes.{depth, nodeCurve}
+use Rattle.enclosure.specs.declared.Box.{Box}
+use Rattle.enclosure.specs.Boxes.{boxAt, meets}
+use Rattle.band.specs.Tree.{ends}
+
+-- greatest depth
+abbrev pub deepest : ℕ
+deepest = 8
+
+-- node n of curve c meets T
+abbrev pub nodeMeets : ℤ → Curve → ℕ → Bool
+nodeMeets T c n = meets T (depth n) (nodeCurve c n)
+
+-- where the walk of curve c ends at T
+abbrev pub endsOf : ℤ → Curve → List ℕ
+endsOf T c = ends (nodeMeets T c) deepest 1
+
+abbrev pub boxNumbers : Box → List ℤ
+boxNumbers b = b .«x_low» ∷ b .«x_high» ∷ b .«y_low» ∷ b .«y_high» ∷ []
+
+-- the box at break point i of node n of curve c
+abbrev pub nodeBox : Curve → ℕ → ℕ → Box
+nodeBox c n i = boxAt (depth n) (nodeCurve c n) i
+
+-- the 18 numbers of node n of curve c, the curve's number being k
+unfoldable pub recordOf : ℕ → Curve → ℕ → List ℤ
+recordOf k c n = pos k ∷ pos n ∷ boxNumbers (nodeBox c n 0) ++ (boxNumbers (nodeBox c n 1) ++ (boxNumbers (nodeBox c n 2) ++ boxNumbers (nodeBox c n 3)))
+
+-- the records of some nodes of curve c
+unfoldable pub recordsOf : ℕ → Curve → List ℕ → List ℤ
+recordsOf k c [] = []
+recordsOf k c (n ∷ ns) = recordOf k c n ++ recordsOf k c ns
+
+-- by curve, numbered from k on, then by parameter
+unfoldable pub allRecords : ℤ → ℕ → List Curve → List ℤ
+allRecords T k [] = []
+allRecords T k (c ∷ cs) = recordsOf k c (endsOf T c) ++ allRecords T (suc k) cs

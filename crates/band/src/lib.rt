@@ -1,0 +1,12 @@
+// Banding: the leaves of an outline at a tolerance, as records.
+use refusals::Refusal;
+
+// What banding answers: the report, or the first fault.
+pub enum Banded {
+    Done {
+        curves: usize,
+        leaves: usize,
+        nodes: usize,
+    },
+    Refused(Refusal),
+}

@@ -1,0 +1,65 @@
+-- The checks of a tolerance and of an outline, in document 01's order ("Place of each check"). The most curves that an outline may have is a parameter.
+use mathlib.Core.Bool.{Bool, true, false, _&&_}
+use mathlib.Core.List.{List, [], _∷_}
+use mathlib.Core.Option.{Option, none, some}
+use Prim.Native.Nat.{ℕ, zero, suc, _+_}
+use lib.Dec.{leb, ltb}
+use lib.ListN.{length}
+use lib.IntN.{ℤ, pos, negℤ}
+use lib.Signed.{leZ}
+use Rattle.integers.specs.Entry.{entry}
+use Rattle.refusals.specs.declared.Refusal.{Refusal}
+use Rattle.refusals.specs.declared.Refusal.the-variants.{Tolerance, Degree, CutShort, Coordinate, TooManyCurves, EmptyOutline}
+use Rattle.bezier.specs.declared.Curve.{Curve}
+use Rattle.outline.specs.Curves.{coordinates, degreeAt, nextAt, curveAt}
+
+-- from low to high
+abbrev pub between : ℤ → ℤ → ℤ → Bool
+between low high z = leZ low z && leZ z high
+
+-- ---- 1: the tolerance is 2 to 1,048,576
+abbrev pub toleranceFine : ℤ → Bool
+toleranceFine T = between (pos 2) (pos 1048576) T
+
+-- ---- 4: the first of n numbers from index i on that is no coordinate, −1,048,576 to 1,048,576
+abbrev pub coordinateFine : ℤ → Bool
+coordinateFine z = between (negℤ (pos 1048576)) (pos 1048576) z
+
+unfoldable pub firstBeyond : List ℤ → ℕ → ℕ → Option ℕ
+firstBeyond ns zero i = none
+firstBeyond ns (suc n) i = elim (coordinateFine (entry ns i)) [ true ↦ firstBeyond ns n (i + 1) | false ↦ some i ]
+
+-- ---- the curves, or the first fault
+pub data Outlined : Type 0 where
+  curves : List Curve → Outlined
+  faulty : Refusal → Outlined
+
+abbrev pub withCurve : Curve → Outlined → Outlined
+withCurve c (curves cs) = curves (c ∷ cs)
+withCurve c (faulty r) = faulty r
+
+-- the faults of the curve whose degree stands at `at`: 2, 3 and 4, in this order
+unfoldable pub faultAt : List ℤ → ℕ → Option Refusal
+faultAt ns at =
+    elim (between (pos 1) (pos 3) (entry ns at)) [
+      | false ↦ some (Degree at)
+      | true ↦
+          elim (ltb (length ns) (nextAt ns at)) [
+            | true ↦ some (CutShort (length ns))
+            | false ↦ elim (firstBeyond ns (coordinates (degreeAt ns at)) (at + 1)) [ some i ↦ some (Coordinate i) | none ↦ none ]
+          ]
+    ]
+
+-- curve by curve from index `at` on: 5 where more than `left` begin, then the faults of each
+unfoldable pub outlineFrom : ℕ → List ℤ → ℕ → Outlined
+outlineFrom zero ns at = elim (ltb at (length ns)) [ true ↦ faulty (TooManyCurves at) | false ↦ curves [] ]
+outlineFrom (suc left) ns at =
+    elim (ltb at (length ns)) [
+      | false ↦ curves []
+      | true ↦ elim (faultAt ns at) [ some r ↦ faulty r | none ↦ withCurve (curveAt ns at) (outlineFrom left ns (nextAt ns at)) ]
+    ]
+
+-- 6 where the list is empty
+unfoldable pub outlined : ℕ → List ℤ → Outlined
+outlined most [] = faulty EmptyOutline
+outlined most (z ∷ ns) = outlineFrom most (z ∷ ns) 0
