@@ -2,3 +2,4 @@
 pub mod Tree
 pub mod Records
 pub mod Banding
+pub mod Writing

@@ -1,11 +1,12 @@
 -- Leaf records (document 01): curve, node, then for each break point a box: x low, x high, y low, y high.
 use mathlib.Core.Bool.{Bool}
 use mathlib.Core.List.{List, [], _∷_, _++_}
-use Prim.Native.Nat.{ℕ, suc}
+use Prim.Native.Nat.{ℕ, zero, suc}
 use lib.IntN.{ℤ, pos}
 use Rattle.bezier.specs.declared.Curve.{Curve}
 use Rattle.bezier.specs.Nodes.{depth, nodeCurve}
 use Rattle.enclosure.specs.declared.Box.{Box}
+use Rattle.enclosure.specs.Rows.{pieces}
 use Rattle.enclosure.specs.Boxes.{boxAt, meets}
 use Rattle.band.specs.Tree.{ends}
 
@@ -24,13 +25,17 @@ endsOf T c = ends (nodeMeets T c) deepest 1
 abbrev pub boxNumbers : Box → List ℤ
 boxNumbers b = b .«x_low» ∷ b .«x_high» ∷ b .«y_low» ∷ b .«y_high» ∷ []
 
--- the box at break point i of node n of curve c
-abbrev pub nodeBox : Curve → ℕ → ℕ → Box
-nodeBox c n i = boxAt (depth n) (nodeCurve c n) i
+-- the boxes at the first n break points of a curve at depth k
+abbrev pub boxesTo : ℕ → ℕ → Curve → List ℤ
+boxesTo zero k c = []
+boxesTo (suc n) k c = boxesTo n k c ++ boxNumbers (boxAt k c n)
+
+abbrev pub nodeNumbers : ℕ → ℕ → List ℤ → List ℤ
+nodeNumbers k n boxes = pos k ∷ pos n ∷ boxes
 
 -- the 18 numbers of node n of curve c, the curve's number being k
 unfoldable pub recordOf : ℕ → Curve → ℕ → List ℤ
-recordOf k c n = pos k ∷ pos n ∷ boxNumbers (nodeBox c n 0) ++ (boxNumbers (nodeBox c n 1) ++ (boxNumbers (nodeBox c n 2) ++ boxNumbers (nodeBox c n 3)))
+recordOf k c n = nodeNumbers k n (boxesTo (suc pieces) (depth n) (nodeCurve c n))
 
 -- the records of some nodes of curve c
 unfoldable pub recordsOf : ℕ → Curve → List ℕ → List ℤ

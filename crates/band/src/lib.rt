@@ -1,4 +1,6 @@
 // Banding: the leaves of an outline at a tolerance, as records.
+mod records;
+
 use refusals::Refusal;
 
 // What banding answers: the report, or the first fault.
