@@ -1,4 +1,7 @@
--- What a reader must believe of the bounds: the rows, low and high at a break point, boxes, and the test that a node meets the tolerance.
+-- What a reader must believe of the bounds: the rows, low and high at a break point, boxes, the test that a node meets the tolerance, and what it
+-- means that rows bound their polynomial and that bounds enclose a curve.
 pub mod Rows
 pub mod Bounds
 pub mod Boxes
+pub mod Hats
+pub mod Enclosed
