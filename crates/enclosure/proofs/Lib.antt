@@ -1,7 +1,20 @@
--- Laws of the bounds. Each file opens with what it holds.
-pub mod Coordinates
+-- Laws of the rows, the bounds and the boxes. Each file opens with what it holds.
 pub mod Lists
-pub mod Negation
 pub mod Orders
+pub mod Values
+pub mod Degrees
+pub mod Hats
+pub mod Lines
+pub mod Rows
+pub mod Examples
+pub mod Gaps
+pub mod SecondDifferences
+pub mod Negation
+pub mod Places
+pub mod Enclosure
+pub mod Width
+pub mod Meets
+pub mod Leaf
 pub mod Reduced
+pub mod Coordinates
 pub mod Boxes

@@ -1,13 +1,10 @@
 -- Entries of the lists that the laws speak of: listed numbers, and control values negated.
-use mathlib.Core.Path.{_≡_, refl, sym, _∙_, ap}
+use mathlib.Core.Path.{_≡_, refl}
 use mathlib.Core.List.{List, [], _∷_}
 use Prim.Native.Nat.{ℕ, zero, suc, _<_}
 use native.Mathlib.Nat.{le-of-suc-le-suc, not-suc-le-zero}
-use lib.IntN.{ℤ, pos, negℤ, _+ℤ_, _*ℤ_}
+use lib.IntN.{ℤ, negℤ}
 use Rattle.integers.specs.Entry.{entry}
-use Rattle.integers.proofs.Ring.{ring, sides}
-use Rattle.bernstein.specs.Value.{value}
-use Rattle.bernstein.proofs.Recursion.{casteljau, casteljau-ext, casteljau-mix, value-is}
 use Rattle.bezier.specs.Halves.{listed}
 
 pub entry-listed : (n : ℕ) (f : ℕ → ℤ) (k : ℕ) → k < n → entry (listed n f) k ≡ f k
@@ -24,15 +21,3 @@ pub entry-negated : (cs : List ℤ) (k : ℕ) → entry (negated cs) k ≡ neg�
 entry-negated [] k = refl
 entry-negated (c ∷ cs) zero = refl
 entry-negated (c ∷ cs) (suc k) = entry-negated cs k
-
--- the value of what is negated
-pub value-negated : (p r : ℤ) (d : ℕ) (cs : List ℤ) → value p r d (negated cs) ≡ negℤ (value p r d cs)
-value-negated p r d cs =
-    value-is p r d (negated cs)
-    ∙ casteljau-ext p r d (entry (negated cs)) (λ k. negℤ (pos 1) *ℤ entry cs k +ℤ pos 0 *ℤ entry cs k) (λ k l. entry-negated cs k ∙ turn (entry cs k))
-    ∙ casteljau-mix p r (negℤ (pos 1)) (pos 0) d (entry cs) (entry cs)
-    ∙ sym (turn (casteljau p r d (entry cs)))
-    ∙ ap negℤ (sym (value-is p r d cs))
-  where
-    turn : (c : ℤ) → negℤ c ≡ negℤ (pos 1) *ℤ c +ℤ pos 0 *ℤ c
-    turn c = ring (c ∷ []) (search sides depth 20) refl

@@ -3,7 +3,7 @@ use mathlib.Core.Path.{_≡_, refl, sym, _∙_, ap, ap₂}
 use mathlib.Core.Bool.{Bool, cond}
 use mathlib.Core.List.{List, [], _∷_}
 use Prim.Native.Nat.{ℕ, zero, suc, zero-le}
-use lib.IntN.{ℤ, pos, negsuc, negℤ, _+ℤ_, _-ℤ_, _*ℤ_, negℤ-+ℤ}
+use lib.IntN.{ℤ, pos, negsuc, negℤ, _+ℤ_, _*ℤ_, negℤ-+ℤ}
 use lib.Signed.{ltZ}
 use Rattle.integers.specs.Entry.{entry}
 use Rattle.integers.specs.Rounding.{floor}
@@ -39,7 +39,8 @@ rowSum-negated (ρ ∷ ρs) i k cs =
     let term : ℤ → ℤ = λ δ. cond (ltZ δ (pos 0)) (entry (ρ .low) i) (entry (ρ .high) i) *ℤ δ in
     let δ = difference (negated cs) k in
     let s = rowSum ρs i (suc k) (negated cs) in
-    ap₂ _+ℤ_ (turned (entry (ρ .high) i) (entry (ρ .low) i) (difference cs k) ∙ ap (λ x. negℤ (term x)) (sym (difference-negated cs k))) (rowSum-negated ρs i (suc k) cs)
+    ap₂ _+ℤ_ (turned (entry (ρ .high) i) (entry (ρ .low) i) (difference cs k) ∙ ap (λ x. negℤ (term x)) (sym (difference-negated cs k)))
+    (rowSum-negated ρs i (suc k) cs)
     ∙ sym (negℤ-+ℤ (term δ) s)
 
 pub low-is : (m : ℕ) (ρs : List Row) (D : ℤ) (d : ℕ) (cs : List ℤ) (i : ℕ) → low m ρs D d cs i ≡ negℤ (high m ρs D d (negated cs) i)
