@@ -7,7 +7,6 @@ ghost use Rattle.bezier.specs.Nodes.{depth};
 ghost use Rattle.enclosure.specs.Boxes.{Sides};
 ghost use Rattle.band.specs.Records.{boxNumbers, boxesTo, nodeNumbers};
 ghost use Rattle.band.specs.Writing.{Writable};
-
 use bezier::Curve;
 use enclosure::Box;
 

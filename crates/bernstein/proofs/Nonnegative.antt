@@ -8,11 +8,11 @@ use mathlib.Core.Logic.{⊎-elim}
 use mathlib.Core.List.{List, [], _∷_}
 use Prim.Native.Nat.{ℕ, zero, suc}
 use lib.Dec.{T}
-use lib.IntN.{ℤ, pos, _-ℤ_, _*ℤ_, pow, one, +ℤ-idr}
-use lib.Signed.{nonNeg, _≤ℤ_, _<ℤ_, ltZ-yes}
+use lib.IntN.{ℤ, pos, _-ℤ_, _*ℤ_, pow, +ℤ-idr}
+use lib.Signed.{nonNeg, _≤ℤ_, ltZ-yes}
 use Rattle.integers.specs.Entry.{entry}
 use Rattle.integers.proofs.Ring.{ring, sides}
-use Rattle.integers.proofs.Order.{NonNeg, natural, nonneg-≡, nonneg-cancel, gap, gap<, le-of-gap, lt-by, lt-le, le-or-lt, _+₀_, _×₀_}
+use Rattle.integers.proofs.Order.{NonNeg, natural, nonneg-≡, nonneg-cancel, pow-positive, gap, le-of-gap, lt-le, le-or-lt, _×₀_}
 use Rattle.integers.proofs.Table.{and-left, and-right}
 use Rattle.bernstein.specs.Value.{value}
 use Rattle.bernstein.proofs.Recursion.{casteljau-nonneg, casteljau-times, value-is}
@@ -28,12 +28,6 @@ right n cs = stretch (pos 1) (pos 1) (pos 2) (pos 0) n cs
 pub value-times : (k p r : ℤ) (n : ℕ) (cs : List ℤ) → value (k *ℤ p) (k *ℤ r) n cs ≡ pow k n *ℤ value p r n cs
 value-times k p r n cs =
     value-is (k *ℤ p) (k *ℤ r) n cs ∙ casteljau-times p r k n (entry cs) ∙ ap (λ z. pow k n *ℤ z) (sym (value-is p r n cs))
-
-pub pow-positive : {k : ℤ} → pos 0 <ℤ k → (n : ℕ) → pos 0 <ℤ pow k n
-unfolding pow one
-pow-positive hk zero = ltZ-yes tt
-pow-positive {k} hk (suc n) = let w = pow k n in
-    lt-by (k ∷ w ∷ []) ((gap< (pow-positive hk n) +₀ natural 1) ×₀ gap< hk +₀ gap< (pow-positive hk n)) (search sides depth 20) refl
 
 -- ---- the test
 abbrev pub all-nonnegative : List ℤ → Bool

@@ -1,6 +1,6 @@
 -- The nodes of repeated halving (document 01, "Halving"): node 1 is the undivided curve, and node n has halves 2n and 2n + 1.
-use mathlib.Core.Bool.{Bool, true, false}
-use Prim.Native.Nat.{ℕ, zero, suc, _+_, _-_, _*_, _/_, _%_, _^_}
+use mathlib.Core.Bool.{true, false}
+use Prim.Native.Nat.{ℕ, zero, suc, _+_, _-_, _/_, _%_, _^_}
 use lib.Dec.{ltb}
 use Rattle.bezier.specs.declared.Curve.{Curve}
 use Rattle.bezier.specs.Halves.{leftHalf, rightHalf}

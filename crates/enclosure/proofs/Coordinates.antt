@@ -23,18 +23,17 @@ use Rattle.integers.proofs.Ring.{sides}
 use Rattle.integers.proofs.Ranges.{stored}
 use Rattle.integers.proofs.Size.{fits-size, abs-neg, abs-high, abs-low}
 use Rattle.integers.proofs.Rounding.{ceiling-size}
-use Rattle.integers.proofs.Order.{natural, gap, gap<, le-by, pos-lt, _+₀_, _×₀_}
+use Rattle.integers.proofs.Order.{times-positive, natural, gap, gap<, le-by, pos-lt, _+₀_, _×₀_}
 use Rattle.integers.proofs.Machine.{Held, Count, tests}
 use Rattle.bezier.specs.Differences.{difference}
-use Rattle.bezier.specs.Halves.{listed, four}
+use Rattle.bezier.specs.Halves.{four}
 use Rattle.bezier.proofs.Values.{listed-ext}
 use Rattle.bezier.proofs.Halving.{held-entry}
 use Rattle.enclosure.specs.Rows.{pieces, thirds}
 use Rattle.enclosure.specs.Bounds.{rowSum, high}
 use Rattle.enclosure.specs.Boxes.{over, highOf, lowOf}
 use Rattle.enclosure.specs.Terms.{Readable, Small, Holds, highs, lows, term, opposite}
-use Rattle.enclosure.proofs.Orders.{times-positive}
-use Rattle.enclosure.proofs.Lists.{negated, entry-negated}
+use Rattle.enclosure.proofs.Negated.{negated, entry-negated}
 use Rattle.enclosure.proofs.Negation.{low-is}
 
 pub holds! : {B : ℕ} {z r : ℤ} (s : Held r) → T (s .test && leb (s .bound) B) → s .value ≡ z → Holds B z r

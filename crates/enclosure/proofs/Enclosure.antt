@@ -12,7 +12,7 @@ use lib.Signed.{ltZ, _≤ℤ_, _<ℤ_, ltZ-yes, ltZ-no}
 use Rattle.integers.specs.Entry.{entry}
 use Rattle.integers.specs.Rounding.{ceiling}
 use Rattle.integers.proofs.Ring.{sides}
-use Rattle.integers.proofs.Order.{NonNeg, natural, gap, gap<, nonneg-by, nonneg-cancel, le-of-gap, le-by, pos-lt, _+₀_, _×₀_}
+use Rattle.integers.proofs.Order.{pow-nonneg, times-positive, balance, NonNeg, natural, gap, gap<, nonneg-by, nonneg-cancel, le-of-gap, le-by, pos-lt, _+₀_, _×₀_}
 use Rattle.integers.proofs.Rounding.{ceiling-is}
 use Rattle.integers.proofs.Table.{and-left, and-right, every-below, below, every}
 use Rattle.bernstein.specs.Value.{value}
@@ -21,9 +21,7 @@ use Rattle.enclosure.specs.Rows.{Row, pieces, thirds}
 use Rattle.enclosure.specs.Bounds.{chord, rowSum, high, low}
 use Rattle.enclosure.specs.Hats.{hat}
 use Rattle.enclosure.specs.Enclosed.{Place, joined, Encloses}
-use Rattle.enclosure.proofs.Orders.{equal, times-positive}
-use Rattle.enclosure.proofs.Lists.{negated}
-use Rattle.enclosure.proofs.Values.{pow-nonneg, value-negated}
+use Rattle.enclosure.proofs.Negated.{negated, value-negated}
 use Rattle.enclosure.proofs.Degrees.{degrees}
 use Rattle.enclosure.proofs.SecondDifferences.{hatSum, Form, form-1, form-2, form-3}
 use Rattle.enclosure.proofs.Rows.{passes, tested, low-line, high-line, table-tested, table-count}
@@ -91,9 +89,9 @@ module _ {m d : ℕ} {ρs : List Row} (known : Enclosable m d ρs) {D : ℤ} (hD
       ∷ ceiling (n i) Q ∷ ceiling (n (suc i)) Q ∷ [])
       (natural d ×₀ pow-nonneg (p + r) (d - 1) ×₀ (natural a ×₀ gap (ceiling-is (n i) Q hQ .above) +₀ natural b ×₀ gap (ceiling-is (n (suc i)) Q hQ .above))
       +₀ natural 16 ×₀ natural m ×₀ rw (known .count) at (sums m d (known .positive) hi w ρs 0 cs (known .pass))
-      +₀ equal (negℤ (pos 160000) *ℤ pos m) (known .form (pos p) (pos r) cs)
-      +₀ equal (pos 160000 *ℤ pos d *ℤ W *ℤ pos m *ℤ c0) (ap pos (w .whole))
-      +₀ equal (pos 160000 *ℤ pos d *ℤ W *ℤ (cd -ℤ c0)) (ap pos (w .at)))
+      +₀ balance (negℤ (pos 160000) *ℤ pos m) (known .form (pos p) (pos r) cs)
+      +₀ balance (pos 160000 *ℤ pos d *ℤ W *ℤ pos m *ℤ c0) (ap pos (w .whole))
+      +₀ balance (pos 160000 *ℤ pos d *ℤ W *ℤ (cd -ℤ c0)) (ap pos (w .at)))
       (search sides depth 40 fits 9999) refl))))
 
   over-low : (cs : List ℤ) → (D *ℤ pow (pos (p + r)) (d - 1) *ℤ joined (low m ρs D d cs) i a b) ≤ℤ (pos 16 *ℤ value (pos p) (pos r) d cs)
@@ -102,8 +100,8 @@ module _ {m d : ℕ} {ρs : List Row} (known : Enclosable m d ρs) {D : ℤ} (hD
       let l = low m ρs D d cs in
       let h = high m ρs D d (negated cs) in
       le-by (D ∷ W ∷ pos a ∷ pos b ∷ value (pos p) (pos r) d cs ∷ value (pos p) (pos r) d (negated cs) ∷ l i ∷ l (suc i) ∷ h i ∷ h (suc i) ∷ [])
-      (gap (under-high (negated cs)) +₀ equal (pos 16) (value-negated (pos p) (pos r) d cs)
-      +₀ equal (negℤ (D *ℤ W *ℤ pos a)) (low-is m ρs D d cs i) +₀ equal (negℤ (D *ℤ W *ℤ pos b)) (low-is m ρs D d cs (suc i)))
+      (gap (under-high (negated cs)) +₀ balance (pos 16) (value-negated (pos p) (pos r) d cs)
+      +₀ balance (negℤ (D *ℤ W *ℤ pos a)) (low-is m ρs D d cs i) +₀ balance (negℤ (D *ℤ W *ℤ pos b)) (low-is m ρs D d cs (suc i)))
       (search sides depth 40 fits 9999) refl
 
   pub encloses : (cs : List ℤ) → Encloses m ρs D d cs i a b p r

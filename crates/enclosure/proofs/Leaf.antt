@@ -8,10 +8,9 @@ use native.Mathlib.Omega.{arith}
 use lib.IntN.{ℤ, pos, negℤ, natAbs, _-ℤ_, _*ℤ_, pow}
 use lib.Signed.{_≤ℤ_, _<ℤ_}
 use Rattle.integers.proofs.Ring.{ring, sides}
-use Rattle.integers.proofs.Order.{natural, gap, le-by, pos-lt, *ℤ-cancel, ≤ℤ-trans, _+₀_, _×₀_}
+use Rattle.integers.proofs.Order.{pow-positive, times-positive, balance, natural, gap, le-by, pos-lt, *ℤ-cancel, ≤ℤ-trans, _+₀_, _×₀_}
 use Rattle.integers.proofs.Size.{abs-within}
 use Rattle.bernstein.specs.Value.{value}
-use Rattle.bernstein.proofs.Nonnegative.{pow-positive}
 use Rattle.bezier.specs.Bounds.{Each, Sized}
 use Rattle.bezier.specs.declared.Curve.{Curve}
 use Rattle.enclosure.specs.declared.Box.{Box}
@@ -19,10 +18,10 @@ use Rattle.enclosure.specs.Rows.{Row, pieces}
 use Rattle.enclosure.specs.Bounds.{high, low}
 use Rattle.enclosure.specs.Boxes.{highOf, lowOf, boxAt, meets}
 use Rattle.enclosure.specs.Enclosed.{Place}
-use Rattle.enclosure.proofs.Orders.{equal, times-positive}
-use Rattle.enclosure.proofs.Values.{pow-last, value-under, value-over}
+use Rattle.integers.proofs.RingLaws.{pow-last}
+use Rattle.bezier.proofs.Values.{value-high, value-low}
 use Rattle.enclosure.proofs.Enclosure.{Enclosable, enclosable, encloses}
-use Rattle.enclosure.proofs.Meets.{meets-narrow}
+use Rattle.enclosure.proofs.Narrow.{meets-narrow}
 
 -- a low that is not above its high, and both at most B in size
 pub record Sound (B : ℕ) (l h : ℤ) : Type 0 where
@@ -81,11 +80,11 @@ module _ {m d : ℕ} {ρs : List Row} (known : Enclosable m d ρs) (some : 0 < m
 
     low-under : lows i ≤ℤ pos (16 * B)
     low-under = *ℤ-cancel factor (le-by (pos D ∷ power i ∷ pos m ∷ pos B ∷ here i ∷ lows i ∷ pow (pos (i + (m - i))) d ∷ [])
-        (gap (at-break i hi .below) +₀ natural 16 ×₀ value-under i (m - i) d cs (B * D) each +₀ equal (negℤ (pos 16)) full) (search sides depth 20) refl)
+        (gap (at-break i hi .below) +₀ natural 16 ×₀ gap (value-high i (m - i) (B * D) d cs each) +₀ balance (negℤ (pos 16)) full) (search sides depth 20) refl)
 
     high-over : negℤ (pos (16 * B)) ≤ℤ highs i
     high-over = *ℤ-cancel factor (le-by (pos D ∷ power i ∷ pos m ∷ pos B ∷ here i ∷ highs i ∷ pow (pos (i + (m - i))) d ∷ [])
-        (gap (at-break i hi .above) +₀ natural 16 ×₀ value-over i (m - i) d cs (B * D) each +₀ equal (negℤ (pos 16)) full) (search sides depth 20) refl)
+        (gap (at-break i hi .above) +₀ natural 16 ×₀ gap (value-low i (m - i) (B * D) d cs each) +₀ balance (negℤ (pos 16)) full) (search sides depth 20) refl)
 
     pub sound : Sound (16 * B + tolerance) (lows i) (highs i)
     sound =

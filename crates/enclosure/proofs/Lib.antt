@@ -1,7 +1,5 @@
 -- Laws of the rows, the bounds and the boxes. Each file opens with what it holds.
-pub mod Lists
-pub mod Orders
-pub mod Values
+pub mod Negated
 pub mod Degrees
 pub mod Hats
 pub mod Lines
@@ -13,7 +11,7 @@ pub mod Negation
 pub mod Places
 pub mod Enclosure
 pub mod Width
-pub mod Meets
+pub mod Narrow
 pub mod Leaf
 pub mod Reduced
 pub mod Coordinates

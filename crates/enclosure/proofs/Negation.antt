@@ -14,7 +14,7 @@ use Rattle.integers.proofs.Rounding.{floor-neg}
 use Rattle.bezier.specs.Differences.{difference}
 use Rattle.enclosure.specs.Rows.{Row}
 use Rattle.enclosure.specs.Bounds.{exchanged, rowSum, chord, high, low}
-use Rattle.enclosure.proofs.Lists.{negated, entry-negated}
+use Rattle.enclosure.proofs.Negated.{negated, entry-negated}
 
 difference-negated : (cs : List ℤ) (k : ℕ) → difference (negated cs) k ≡ negℤ (difference cs k)
 difference-negated cs k = simp entry-negated (ring (entry cs k ∷ entry cs (suc k) ∷ entry cs (suc (suc k)) ∷ []) (search sides depth 20) refl)

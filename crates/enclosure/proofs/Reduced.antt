@@ -6,11 +6,10 @@ use lib.IntN.{ℤ, pos, _+ℤ_, _*ℤ_}
 use lib.Signed.{_<ℤ_, ltZ-yes}
 use Rattle.integers.specs.Rounding.{floor, ceiling}
 use Rattle.integers.proofs.Ring.{ring, sides}
-use Rattle.integers.proofs.Order.{pos-lt}
+use Rattle.integers.proofs.Order.{times-positive, pos-lt}
 use Rattle.integers.proofs.Rounding.{floor-scale, ceiling-scale}
 use Rattle.enclosure.specs.Rows.{Row}
 use Rattle.enclosure.specs.Bounds.{exchanged, chord, rowSum, high, low}
-use Rattle.enclosure.proofs.Orders.{times-positive}
 
 module _ {m : ℕ} (some : 0 < m) {D : ℤ} (hD : pos 0 <ℤ D) where
   divisor : pos 0 <ℤ (pos 625 *ℤ pos m *ℤ D)

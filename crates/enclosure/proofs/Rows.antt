@@ -12,20 +12,19 @@ use lib.IntN.{ℤ, pos, negℤ, _+ℤ_, _-ℤ_, _*ℤ_, pow, one}
 use lib.Signed.{_≤ℤ_}
 use Rattle.integers.specs.Entry.{entry}
 use Rattle.integers.proofs.Ring.{ring, sides}
-use Rattle.integers.proofs.Order.{NonNeg, natural, nonneg-≡, nonneg-cancel, gap, le-of-gap, le-by, *ℤ-cancel, pos-lt, _+₀_}
+use Rattle.integers.proofs.Order.{pow-positive, balance, NonNeg, natural, nonneg-≡, nonneg-cancel, gap, le-of-gap, le-by, *ℤ-cancel, pos-lt, _+₀_}
 use Rattle.integers.proofs.Table.{and-left, and-right, every-below, below, every, at}
 use Rattle.bernstein.specs.Value.{value}
 use Rattle.bernstein.proofs.Recursion.{casteljau-ext, casteljau-mix, value-is}
 use Rattle.bernstein.proofs.Stretch.{stretch, stretch-value}
-use Rattle.bernstein.proofs.Nonnegative.{nonnegative, nonnegative-right, value-times, pow-positive}
+use Rattle.bernstein.proofs.Nonnegative.{nonnegative, nonnegative-right, value-times}
 use Rattle.bezier.specs.Halves.{listed}
 use Rattle.enclosure.specs.Rows.{Row, pieces, thirds}
 use Rattle.enclosure.specs.Hats.{hat}
 use Rattle.enclosure.specs.Enclosed.{Place, joined, RowBounds}
-use Rattle.enclosure.proofs.Orders.{equal}
 use Rattle.enclosure.proofs.Degrees.{degrees}
-use Rattle.enclosure.proofs.Lists.{entry-listed, negated}
-use Rattle.enclosure.proofs.Values.{value-negated}
+use Rattle.enclosure.proofs.Negated.{negated, value-negated}
+use Rattle.bezier.proofs.Values.{listed-entry}
 use Rattle.enclosure.proofs.Hats.{hat-2-first, hat-3-first, hat-3-second}
 use Rattle.enclosure.proofs.Lines.{casteljau-line}
 
@@ -80,7 +79,7 @@ module _ (m d : ℕ) (hd : 0 < d) (h : List ℤ) {i a b p r : ℕ} (hi : i < m) 
       let steps : ℕ → ℤ = λ j. pos d *ℤ x +ℤ pos j *ℤ (y -ℤ x) in
       let less : ℕ → ℤ = λ j. pos 10000 *ℤ entry piece j +ℤ negℤ M *ℤ steps j in
       value-is (pos b) (pos a) d (against m d h row i)
-      ∙ casteljau-ext (pos b) (pos a) d (entry (against m d h row i)) less (λ j l. entry-listed (suc d) less j (suc-le-suc l))
+      ∙ casteljau-ext (pos b) (pos a) d (entry (against m d h row i)) less (λ j l. listed-entry (suc d) less j (suc-le-suc l))
       ∙ casteljau-mix (pos b) (pos a) (pos 10000) (negℤ M) d (entry piece) steps
       ∙ ap₂ (λ u s. pos 10000 *ℤ u +ℤ negℤ M *ℤ s) (sym (value-is (pos b) (pos a) d piece) ∙ piece-value) (casteljau-line (pos b) (pos a) d hd x y)
       ∙ ap (λ (q : ℕ). pos 10000 *ℤ (M *ℤ v) +ℤ negℤ M *ℤ (pos d *ℤ pow (pos q) (d - 1) *ℤ joined (entry row) i a b)) (add-comm b a ∙ w .whole)
@@ -132,8 +131,8 @@ module _ (m d : ℕ) (ρs : List Row) (hd : 0 < d) (t : T (tested m d ρs)) {k :
       let l = joined (entry (rowAt ρs k .low)) i a b in
       let h = joined (entry (rowAt ρs k .high)) i a b in
       record {
-        below = *ℤ-cancel (pos-lt hd) (le-by (pos d ∷ P ∷ v ∷ W ∷ l ∷ []) (gap row-below +₀ equal (negℤ (pos 10000)) is) (search sides depth 20) refl);
-        above = *ℤ-cancel (pos-lt hd) (le-by (pos d ∷ P ∷ v ∷ W ∷ h ∷ []) (gap row-above +₀ equal (pos 10000) is) (search sides depth 20) refl);
+        below = *ℤ-cancel (pos-lt hd) (le-by (pos d ∷ P ∷ v ∷ W ∷ l ∷ []) (gap row-below +₀ balance (negℤ (pos 10000)) is) (search sides depth 20) refl);
+        above = *ℤ-cancel (pos-lt hd) (le-by (pos d ∷ P ∷ v ∷ W ∷ h ∷ []) (gap row-above +₀ balance (pos 10000) is) (search sides depth 20) refl);
       }
 
 -- ---- today's table, tested once

@@ -12,7 +12,7 @@ use lib.Signed.{nonNeg, ltZ, leZ, _≤ℤ_, _<ℤ_, ltZ-yes, leZ-yes}
 use Rattle.integers.specs.Entry.{entry}
 use Rattle.integers.specs.Rounding.{floor, ceiling}
 use Rattle.integers.proofs.Ring.{ring, sides}
-use Rattle.integers.proofs.Order.{NonNeg, natural, gap, gap<, nonneg-by, nonneg-cancel, le-of-gap, le-by, pos-le, pos-lt, _+₀_, _×₀_}
+use Rattle.integers.proofs.Order.{times-positive, balance, NonNeg, natural, gap, gap<, nonneg-by, nonneg-cancel, le-of-gap, le-by, pos-le, pos-lt, _+₀_, _×₀_}
 use Rattle.integers.proofs.Ranges.{no-lt}
 use Rattle.integers.proofs.Rounding.{floor-is, ceiling-is}
 use Rattle.integers.proofs.Table.{and-left, and-right, below}
@@ -20,7 +20,6 @@ use Rattle.bezier.specs.Differences.{difference}
 use Rattle.enclosure.specs.Rows.{Row, pieces, thirds}
 use Rattle.enclosure.specs.Bounds.{exchanged, chord, rowSum, high, low}
 use Rattle.enclosure.specs.Boxes.{highOf, lowOf}
-use Rattle.enclosure.proofs.Orders.{equal, times-positive}
 use Rattle.enclosure.proofs.Gaps.{gapSum, ordered, apart, table-apart}
 use Rattle.enclosure.proofs.Rows.{table-count}
 
@@ -47,7 +46,7 @@ sums-apart z W i cs (ρ ∷ ρs) k t small =
     let s = rowSum ρs i (suc k) cs in
     let t′ = rowSum (exchanged ρs) i (suc k) cs in
     nonneg-by (pos z ∷ pos W ∷ h ∷ l ∷ δ ∷ pos (natAbs δ) ∷ cond c l h ∷ cond c h l ∷ gapSum ρs i ∷ s ∷ t′ ∷ [])
-    (gap (pos-le (small k (omega arith) (omega arith))) ×₀ first +₀ equal (negℤ (pos z)) (term-gap h l δ)
+    (gap (pos-le (small k (omega arith) (omega arith))) ×₀ first +₀ balance (negℤ (pos z)) (term-gap h l δ)
     +₀ sums-apart z W i cs ρs (suc k) (and-right (nonNeg (h -ℤ l)) (ordered ρs i) t) (λ j m n. small j (omega arith) (omega arith)))
     (search sides depth 40 fits 9999) refl
   where

@@ -5,7 +5,7 @@
 --         le-from-ℕ ρ (search sides depth 20) (omega (arith, le-to-ℕ ρ (search sides depth 20) h, lt-to-ℕ ρ (search sides depth 20) k))
 use mathlib.Core.Path.{_≡_, refl, sym, _∙_, ap, ap₂, subst}
 use mathlib.Core.List.{List, [], _∷_}
-use Prim.Native.Nat.{ℕ, zero, suc, _+_, _*_, _≤_, _<_}
+use Prim.Native.Nat.{ℕ, suc, _+_, _*_, _≤_, _<_}
 use native.Mathlib.Nat.{le-antisymm, le-of-eq}
 use lib.IntN.{ℤ, pos, negsuc, negℤ, _+ℤ_, _-ℤ_, _*ℤ_, pow, +ℤ-idl, +ℤ-idr}
 use lib.Signed.{_≤ℤ_, _<ℤ_, ≤ℤ-refl}

@@ -7,13 +7,13 @@
 -- answer a cast to an unsigned type, and `flag!` reads what a comparison said. `equal` of Ranges.antt reads what a test of equality said.
 use mathlib.Core.Path.{_≡_, refl, sym, _∙_, ap, ap₂, subst}
 use mathlib.Core.Bool.{Bool, true, _&&_}
-use Prim.Native.Nat.{ℕ, zero, suc, pred, _+_, _*_, _/_, _%_, _^_, _≤_, _<_, suc-le-suc}
+use Prim.Native.Nat.{ℕ, suc, pred, _+_, _*_, _/_, _%_, _^_, _≤_, _<_, suc-le-suc}
 use native.Mathlib.Nat.{le-refl, le-trans, le-of-eq, add-le-add, mul-le-mul, div-le-self, mod-le, le-pred-of-lt, lt-of-lt-of-le, lt-of-le-of-lt}
 use lib.Dec.{T, leb, ltb, leb→le, ltb→lt}
-use lib.IntN.{ℤ, pos, negsuc, negℤ, natAbs, _+ℤ_, _-ℤ_, _*ℤ_}
+use lib.IntN.{ℤ, pos, negsuc, negℤ, natAbs, _+ℤ_, _*ℤ_}
 use lib.Signed.{natAbs-le, quotZ, remZ, shrZ, ltZ, leZ, nonNeg}
 use mir.Syntax.{Width}
-use mir.Val.{Fits, SFits, bits, hbits, toZ, ofZ}
+use mir.Val.{Fits, SFits, bits, hbits, toZ}
 use mir.Facts.{toZ-ofZ, toZ-pos}
 use Rattle.integers.proofs.Order.{NonNeg}
 use Rattle.integers.proofs.Ranges.{stored}

@@ -12,8 +12,8 @@ use mathlib.Core.Bool.{Bool, true, false, not, cond}
 use Prim.Native.Nat.{ℕ, zero, suc, _+_, _-_, _≤_, _<_, zero-le, suc-le-suc}
 use native.Mathlib.Nat.{le-of-suc-le-suc, not-suc-le-zero}
 use native.Mathlib.Omega.{arith}
-use lib.Dec.{T, leb, ltb, ltb→lt, lt→ltb, nltb→le, nleb→lt, leb→le, le→leb}
-use lib.IntN.{ℤ, pos, negsuc, sucℤ, negℤ, subℕ, _+ℤ_, _-ℤ_, _*ℤ_, +ℤ-one, +ℤ-idr}
+use lib.Dec.{T, ltb, ltb→lt, lt→ltb, nltb→le, nleb→lt, leb→le, le→leb}
+use lib.IntN.{ℤ, pos, negsuc, sucℤ, negℤ, subℕ, _+ℤ_, _-ℤ_, _*ℤ_, pow, one, +ℤ-one, +ℤ-idr, +ℤ-invr, *ℤ-zero}
 use lib.Signed.{leZ, ltZ, nonNeg, _≤ℤ_, _<ℤ_, leZ-yes, ltZ-yes}
 use Rattle.integers.proofs.Polynomial.{num}
 use Rattle.integers.proofs.Ring.{Sides, residue, ring, sides}
@@ -131,6 +131,10 @@ lt-by ρ h s e = lt-of-gap (nonneg-by ρ h s e)
 pub clash-by : (ρ : List ℤ) {x : ℤ} → NonNeg x → (s : Sides ρ (negsuc 0) x) → residue s ≡ num (pos 0) → ⊥
 clash-by ρ h s e = nonneg-by ρ h s e .holds
 
+-- an equation in a certificate: any multiple of the difference of its sides is 0
+pub balance : (k : ℤ) {x y : ℤ} → x ≡ y → NonNeg (k *ℤ (x -ℤ y))
+balance k {x} {y} e = nonneg-≡ (natural 0) (ap (λ z. k *ℤ (z -ℤ y)) e ∙ ap (λ z. k *ℤ z) (+ℤ-invr y) ∙ *ℤ-zero k)
+
 -- ---- naturals
 pub pos-le : {m n : ℕ} → m ≤ n → pos m ≤ℤ pos n
 pos-le {m} {n} h = leZ-yes (le→leb m n h)
@@ -189,6 +193,19 @@ pub +ℤ-mono : {a b c d : ℤ} → a ≤ℤ b → c ≤ℤ d → (a +ℤ c) ≤
 
 pub *ℤ-mono : {a b k : ℤ} → NonNeg k → a ≤ℤ b → (k *ℤ a) ≤ℤ (k *ℤ b)
 *ℤ-mono {a} {b} {k} hk h = le-by (a ∷ b ∷ k ∷ []) (hk ×₀ gap h) (search sides depth 20) refl
+
+pub times-positive : {x y : ℤ} → pos 0 <ℤ x → pos 0 <ℤ y → pos 0 <ℤ (x *ℤ y)
+times-positive {x} {y} h k = lt-by (x ∷ y ∷ []) (gap< h ×₀ gap< k +₀ gap< h +₀ gap< k) (search sides depth 20) refl
+
+pub pow-nonneg : (q n : ℕ) → NonNeg (pow (pos q) n)
+unfolding pow one
+pow-nonneg q zero = natural 1
+pow-nonneg q (suc n) = pow-nonneg q n ×₀ natural q
+
+pub pow-positive : {k : ℤ} → pos 0 <ℤ k → (n : ℕ) → pos 0 <ℤ pow k n
+unfolding pow one
+pow-positive hk zero = ltZ-yes tt
+pow-positive hk (suc n) = times-positive (pow-positive hk n) hk
 
 -- a positive factor cancels
 pub *ℤ-cancel : {a b k : ℤ} → pos 0 <ℤ k → (k *ℤ a) ≤ℤ (k *ℤ b) → a ≤ℤ b

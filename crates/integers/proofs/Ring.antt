@@ -8,10 +8,10 @@
 -- Where an equation is refused, put `?` for `refl`: the goal shows the normal form of the difference, which is not 0.
 use mathlib.Core.Path.{_≡_, refl, sym, _∙_, ap, ap₂}
 use mathlib.Core.Bool.{true}
-use mathlib.Core.List.{List, [], _∷_}
+use mathlib.Core.List.{List, _∷_}
 use Prim.Native.Nat.{ℕ, zero, suc, _+_, _*_}
 use lib.Dec.{leb}
-use lib.IntN.{ℤ, pos, negsuc, negℤ, _+ℤ_, _-ℤ_, _*ℤ_, pow, one, +ℤ-one}
+use lib.IntN.{ℤ, pos, negsuc, negℤ, _+ℤ_, _*ℤ_, pow, +ℤ-one}
 use Rattle.integers.proofs.Polynomial.{Expr, var, lit, _⊕_, _⊖_, _⊗_, neg, power, Normal, num, value, normal, same-value}
 use Rattle.integers.specs.Entry.{entry}
 

@@ -1,8 +1,9 @@
 -- The ring laws of ℤ that `lib.IntN` leaves out. Assumes nothing.
-use mathlib.Core.Path.{_≡_, refl, sym, _∙_, ap, ap₂, _≡⟨_⟩_, _∎}
-use Prim.Native.Nat.{ℕ, zero, suc, _^_}
-use native.Mathlib.Nat.{pow-zero, pow-suc}
-use lib.IntN.{ℤ, pos, negsuc, sucℤ, predℤ, negℤ, _+ℤ_, _-ℤ_, _*ℤ_, pow, one, sucℤ-+ℤ, predℤ-+ℤ, +ℤ-idl, +ℤ-idr, +ℤ-assoc, +ℤ-comm, +ℤ-invr, +ℤ-invl, negℤ-+ℤ, negℤ-negℤ, negℤ-sucℤ, negℤ-predℤ, *ℤ-comm, *ℤ-one, zero-*ℤ, *ℤ-zero, sucℤ-*ℤ, predℤ-*ℤ}
+use mathlib.Core.Path.{_≡_, sym, _∙_, ap, ap₂}
+use Prim.Native.Nat.{ℕ, zero, suc, _^_, _-_, _<_}
+use native.Mathlib.Nat.{pow-zero, pow-suc, not-suc-le-zero}
+use native.Mathlib.Omega.{arith}
+use lib.IntN.{ℤ, pos, negsuc, sucℤ, predℤ, negℤ, _+ℤ_, _-ℤ_, _*ℤ_, pow, one, sucℤ-+ℤ, predℤ-+ℤ, +ℤ-idl, +ℤ-assoc, +ℤ-comm, negℤ-+ℤ, negℤ-negℤ, negℤ-sucℤ, negℤ-predℤ, *ℤ-comm, *ℤ-one, zero-*ℤ, sucℤ-*ℤ, predℤ-*ℤ}
 
 -- induction by successor and predecessor
 pub induct {ℓ} : (P : ℤ → Type ℓ) → P (pos zero) → ((k : ℤ) → P k → P (sucℤ k)) → ((k : ℤ) → P k → P (predℤ k)) → (k : ℤ) → P k
@@ -65,3 +66,11 @@ pub pow-natural : (n d : ℕ) → pow (pos n) d ≡ pos (n ^ d)
 unfolding pow one
 pow-natural n zero = rw pow-zero
 pow-natural n (suc d) = rw pow-suc (ap (λ z. z *ℤ pos n) (pow-natural n d))
+
+pub pow-last : (x : ℤ) (d : ℕ) → 0 < d → pow x d ≡ pow x (d - 1) *ℤ x
+unfolding pow
+pow-last x zero h = absurd (not-suc-le-zero h)
+pow-last x (suc e) h = ap (λ (n : ℕ). pow x n *ℤ x) less-one
+  where
+    less-one : e ≡ suc e - 1
+    less-one = omega arith

@@ -1,13 +1,13 @@
 -- The laws of `floor` and `ceiling` by a positive divisor, and how code that divides towards zero comes to them.
-use mathlib.Core.Path.{_≡_, refl, sym, _∙_, ap, ap₂, subst}
+use mathlib.Core.Path.{_≡_, refl, sym, _∙_, ap, subst}
 use mathlib.Core.Bool.{Bool, true, false}
 use mathlib.Core.Logic.{⊎-elim}
-use mathlib.Core.List.{List, [], _∷_}
-use Prim.Native.Nat.{ℕ, zero, suc, _+_, _*_, _/_, _%_, _≤_, _<_, zero-le, suc-le-suc}
+use mathlib.Core.List.{[], _∷_}
+use Prim.Native.Nat.{ℕ, zero, suc, _/_, _%_, _≤_, _<_, zero-le, suc-le-suc}
 use native.Mathlib.Nat.{div-add-mod', mod-lt, div-le-self, lt-of-le-of-lt, le-of-suc-le-suc, le-trans}
-use lib.Dec.{T, ltb→lt}
+use lib.Dec.{ltb→lt}
 use lib.IntN.{ℤ, pos, negsuc, negℤ, _+ℤ_, _-ℤ_, _*ℤ_, negℤ-negℤ, natAbs}
-use lib.Signed.{mag, mag-rem, quotZ, remZ, ltZ, _≤ℤ_, _<ℤ_, ≤ℤ-refl}
+use lib.Signed.{mag, mag-rem, quotZ, remZ, ltZ, _≤ℤ_, _<ℤ_}
 use mir.Syntax.{Width}
 use mir.Val.{SFits, ofZ}
 use mir.Facts.{toZ-ofZ}

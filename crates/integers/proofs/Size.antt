@@ -7,7 +7,7 @@ use Prim.Native.Nat.{ℕ, zero, suc, _+_, _*_, _-_, _^_, _≤_, _<_, zero-le, su
 use native.Mathlib.Nat.{le-refl, le-trans, le-of-eq, add-le-add, mul-le-mul, lt-of-le-of-lt, le-suc, le-of-suc-le-suc, not-suc-le-zero}
 use native.Mathlib.Omega.{arith}
 use lib.Dec.{T, leb, ltb, ltb→lt, leb→le, le→leb}
-use lib.IntN.{ℤ, pos, negsuc, negℤ, natAbs, subℕ, _+ℤ_, _-ℤ_, _*ℤ_}
+use lib.IntN.{ℤ, pos, negsuc, negℤ, natAbs, subℕ, _+ℤ_, _*ℤ_}
 use lib.Signed.{mag, natAbs-le, _≤ℤ_, leZ-yes}
 use mir.Syntax.{Width}
 use mir.Val.{SFits, hbits}

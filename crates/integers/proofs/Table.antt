@@ -3,7 +3,7 @@
 --     small : (k : ℕ) → k < 512 → T (f k)
 --     small = below 512 f tt
 -- Over a table: `every f 0 xs` computes f at each place and entry of a list, and `at` turns it into the rule at each place.
-use mathlib.Core.Path.{_≡_, _∙_, subst, sym}
+use mathlib.Core.Path.{_∙_, subst, sym}
 use mathlib.Core.Bool.{Bool, true, false, _&&_}
 use mathlib.Core.Logic.{⊎-elim}
 use mathlib.Core.List.{List, [], _∷_}

@@ -1,9 +1,8 @@
 // Worked uses of crate `integers`, checked with the rest: each function needs one kind of answer, and its proof file gives it in a line.
 ghost use mathlib.Core.Path.{_≡_};
-ghost use mathlib.Core.Bool.{Bool};
-ghost use Prim.Native.Nat.{_<_, _≤_, _^_, _*_};
-ghost use lib.IntN.{ℤ, pos, negℤ, natAbs, _+ℤ_, _-ℤ_, _*ℤ_};
-ghost use lib.Signed.{_≤ℤ_, _<ℤ_, quotZ, remZ, shrZ, mag};
+ghost use Prim.Native.Nat.{_<_, _^_, _*_};
+ghost use lib.IntN.{pos, negℤ, natAbs, _+ℤ_, _-ℤ_, _*ℤ_};
+ghost use lib.Signed.{quotZ, remZ, shrZ, mag};
 ghost use Rattle.integers_uses.specs.Uses.{Weights, Distance};
 
 // Products and a sum of bounded numbers do not wrap.

@@ -1,9 +1,9 @@
 -- `integers_uses::distance` meets its contract: a branch gives the order by which the other difference is the smaller.
 use mathlib.Core.Path.{refl}
 use mathlib.Core.List.{[], _∷_}
-use lib.IntN.{ℤ, pos, _-ℤ_}
-use lib.Signed.{_≤ℤ_, _<ℤ_, ≤ℤ-refl}
-use Rattle.integers.proofs.Ring.{ring, sides}
+use lib.IntN.{ℤ, _-ℤ_}
+use lib.Signed.{_≤ℤ_, ≤ℤ-refl}
+use Rattle.integers.proofs.Ring.{sides}
 use Rattle.integers.proofs.Order.{le-by, gap, lt-le, _+₀_}
 use Rattle.integers.proofs.Ranges.{lt-yes, lt-no}
 use Rattle.integers.proofs.Size.{Size, size-of}

@@ -1,7 +1,7 @@
 -- `integers_uses::square` meets its contract: each entry of the table passes a computed test.
 use mathlib.Core.Path.{_≡_, _∙_}
 use mathlib.Core.Bool.{Bool, _&&_}
-use Prim.Native.Nat.{ℕ, _*_, _^_, _<_}
+use Prim.Native.Nat.{ℕ, _*_, _^_}
 use borrow.Author.Needs.{needs}
 use lib.Dec.{T, ltb, ltb→lt}
 use lib.IntN.{ℤ, pos}
@@ -11,7 +11,7 @@ use mir.Val.{toZ, ofZ}
 use mir.Facts.{toZ-ofZ}
 use Rattle.integers.specs.Entry.{entry}
 use Rattle.integers.proofs.Order.{≤ℤ-antisymm}
-use Rattle.integers.proofs.Table.{every, at, and-left, and-right}
+use Rattle.integers.proofs.Table.{at, and-left, and-right}
 use Rattle.integers_uses.specs.Uses.{squares}
 use Rattle.integers_uses.proofs.square.Statement.{statement}
 use Rattle.integers_uses.proofs.square.Tie as tie

@@ -3,8 +3,8 @@ use mathlib.Core.Path.{_≡_, refl, sym, subst}
 use mathlib.Core.Bool.{Bool, true, false, _&&_}
 use mathlib.Core.Logic.{⊎-elim}
 use mathlib.Core.List.{List}
-use Prim.Native.Nat.{ℕ, zero, suc, _*_, _-_, _^_, _≤_, _<_}
-use native.Mathlib.Nat.{le-refl, le-of-suc-le-suc, eq-or-lt-of-le}
+use Prim.Native.Nat.{ℕ, zero, suc, _*_, _-_, _^_, _≤_, _<_, suc-le-suc}
+use native.Mathlib.Nat.{le-refl, le-of-suc-le-suc, not-suc-le-zero, eq-or-lt-of-le}
 use native.Mathlib.Omega.{arith}
 use lib.Dec.{T}
 use lib.IntN.{ℤ, pos, natAbs, _-ℤ_, _*ℤ_}
@@ -14,7 +14,7 @@ use Rattle.bezier.specs.declared.Curve.{Curve}
 use Rattle.bezier.specs.Differences.{difference}
 use Rattle.enclosure.specs.declared.Box.{Box}
 use Rattle.enclosure.specs.Rows.{pieces}
-use Rattle.enclosure.specs.Boxes.{boxAt, narrow, narrowTo, meets, lowOf, highOf}
+use Rattle.enclosure.specs.Boxes.{boxAt, narrow, allNarrow, meets, lowOf, highOf}
 use Rattle.enclosure.proofs.Width.{width}
 
 pub record Narrow (tolerance : ℤ) (depth : ℕ) (c : Curve) : Type 0 where
@@ -22,17 +22,16 @@ pub record Narrow (tolerance : ℤ) (depth : ℕ) (c : Curve) : Type 0 where
   pub y : (i : ℕ) → i ≤ pieces → (highOf (c .degree) depth (c .y) i -ℤ lowOf (c .degree) depth (c .y) i) ≤ℤ tolerance
 
 module _ (tolerance : ℤ) (box : ℕ → Box) where
-  each-narrow : (n : ℕ) → T (narrowTo n tolerance box) → (i : ℕ) → i ≤ n → T (narrow tolerance (box i))
-  each-narrow zero t i h = subst (λ (j : ℕ). T (narrow tolerance (box j))) {x = 0} {y = i} (omega arith) t
+  each-narrow : (n : ℕ) → T (allNarrow n tolerance box) → (i : ℕ) → i < n → T (narrow tolerance (box i))
+  each-narrow zero t i h = absurd (not-suc-le-zero h)
   each-narrow (suc n) t i h = ⊎-elim
-      (λ e. rw e (and-right (narrowTo n tolerance box) (narrow tolerance (box (suc n))) t))
-      (λ l. each-narrow n (and-left (narrowTo n tolerance box) (narrow tolerance (box (suc n))) t) i (le-of-suc-le-suc l))
-      (eq-or-lt-of-le h)
+      (λ e. rw e (and-right (allNarrow n tolerance box) (narrow tolerance (box n)) t))
+      (λ l. each-narrow n (and-left (allNarrow n tolerance box) (narrow tolerance (box n)) t) i l)
+      (eq-or-lt-of-le (le-of-suc-le-suc h))
 
-  all-narrow : (n : ℕ) → ((i : ℕ) → i ≤ n → T (narrow tolerance (box i))) → T (narrowTo n tolerance box)
-  all-narrow zero f = f 0 (le-refl 0)
-  all-narrow (suc n) f = both-pass (narrowTo n tolerance box) (narrow tolerance (box (suc n)))
-      (all-narrow n (λ i l. f i (omega arith))) (f (suc n) (le-refl (suc n)))
+  all-narrow : (n : ℕ) → ((i : ℕ) → i < n → T (narrow tolerance (box i))) → T (allNarrow n tolerance box)
+  all-narrow zero f = tt
+  all-narrow (suc n) f = both-pass (allNarrow n tolerance box) (narrow tolerance (box n)) (all-narrow n (λ i l. f i (omega arith))) (f n (le-refl (suc n)))
 
 passed : (b : Bool) → T b → b ≡ true
 passed true t = refl
@@ -51,7 +50,7 @@ module _ (tolerance : ℤ) (depth : ℕ) (c : Curve) where
   pub meets-narrow : meets tolerance depth c ≡ true → Narrow tolerance depth c
   unfolding meets boxAt
   meets-narrow e =
-      let each : (i : ℕ) → i ≤ pieces → T (x-slim i && y-slim i) = each-narrow tolerance (boxAt depth c) pieces (subst T (sym e) tt) in
+      let each : (i : ℕ) → i ≤ pieces → T (x-slim i && y-slim i) = λ i h. each-narrow tolerance (boxAt depth c) (suc pieces) (subst T (sym e) tt) i (suc-le-suc h) in
       record {
         x = λ i h. leZ-yes (and-left (x-slim i) (y-slim i) (each i h));
         y = λ i h. leZ-yes (and-right (x-slim i) (y-slim i) (each i h));
@@ -59,8 +58,8 @@ module _ (tolerance : ℤ) (depth : ℕ) (c : Curve) where
 
   pub narrow-meets : Narrow tolerance depth c → meets tolerance depth c ≡ true
   unfolding meets boxAt
-  narrow-meets n = passed (narrowTo pieces tolerance (boxAt depth c))
-      (all-narrow tolerance (boxAt depth c) pieces (λ i h. both-pass (x-slim i) (y-slim i) (n .x i h .le) (n .y i h .le)))
+  narrow-meets n = passed (allNarrow (suc pieces) tolerance (boxAt depth c))
+      (all-narrow tolerance (boxAt depth c) (suc pieces) (λ i l. let h = le-of-suc-le-suc l in both-pass (x-slim i) (y-slim i) (n .x i h .le) (n .y i h .le)))
 
 -- the width law of a curve
 pub width-meets : (tolerance : ℤ) (depth M : ℕ) (c : Curve) → 1 ≤ c .degree → c .degree ≤ 3
