@@ -1,0 +1,86 @@
+-- The boxes at the break points of a node. The loop's invariant: the boxes before i stand in their places. The measure is what is left of four.
+use mathlib.Core.Path.{_≡_, refl, sym, _∙_, ap}
+use mathlib.Core.List.{List}
+use Prim.Native.Nat.{ℕ, _+_, _*_, _-_, _≤_}
+use native.Mathlib.Omega.{arith}
+use lib.ListN.{length}
+use lib.IntN.{ℤ}
+use Rattle.bezier.specs.declared.Curve.{Curve}
+use lib.Seq.{sets, length-sets}
+use Rattle.band.specs.Records.{boxNumbers, boxesTo}
+use Rattle.band.proofs.Writing.{boxes-more}
+use Rattle.band.proofs.records.put_boxes.Statement.{statement}
+use Rattle.band.proofs.records.put_boxes.Tie as tie
+
+abbrev Inv-loop : tie.InvT-loop
+Inv-loop records₀ at curve depth i₀ records i = (i ≤ 4) × (records ≡ sets records₀ at (boxesTo i depth curve))
+
+abbrev μ-loop : tie.MeasureT-loop
+μ-loop records₀ at curve depth i₀ records i = 4 - i
+
+-- stores keep the length
+kept : (l : List ℤ) (at i k : ℕ) (c : Curve) {l′ : List ℤ} → l′ ≡ sets l at (boxesTo i k c) → length l′ ≡ length l
+kept l at i k c e = ap length e ∙ length-sets l at (boxesTo i k c)
+
+loop-holds : tie.Need-loop-holds Inv-loop μ-loop
+loop-holds c = (omega arith, refl)
+
+mul-place : tie.Need-mul-place Inv-loop μ-loop
+mul-place c = omega arith
+
+add-place : tie.Need-add-place Inv-loop μ-loop
+add-place c = omega arith
+
+box-at-requires : tie.Need-box-at-requires Inv-loop μ-loop
+box-at-requires c κs = let w = c .before .before .before .pre .1 in (w .sized, w .shallow, omega arith)
+
+put-box-requires : tie.Need-put-box-requires Inv-loop μ-loop
+put-box-requires c κs =
+    let l = c .before .before .before in
+    let a = l .before .args in
+    let e = kept (a .records .now) (a .at) (l .loop .i) (a .depth) (a .curve) (l .loop .inv .1) in
+    (omega arith, rw (c .box-at .ensures .0) (l .before .pre .1 .boxes (l .loop .i) (omega arith)))
+
+add-i : tie.Need-add-i Inv-loop μ-loop
+add-i c = omega arith
+
+loop-less : tie.Need-loop-less Inv-loop μ-loop
+loop-less c = omega arith
+
+loop-again : tie.Need-loop-again Inv-loop μ-loop
+loop-again c =
+    let l = c .before .before .before .before .before in
+    let a = l .before .args in
+    let i = l .loop .i in (
+      omega arith,
+      boxes-more (a .records .now) _ (a .at) i (a .depth) (a .curve)
+          (c .before .put-box .ensures ∙ ap (λ x. sets x (a .at + 4 * i) (boxNumbers (c .before .before .box-at .result))) (l .loop .inv .1)) (c .before .before .box-at .ensures .0),
+    )
+
+same-length : tie.Need-same-length Inv-loop μ-loop
+same-length c =
+    let a = c .before .before .args in
+    kept (a .records .now) (a .at) (c .before .loop .i) (a .depth) (a .curve) (c .before .loop .inv .1)
+
+returns : tie.Need-returns Inv-loop μ-loop
+returns c =
+    let a = c .before .before .args in
+    let e : c .before .loop .i ≡ 4 = omega arith in
+    c .before .loop .inv .1 ∙ ap (λ n. sets (a .records .now) (a .at) (boxesTo n (a .depth) (a .curve))) e
+
+pub put-boxes-spec : {M : Type 1} → statement M
+put-boxes-spec =
+    tie.close
+    (tie.spec
+    Inv-loop
+    μ-loop
+    loop-holds
+    mul-place
+    add-place
+    box-at-requires
+    put-box-requires
+    add-i
+    loop-less
+    loop-again
+    same-length
+    returns)
