@@ -1,11 +1,23 @@
 -- What the functions that write records ask: nothing here is part of a public promise.
+use mathlib.Core.Path.{_≡_}
+use mathlib.Core.Option.{none}
 use Prim.Native.Nat.{ℕ, _≤_, _<_, _^_}
+use lib.IntN.{ℤ, pos}
+use lib.Signed.{_≤ℤ_}
 use Rattle.bezier.specs.declared.Curve.{Curve}
 use Rattle.bezier.specs.Bounds.{Sized}
 use Rattle.enclosure.specs.Boxes.{Sides, boxAt}
+use Rattle.band.specs.Tree.{firstFailing}
+use Rattle.band.specs.Records.{nodeMeets, endsOf}
 
 -- the boxes of a curve at depth k can be had, and fit 32 bits
 pub record Writable (k : ℕ) (c : Curve) : Type 0 where
   pub sized : Sized k c
   pub shallow : k ≤ 8
   pub boxes : (i : ℕ) → i < 4 → Sides (2 ^ 29) (boxAt k c i)
+
+-- every end of the walk of curve c is a leaf at T
+pub record Ready (T : ℤ) (c : Curve) : Type 0 where
+  pub sized : Sized 0 c
+  pub small : T ≤ℤ pos (2 ^ 20)
+  pub passing : firstFailing (nodeMeets T c) (endsOf T c) ≡ none

@@ -1,5 +1,7 @@
 // Banding: the leaves of an outline at a tolerance, as records.
 mod records;
+mod walk;
+mod write;
 
 use refusals::Refusal;
 

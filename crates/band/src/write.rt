@@ -1,0 +1,33 @@
+// The second pass: the records of every leaf, written to the caller's list.
+ghost use mathlib.Core.Path.{_≡_};
+ghost use Prim.Native.Nat.{_+_, _*_, _≤_, _<_, _^_};
+ghost use lib.ListN.{length};
+ghost use lib.Seq.{sets};
+ghost use Rattle.band.specs.Records.{endsOf, recordsOf};
+ghost use Rattle.band.specs.Writing.{Ready};
+
+use bezier::Curve;
+use crate::records::put_record;
+
+// The records of a curve's leaves, from place `at` on. It returns the place after them.
+pub fn write_curve(records: &mut [i32], at: usize, number: u32, curve: Curve, t: i64) -> usize
+    requires { ⌜ (Ready t curve) × (number < 2 ^ 31) × (at + 18 * length (endsOf t curve) ≤ length (now records)) ⌝ }
+    ensures { λ r. ⌜ (r ≡ at + 18 * length (endsOf t curve)) × (now (records .exit) ≡ sets (now (records .entry)) at (recordsOf number curve (endsOf t curve))) ⌝ }
+{
+    let mut node: u32 = 1;
+    let mut place = at;
+    loop {
+        let part = bezier::node_curve(curve, node);
+        let depth = bezier::depth(node);
+        if enclosure::meets(part, depth, t) {
+            put_record(records, place, number, node, part);
+            place += 18;
+            node = bezier::after(node);
+            if node == 1 {
+                return place;
+            }
+        } else {
+            node = 2 * node;
+        }
+    }
+}
