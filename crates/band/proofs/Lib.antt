@@ -8,3 +8,4 @@ pub mod Failing
 pub mod Walking
 pub mod Rank
 pub mod Writing
+pub mod Recording

@@ -4,7 +4,6 @@ ghost use Prim.Native.Nat.{_<_};
 ghost use Rattle.bezier.specs.Bounds.{Sized};
 ghost use Rattle.band.specs.Records.{nodeMeets};
 ghost use Rattle.band.specs.Walked.{walkedOf};
-
 use bezier::Curve;
 
 // What the walk of a curve finds: how many leaves it has, or the first node at the last depth that does not meet the tolerance.

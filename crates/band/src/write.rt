@@ -5,9 +5,8 @@ ghost use lib.ListN.{length};
 ghost use lib.Seq.{sets};
 ghost use Rattle.band.specs.Records.{endsOf, recordsOf};
 ghost use Rattle.band.specs.Writing.{Ready};
-
-use bezier::Curve;
 use crate::records::put_record;
+use bezier::Curve;
 
 // The records of a curve's leaves, from place `at` on. It returns the place after them.
 pub fn write_curve(records: &mut [i32], at: usize, number: u32, curve: Curve, t: i64) -> usize

@@ -76,7 +76,7 @@ returns : tie.Need-returns Inv-loop μ-loop
 returns c =
     let s = c .before .before .before .before in
     rw (toZ-ofZ (s .before .fits .t)) at
-        (sym (counted-done (s .loop .inv) (sym (c .before .before .before .node-meets .ensures) ∙ c .before .before .if1 .taken) (sym (c .before .after .ensures) ∙ c .if2 .taken)))
+    (sym (counted-done (s .loop .inv) (sym (c .before .before .before .node-meets .ensures) ∙ c .before .before .if1 .taken) (sym (c .before .after .ensures) ∙ c .if2 .taken)))
 
 loop-less : tie.Need-loop-less Inv-loop μ-loop
 loop-less c =
