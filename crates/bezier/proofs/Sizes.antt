@@ -20,7 +20,7 @@ use Rattle.bezier.proofs.Numbers.{depth-one, depth-half, depth-under, n
 pub each-wider : {B C : ℕ} {cs : List ℤ} → B ≤ C → Each B cs → Each C cs
 each-wider l h = record { under = λ k. le-trans (h .under k) l }
 
-listed-under : (B n : ℕ) (f : ℕ → ℤ) → ((k : ℕ) → k < n → natAbs (f k) ≤ B) → (k : ℕ) → natAbs (entry (listed n f) k) ≤ B
+pub listed-under : (B n : ℕ) (f : ℕ → ℤ) → ((k : ℕ) → k < n → natAbs (f k) ≤ B) → (k : ℕ) → natAbs (entry (listed n f) k) ≤ B
 listed-under B zero f h k = zero-le
 listed-under B (suc n) f h zero = h 0 (omega arith)
 listed-under B (suc n) f h (suc k) = listed-under B n (λ i. f (suc i)) (λ i l. h (suc i) (omega arith)) k

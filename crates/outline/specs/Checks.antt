@@ -11,6 +11,12 @@ use Rattle.integers.specs.Entry.{entry}
 use Rattle.refusals.specs.declared.Refusal.{Refusal}
 use Rattle.refusals.specs.declared.Refusal.the-variants.{Tolerance, Degree, CutShort, Coordinate, TooManyCurves, EmptyOutline}
 use Rattle.bezier.specs.declared.Curve.{Curve}
+use Rattle.outline.specs.declared.Checked.{Checked}
+use Rattle.outline.specs.declared.Checked.the-variants.{Curves, Refused}
+use Rattle.outline.specs.declared.faults.Found.{Found}
+use Rattle.outline.specs.declared.faults.Found.the-variants.{At, Nothing as NotFound}
+use Rattle.outline.specs.declared.faults.Fault.{Fault}
+use Rattle.outline.specs.declared.faults.Fault.the-variants.{Is, Nothing as NoFault}
 use Rattle.outline.specs.Curves.{coordinates, degreeAt, nextAt, curveAt}
 
 -- from low to high
@@ -63,3 +69,16 @@ outlineFrom (suc left) ns at =
 unfoldable pub outlined : ℕ → List ℤ → Outlined
 outlined most [] = faulty EmptyOutline
 outlined most (z ∷ ns) = outlineFrom most (z ∷ ns) 0
+
+-- ---- the same as the code answers it
+abbrev pub foundOf : Option ℕ → Found
+foundOf (some i) = At i
+foundOf none = NotFound
+
+abbrev pub faultOf : Option Refusal → Fault
+faultOf (some r) = Is r
+faultOf none = NoFault
+
+abbrev pub checkedOf : Outlined → Checked
+checkedOf (curves cs) = Curves (length cs)
+checkedOf (faulty r) = Refused r

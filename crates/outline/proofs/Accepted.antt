@@ -1,0 +1,79 @@
+-- Accepted outlines: how many curves they have, and what holds of each: halving it has room in 64 bits, its degree is 1 to 3, zeros stand past it.
+use mathlib.Core.Path.{_≡_, refl}
+use mathlib.Core.List.{List, [], _∷_, List·Memᴰ, List·Memᴰ·head, List·Memᴰ·tail, List·Memᴰ·not-nil, List·Memᴰ·cases-cons}
+use mathlib.Core.Logic.{⊎-elim}
+use mathlib.Core.Option.{none}
+use Prim.Native.Nat.{ℕ, zero, suc, _-_, _≤_, _<_}
+use native.Mathlib.Nat.{not-suc-le-zero, le-of-suc-le-suc}
+use native.Mathlib.Omega.{arith}
+use lib.ListN.{length, getD}
+use lib.IntN.{ℤ}
+use Rattle.refusals.specs.declared.Refusal.{Refusal}
+use Rattle.bezier.specs.declared.Curve.{Curve}
+use Rattle.bezier.specs.Bounds.{Sized}
+use Rattle.outline.specs.declared.Checked.the-variants.{Curves, Refused}
+use Rattle.outline.specs.Curves.{nextAt, curveAt}
+use Rattle.outline.specs.Checks.{Outlined, curves, faulty, faultAt, outlineFrom, outlined, checkedOf}
+use Rattle.outline.proofs.Faultless.{Padded, faultless, curve-sized, curve-padded}
+use Rattle.outline.proofs.Steps.{outline-begins, outline-ends}
+
+-- ---- what holds of every curve without a fault holds of each curve of an accepted list
+module _ (P : Curve → Type 0) (ns : List ℤ) (rule : (at : ℕ) → faultAt ns at ≡ none → P (curveAt ns at)) where
+  pub each-head : (left at : ℕ) (c : Curve) (cs : List Curve) → outlineFrom left ns at ≡ curves (c ∷ cs) → P c
+  each-head left at c cs e = let b = outline-begins left ns at c cs e in rw (b .is) (rule at (b .no-fault))
+
+  pub each-member : (left at : ℕ) (cs : List Curve) → outlineFrom left ns at ≡ curves cs → (c : Curve) → List·Memᴰ c cs → P c
+  each-member left at [] e c m = absurd (List·Memᴰ·not-nil m)
+  each-member left at (d ∷ cs) e c m =
+      let b = outline-begins left ns at d cs e in
+      ⊎-elim (λ i. rw i (each-head left at d cs e)) (λ n. each-member (left - 1) (nextAt ns at) cs (b .rest) c n) (List·Memᴰ·cases-cons m)
+
+-- ---- how many there are
+pub accepted-count : (left : ℕ) (ns : List ℤ) (at : ℕ) (cs : List Curve) → outlineFrom left ns at ≡ curves cs → length cs ≤ left
+accepted-count left ns at [] e = omega arith
+accepted-count left ns at (c ∷ cs) e = let b = outline-begins left ns at c cs e in omega (arith, accepted-count (left - 1) ns (nextAt ns at) cs (b .rest))
+
+pub outlined-from : (most : ℕ) (ns : List ℤ) (cs : List Curve) → outlined most ns ≡ curves cs → outlineFrom most ns 0 ≡ curves cs
+unfolding outlined
+outlined-from most [] cs e = let z : _≡_ {A = ℕ} 0 1 = cc in absurd (omega arith)
+outlined-from most (z ∷ ns) cs e = e
+
+pub accepted-most : (most : ℕ) (ns : List ℤ) (cs : List Curve) → outlined most ns ≡ curves cs → length cs ≤ most
+accepted-most most ns cs e = accepted-count most ns 0 cs (outlined-from most ns cs e)
+
+pub accepted-some : (most : ℕ) (ns : List ℤ) (cs : List Curve) → outlined most ns ≡ curves cs → 1 ≤ length cs
+unfolding outlined
+accepted-some most [] cs e = let z : _≡_ {A = ℕ} 0 1 = cc in absurd (omega arith)
+accepted-some most (z ∷ ns) [] e = absurd (not-suc-le-zero (outline-ends most (z ∷ ns) 0 e))
+accepted-some most (z ∷ ns) (c ∷ cs) e = omega arith
+
+-- ---- halving has room, and the padding
+module _ (left : ℕ) (ns : List ℤ) (at : ℕ) where
+  pub accepted-head : (c : Curve) (cs : List Curve) → outlineFrom left ns at ≡ curves (c ∷ cs) → Sized 0 c
+  accepted-head c cs e = each-head (Sized 0) ns (λ i f. curve-sized (faultless ns i f)) left at c cs e
+
+  pub accepted-all : (cs : List Curve) → outlineFrom left ns at ≡ curves cs → (c : Curve) → List·Memᴰ c cs → Sized 0 c
+  accepted-all cs e = each-member (Sized 0) ns (λ i f. curve-sized (faultless ns i f)) left at cs e
+
+  pub accepted-padded : (cs : List Curve) → outlineFrom left ns at ≡ curves cs → (c : Curve) → List·Memᴰ c cs → Padded c
+  accepted-padded cs e = each-member Padded ns (λ i f. curve-padded ns i) left at cs e
+
+-- a curve by its number is a member
+pub member-at : (cs : List Curve) (k : ℕ) (other : Curve) → k < length cs → List·Memᴰ (getD cs k other) cs
+member-at [] k other h = absurd (not-suc-le-zero h)
+member-at (c ∷ cs) zero other h = List·Memᴰ·head refl
+member-at (c ∷ cs) (suc k) other h = List·Memᴰ·tail (member-at cs k other (le-of-suc-le-suc h))
+
+-- ---- what a caller of the checks learns from their answer
+pub record Accepted (o : Outlined) (n : ℕ) : Type 0 where
+  pub cs : List Curve
+  pub is : o ≡ curves cs
+  pub count : length cs ≡ n
+
+pub checked-curves : (o : Outlined) (n : ℕ) → checkedOf o ≡ Curves n → Accepted o n
+checked-curves (curves cs) n e = record { cs = cs; is = refl; count = cc }
+checked-curves (faulty r) n e = let z : _≡_ {A = ℕ} 0 1 = cc in absurd (omega arith)
+
+pub checked-refused : (o : Outlined) (r : Refusal) → checkedOf o ≡ Refused r → o ≡ faulty r
+checked-refused (curves cs) r e = let z : _≡_ {A = ℕ} 0 1 = cc in absurd (omega arith)
+checked-refused (faulty q) r e = cc

@@ -1,0 +1,104 @@
+-- The examples of document 01 that concern the checks of a tolerance and an outline, and more on the order of the checks, each by computation.
+use mathlib.Core.Path.{_≡_, refl}
+use mathlib.Core.Bool.{Bool, true, false}
+use mathlib.Core.List.{List, [], _∷_, _++_}
+use Prim.Native.Nat.{ℕ, zero, suc}
+use lib.ListN.{length}
+use lib.IntN.{ℤ, pos, negsuc, negℤ}
+use Rattle.refusals.specs.Refusals.{numberOf, spotOf}
+use Rattle.outline.specs.Curves.{curveAt}
+use Rattle.outline.specs.Checks.{Outlined, curves, faulty, toleranceFine, firstBeyond, faultAt, outlineFrom, outlined}
+
+-- the number and the spot of a refusal, or 0 and how many curves there are
+abbrev answer : Outlined → ℕ × ℕ
+answer (curves cs) = (0, length cs)
+answer (faulty r) = (numberOf r, spotOf r)
+
+abbrev check : List ℤ → ℕ × ℕ
+check ns = answer (outlined 64 ns)
+
+-- a line, and n of them
+abbrev line : List ℤ
+line = pos 1 ∷ pos 0 ∷ pos 0 ∷ pos 3 ∷ pos 4 ∷ []
+
+abbrev lines : ℕ → List ℤ
+lines zero = []
+lines (suc n) = line ++ lines n
+
+-- ---- 1
+pub tolerances : (toleranceFine (pos 2) ≡ true) × (toleranceFine (pos 1) ≡ false) × (toleranceFine (pos 1048576) ≡ true) × (toleranceFine (pos 1048577) ≡ false)
+tolerances = (refl, refl, refl, refl)
+
+pub least-tolerance : toleranceFine (negℤ (pos 2147483648)) ≡ false
+least-tolerance = refl
+
+-- ---- 6: an empty list, even where no curve may stand
+pub empty : check [] ≡ (6, 0)
+unfolding outlined
+empty = refl
+
+pub empty-none-allowed : answer (outlined 0 []) ≡ (6, 0)
+unfolding outlined
+empty-none-allowed = refl
+
+-- ---- 2: the degree, before anything that follows it
+pub degree-four : check (pos 4 ∷ []) ≡ (2, 0)
+unfolding outlined outlineFrom faultAt
+degree-four = refl
+
+pub degree-minus-one : check (negsuc 0 ∷ pos 0 ∷ pos 0 ∷ pos 1 ∷ pos 1 ∷ []) ≡ (2, 0)
+unfolding outlined outlineFrom faultAt
+degree-minus-one = refl
+
+-- ---- 3: the list ends inside a curve, before the coordinates that are there are looked at
+pub cut-short : check (pos 3 ∷ pos 1048577 ∷ pos 0 ∷ []) ≡ (3, 3)
+unfolding outlined outlineFrom faultAt
+cut-short = refl
+
+pub second-cut-short : check (line ++ (pos 1 ∷ pos 0 ∷ [])) ≡ (3, 7)
+unfolding outlined outlineFrom faultAt firstBeyond
+second-cut-short = refl
+
+-- ---- 4: a coordinate, before the next curve's degree
+pub farthest : check (pos 1 ∷ pos 1048576 ∷ negℤ (pos 1048576) ∷ pos 0 ∷ pos 0 ∷ []) ≡ (0, 1)
+unfolding outlined outlineFrom faultAt firstBeyond
+farthest = refl
+
+pub beyond : check (pos 1 ∷ pos 1048577 ∷ pos 0 ∷ pos 0 ∷ pos 0 ∷ pos 7 ∷ []) ≡ (4, 1)
+unfolding outlined outlineFrom faultAt firstBeyond
+beyond = refl
+
+pub beyond-below : check (line ++ (pos 1 ∷ pos 0 ∷ pos 0 ∷ pos 0 ∷ negℤ (pos 1048577) ∷ [])) ≡ (4, 9)
+unfolding outlined outlineFrom faultAt firstBeyond
+beyond-below = refl
+
+pub next-degree : check (line ++ (pos 7 ∷ [])) ≡ (2, 5)
+unfolding outlined outlineFrom faultAt firstBeyond
+next-degree = refl
+
+-- ---- 5: a curve too many begins, whatever its degree
+pub most-curves : check (lines 64) ≡ (0, 64)
+unfolding outlined outlineFrom faultAt firstBeyond
+most-curves = refl
+
+pub one-more : check (lines 64 ++ (pos 9 ∷ [])) ≡ (5, 320)
+unfolding outlined outlineFrom faultAt firstBeyond
+one-more = refl
+
+pub none-allowed : answer (outlined 0 (pos 9 ∷ [])) ≡ (5, 0)
+unfolding outlined outlineFrom
+none-allowed = refl
+
+-- ---- what is read: document 01's curve A, and a curve of degree 2, padded
+abbrev curve-a : List ℤ
+curve-a = pos 3 ∷ pos 0 ∷ pos 0 ∷ pos 10 ∷ pos 30 ∷ pos 20 ∷ pos 30 ∷ pos 30 ∷ pos 0 ∷ []
+
+abbrev arch : List ℤ
+arch = pos 2 ∷ pos 1 ∷ pos 0 ∷ pos 2 ∷ pos 18 ∷ pos 3 ∷ pos 0 ∷ []
+
+pub read : outlined 64 (curve-a ++ arch) ≡ curves (
+    record { degree = 3; x = pos 0 ∷ pos 10 ∷ pos 20 ∷ pos 30 ∷ []; y = pos 0 ∷ pos 30 ∷ pos 30 ∷ pos 0 ∷ [] }
+    ∷ record { degree = 2; x = pos 1 ∷ pos 2 ∷ pos 3 ∷ pos 0 ∷ []; y = pos 0 ∷ pos 18 ∷ pos 0 ∷ pos 0 ∷ [] }
+    ∷ [])
+unfolding outlined outlineFrom faultAt firstBeyond curveAt
+read = refl

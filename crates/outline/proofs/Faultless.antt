@@ -1,0 +1,122 @@
+-- What a curve without a fault has: a degree from 1 to 3, all of its coordinates, and each of these within 2^20.
+use mathlib.Core.Path.{_≡_, refl, sym, _∙_, ap, subst}
+use mathlib.Core.Bool.{Bool, true, false, cond}
+use mathlib.Core.List.{List}
+use mathlib.Core.Option.{Option, none, some}
+use Prim.Native.Nat.{ℕ, zero, suc, _+_, _-_, _*_, _^_, _≤_, _<_, zero-le}
+use native.Mathlib.Nat.{le-of-eq, add-zero, mul-zero}
+use native.Mathlib.Omega.{arith}
+use borrow.Author.Tests.{lt-ltb, le-ltb, ltb-false, leb-true, lt-leb}
+use lib.Dec.{T, leb, ltb, lit≤}
+use lib.ListN.{length}
+use lib.IntN.{ℤ, pos, negsuc, negℤ, natAbs}
+use lib.Signed.{_≤ℤ_}
+use Rattle.integers.specs.Entry.{entry}
+use Rattle.integers.proofs.Order.{NonNeg, nonneg, ≤ℤ-trans, pos-le, le-pos}
+use Rattle.integers.proofs.Size.{abs-within}
+use Rattle.refusals.specs.declared.Refusal.{Refusal}
+use Rattle.refusals.specs.declared.Refusal.the-variants.{Degree, CutShort, Coordinate}
+use Rattle.bezier.specs.declared.Curve.{Curve}
+use Rattle.bezier.specs.Halves.{listed}
+use Rattle.bezier.specs.Bounds.{Each, Sized}
+use Rattle.bezier.proofs.Sizes.{listed-under}
+use Rattle.outline.specs.Curves.{coordinates, degreeAt, nextAt, values, curveAt}
+use Rattle.outline.specs.declared.faults.Found.{Found}
+use Rattle.outline.specs.declared.faults.Found.the-variants.{At, Nothing as NotFound}
+use Rattle.outline.specs.declared.faults.Fault.{Fault}
+use Rattle.outline.specs.declared.faults.Fault.the-variants.{Is, Nothing as NoFault}
+use Rattle.outline.specs.Checks.{between, coordinateFine, firstBeyond, faultAt, foundOf, faultOf}
+use Rattle.outline.proofs.Between.{between-low, between-high}
+use Rattle.outline.proofs.Beyond.{none-beyond}
+use Rattle.outline.proofs.Degrees.{degree-least, degree-most}
+
+-- ---- the checks one after the other; the last as the code has its answer
+abbrev pub coordinateFault : Found → Fault
+coordinateFault (At i) = Is (Coordinate i)
+coordinateFault NotFound = NoFault
+
+module _ (ns : List ℤ) (at : ℕ) where
+  pub fault-degree : between (pos 1) (pos 3) (entry ns at) ≡ false → faultAt ns at ≡ some (Degree at)
+  unfolding faultAt
+  fault-degree e = rw (faultAt, e)
+
+  pub fault-cut-short : between (pos 1) (pos 3) (entry ns at) ≡ true → length ns < nextAt ns at → faultAt ns at ≡ some (CutShort (length ns))
+  unfolding faultAt
+  fault-cut-short e h = rw (faultAt, e, lt-ltb (length ns) (nextAt ns at) h)
+
+  pub fault-coordinate : between (pos 1) (pos 3) (entry ns at) ≡ true → nextAt ns at ≤ length ns
+      → faultOf (faultAt ns at) ≡ coordinateFault (foundOf (firstBeyond ns (nextAt ns at - (at + 1)) (at + 1)))
+  unfolding faultAt
+  fault-coordinate e h =
+      let n : nextAt ns at - (at + 1) ≡ coordinates (degreeAt ns at) = omega arith in
+      rw (n, faultAt, e, le-ltb (length ns) (nextAt ns at) h) (answered (firstBeyond ns (coordinates (degreeAt ns at)) (at + 1)))
+    where
+      answered : (o : Option ℕ) → faultOf (elim o [ some i ↦ some (Coordinate i) | none ↦ none ]) ≡ coordinateFault (foundOf o)
+      answered none = refl
+      answered (some i) = refl
+
+-- ---- no fault: the three checks passed
+pub record Faultless (ns : List ℤ) (at : ℕ) : Type 0 where
+  pub degree : between (pos 1) (pos 3) (entry ns at) ≡ true
+  pub ends : nextAt ns at ≤ length ns
+  pub fine : (k : ℕ) → k < coordinates (degreeAt ns at) → coordinateFine (entry ns (at + 1 + k)) ≡ true
+
+clear : (b l : Bool) (o : Option ℕ) (i n : ℕ)
+    → _≡_ {A = Option Refusal} (elim b [ false ↦ some (Degree i) | true ↦ elim l [ true ↦ some (CutShort n) | false ↦ elim o [ some j ↦ some (Coordinate j) | none ↦ none ] ] ]) none
+    → (b ≡ true) × (l ≡ false) × (o ≡ none)
+clear true false none i n e = (refl, refl, refl)
+clear true false (some j) i n e = let z : _≡_ {A = ℕ} 0 1 = cc in absurd (omega arith)
+clear true true o i n e = let z : _≡_ {A = ℕ} 0 1 = cc in absurd (omega arith)
+clear false l o i n e = let z : _≡_ {A = ℕ} 0 1 = cc in absurd (omega arith)
+
+pub faultless : (ns : List ℤ) (at : ℕ) → faultAt ns at ≡ none → Faultless ns at
+unfolding faultAt
+faultless ns at e =
+    let d = degreeAt ns at in
+    let s = clear (between (pos 1) (pos 3) (entry ns at)) (ltb (length ns) (nextAt ns at)) (firstBeyond ns (coordinates d) (at + 1)) at (length ns) e in
+    record { degree = s .0; ends = ltb-false (length ns) (nextAt ns at) (s .1); fine = none-beyond ns (coordinates d) (at + 1) (s .2) }
+
+-- ---- its degree, its end, and its control values
+-- number k of a coordinate, as `values` lists it
+abbrev pub valueAt : List ℤ → ℕ → ℕ → ℕ → ℤ
+valueAt ns d i k = cond (leb k d) (entry ns (i + 2 * k)) (pos 0)
+
+abbrev farthest : ℕ
+farthest = 1048576
+
+module _ {ns : List ℤ} {at : ℕ} (f : Faultless ns at) where
+  -- i is 1 for x and 2 for y
+  value-small : (i k : ℕ) → 1 ≤ i → i ≤ 2 → natAbs (valueAt ns (degreeAt ns at) (at + i) k) ≤ 2 ^ 20
+  value-small i k l h = go (leb k (degreeAt ns at)) refl
+    where
+      go : (b : Bool) → leb k (degreeAt ns at) ≡ b → natAbs (cond b (entry ns (at + i + 2 * k)) (pos 0)) ≤ 2 ^ 20
+      go true e =
+          let place : at + 1 + (2 * k + (i - 1)) ≡ at + i + 2 * k = omega arith in
+          let z = entry ns (at + 1 + (2 * k + (i - 1))) in
+          let fine = f .fine (2 * k + (i - 1)) (omega (arith, leb-true k (degreeAt ns at) e)) in
+          rw (← place) (abs-within farthest z (between-low (negℤ (pos farthest)) (pos farthest) z fine) (between-high (negℤ (pos farthest)) (pos farthest) z fine))
+      go false e = zero-le
+
+  values-small : (i : ℕ) → 1 ≤ i → i ≤ 2 → Each (2 ^ 20 * 2 ^ (degreeAt ns at * 0)) (values ns (degreeAt ns at) (at + i))
+  values-small i l h = rw (mul-zero (degreeAt ns at)) (record { under = listed-under (2 ^ 20) 4 (valueAt ns (degreeAt ns at) (at + i)) (λ k m. value-small i k l h) })
+
+  pub curve-sized : Sized 0 (curveAt ns at)
+  unfolding curveAt
+  curve-sized = record { least = degree-least ns at (f .degree); most = degree-most ns at (f .degree); x = values-small 1 (lit≤ tt) (lit≤ tt); y = values-small 2 (lit≤ tt) (lit≤ tt) }
+
+-- ---- past the degree stand zeros, fault or not
+pub record Padded (c : Curve) : Type 0 where
+  pub x : (k : ℕ) → c .degree < k → entry (c .x) k ≡ pos 0
+  pub y : (k : ℕ) → c .degree < k → entry (c .y) k ≡ pos 0
+
+listed-zero : (n : ℕ) (f : ℕ → ℤ) (k : ℕ) → f k ≡ pos 0 → entry (listed n f) k ≡ pos 0
+listed-zero zero f k e = refl
+listed-zero (suc n) f zero e = e
+listed-zero (suc n) f (suc k) e = listed-zero n (λ j. f (suc j)) k e
+
+past-degree : (ns : List ℤ) (d i k : ℕ) → d < k → entry (values ns d i) k ≡ pos 0
+past-degree ns d i k h = listed-zero 4 (valueAt ns d i) k (rw (lt-leb k d h))
+
+pub curve-padded : (ns : List ℤ) (at : ℕ) → Padded (curveAt ns at)
+unfolding curveAt
+curve-padded ns at = record { x = past-degree ns (degreeAt ns at) (at + 1); y = past-degree ns (degreeAt ns at) (at + 2) }

@@ -1,0 +1,88 @@
+-- `outline::faults::fault_at` meets its contract: each return is one of the checks 2, 3 and 4.
+use mathlib.Core.Path.{_≡_, sym, _∙_, ap}
+use mathlib.Core.Bool.{true}
+use lib.IntN.{pos}
+use borrow.Author.Needs.{needs}
+use Rattle.integers.specs.Entry.{entry}
+use Rattle.outline.specs.Checks.{between, faultAt, faultOf}
+use Rattle.outline.proofs.Between.{element-fits, found-below, found-above, found-within}
+use Rattle.outline.proofs.Faultless.{fault-degree, fault-cut-short, fault-coordinate, coordinateFault}
+use Rattle.outline.proofs.faults.fault_at.Statement.{statement}
+use Rattle.outline.proofs.faults.fault_at.Tie as tie
+
+mul-d : tie.Need-mul-d
+mul-d c = search needs
+
+shared-slice-copy-out-d : tie.Need-shared-slice-copy-out-d
+shared-slice-copy-out-d c = search needs
+
+returns : tie.Need-returns
+returns c =
+    let ns = c .before .before .args .ns .now in
+    let at = c .before .before .args .at in
+    sym (ap faultOf (fault-degree ns at (found-below (element-fits ns at (c .before .d .given)) (pos 1) (pos 3) (c .if1 .taken))))
+
+returns-2 : tie.Need-returns-2
+returns-2 c =
+    let ns = c .before .before .before .args .ns .now in
+    let at = c .before .before .before .args .at in
+    sym (ap faultOf (fault-degree ns at (found-above (element-fits ns at (c .before .before .d .given)) (pos 1) (pos 3) (c .if2 .taken))))
+
+-- past the first check
+degree-fine : (c : tie.Else2) → between (pos 1) (pos 3) (entry (c .before .before .before .args .ns .now) (c .before .before .before .args .at)) ≡ true
+degree-fine c =
+    let ns = c .before .before .before .args .ns .now in
+    let at = c .before .before .before .args .at in
+    found-within (element-fits ns at (c .before .before .d .given)) (pos 1) (pos 3) (c .before .if1 .left) (c .if2 .left)
+
+next-at-requires : tie.Need-next-at-requires
+next-at-requires c κs = degree-fine c
+
+returns-3 : tie.Need-returns-3
+returns-3 c =
+    let ns = c .before .before .before .before .before .args .ns .now in
+    let at = c .before .before .before .before .before .args .at in
+    sym (ap faultOf (fault-cut-short ns at (degree-fine (c .before .before)) (rw (c .before .next-at .ensures) at (c .if3 .taken))))
+
+add-first-beyond : tie.Need-add-first-beyond
+add-first-beyond c = search needs
+
+first-beyond-requires : tie.Need-first-beyond-requires
+first-beyond-requires c κs = search needs
+
+enum-known-i : tie.Need-enum-known-i
+enum-known-i c = search needs
+
+enum-told : tie.Need-enum-told
+enum-told c = search needs
+
+-- past the second: what the search for a coordinate found decides
+last-check : (c : tie.After-first-beyond) → faultOf (faultAt (c .before .before .before .before .before .before .args .ns .now) (c .before .before .before .before .before .before .args .at)) ≡ coordinateFault (c .first-beyond .result)
+last-check c =
+    let ns = c .before .before .before .before .before .before .args .ns .now in
+    let at = c .before .before .before .before .before .before .args .at in
+    let next = c .before .before .next-at .ensures in
+    fault-coordinate ns at (degree-fine (c .before .before .before)) (rw next at (c .before .if3 .left)) ∙ ap coordinateFault (sym (rw next at (c .first-beyond .ensures)))
+
+returns-4 : tie.Need-returns-4
+returns-4 c = sym (last-check (c .before .before .before) ∙ ap coordinateFault (c .before .i .given .1))
+
+returns-5 : tie.Need-returns-5
+returns-5 c = sym (last-check (c .before .before) ∙ ap coordinateFault (c .enum-told .given .1))
+
+pub fault-at-spec : {M : Type 1} → statement M
+fault-at-spec =
+    tie.close
+    (tie.spec
+    mul-d
+    shared-slice-copy-out-d
+    returns
+    returns-2
+    next-at-requires
+    returns-3
+    add-first-beyond
+    first-beyond-requires
+    enum-known-i
+    enum-told
+    returns-4
+    returns-5)
