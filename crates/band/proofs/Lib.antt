@@ -9,3 +9,4 @@ pub mod Walking
 pub mod Rank
 pub mod Writing
 pub mod Recording
+pub mod Outlines

@@ -1,4 +1,5 @@
 // Banding: the leaves of an outline at a tolerance, as records.
+mod count;
 mod records;
 mod walk;
 mod write;
