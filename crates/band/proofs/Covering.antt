@@ -50,6 +50,7 @@ module _ (p r : ℕ) where
         (λ i. let m = r (omega arith) i in (m .0, Memᴰ·append-right ls (m .1), m .2))
         (in-half n hn h))
 
+    -- p and r may even both be 0
     pub some-end-covers : (k : ℕ) → (n : ℕ) × List·Memᴰ n (ends test k 1) × Covers n p r
     some-end-covers k = covered k 1 (omega arith) covers-one
 
@@ -100,11 +101,11 @@ behind : {s w t u : ℕ} (xs : List ℕ) (n : ℕ) (ys : List ℕ) → EndToEnd 
 behind [] n ys (next c cs) = cs
 behind (x ∷ xs) n ys (next c cs) = behind xs n ys cs
 
--- a fraction is at most another if one more than it, over a third denominator, is
+-- s / w is at most b / y where it is a / x and even (a + 1) / x is at most b / y
 at-most : (s w a x b y : ℕ) → 0 < x → s * x ≡ a * w → (a + 1) * y ≤ b * x → s * y ≤ b * w
 at-most s w a x b y h e l = le-of-mul-le-mul-right (omega (arith, ap (λ z. z * y) e, mul-le-mul-right w l)) h
 
--- they begin no later than any of them does
+-- they begin no later than each of them does
 ahead : {s w t u : ℕ} (xs : List ℕ) (n : ℕ) (ys : List ℕ) → EndToEnd s w (xs ++ n ∷ ys) t u → s * 2 ^ depth n ≤ start n * w
 ahead [] n ys c = le-of-eq (begins c)
 ahead {s} {w} (x ∷ xs) n ys (next c cs) = at-most s w (start x) (2 ^ depth x) (start n) (2 ^ depth n) (pow-pos (depth x)) c (ahead xs n ys cs)

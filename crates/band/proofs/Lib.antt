@@ -10,3 +10,4 @@ pub mod Rank
 pub mod Writing
 pub mod Recording
 pub mod Outlines
+pub mod Passes
