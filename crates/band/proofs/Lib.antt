@@ -11,3 +11,4 @@ pub mod Writing
 pub mod Recording
 pub mod Outlines
 pub mod Passes
+pub mod Filling

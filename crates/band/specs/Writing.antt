@@ -1,7 +1,8 @@
 -- What the functions that write records ask: nothing here is part of a public promise.
 use mathlib.Core.Path.{_≡_}
+use mathlib.Core.List.{List}
 use mathlib.Core.Option.{none}
-use Prim.Native.Nat.{ℕ, _≤_, _<_, _^_}
+use Prim.Native.Nat.{ℕ, _*_, _≤_, _<_, _^_}
 use lib.IntN.{ℤ, pos}
 use lib.Signed.{_≤ℤ_}
 use Rattle.bezier.specs.declared.Curve.{Curve}
@@ -9,6 +10,8 @@ use Rattle.bezier.specs.Bounds.{Sized}
 use Rattle.enclosure.specs.Boxes.{Sides, boxAt}
 use Rattle.band.specs.Tree.{firstFailing}
 use Rattle.band.specs.Records.{nodeMeets, endsOf}
+use Rattle.band.specs.Banding.{firstTooWide, leavesOf}
+use Rattle.band.specs.Counted.{Readable}
 
 -- the boxes of a curve at depth k can be had, and fit 32 bits
 pub record Writable (k : ℕ) (c : Curve) : Type 0 where
@@ -21,3 +24,10 @@ pub record Ready (T : ℤ) (c : Curve) : Type 0 where
   pub sized : Sized 0 c
   pub small : T ≤ℤ pos (2 ^ 20)
   pub passing : firstFailing (nodeMeets T c) (endsOf T c) ≡ none
+
+-- every leaf of the n curves of an outline has its place in a list of `room` numbers
+pub record Fillable (T : ℤ) (ns : List ℤ) (n room : ℕ) : Type 0 where
+  pub readable : Readable ns n
+  pub small : T ≤ℤ pos (2 ^ 20)
+  pub passing : firstTooWide T 0 (readable .all) ≡ none
+  pub enough : 18 * leavesOf T (readable .all) ≤ room

@@ -3,8 +3,10 @@ ghost use mathlib.Core.Path.{_≡_};
 ghost use Prim.Native.Nat.{_+_, _*_, _≤_, _<_, _^_};
 ghost use lib.ListN.{length};
 ghost use lib.Seq.{sets};
-ghost use Rattle.band.specs.Records.{endsOf, recordsOf};
-ghost use Rattle.band.specs.Writing.{Ready};
+ghost use Rattle.outline.specs.Checks.{outlineFrom};
+ghost use Rattle.band.specs.Records.{endsOf, recordsOf, allRecords};
+ghost use Rattle.band.specs.Banding.{curvesOf};
+ghost use Rattle.band.specs.Writing.{Ready, Fillable};
 use crate::records::put_record;
 use bezier::Curve;
 
@@ -28,5 +30,20 @@ pub fn write_curve(records: &mut [i32], at: usize, number: u32, curve: Curve, t:
         } else {
             node = 2 * node;
         }
+    }
+}
+
+// The records of every leaf of an outline, from the front of the list on.
+pub fn write_all(records: &mut [i32], ns: &[i32], t: i64, curves: usize)
+    requires { ⌜ Fillable t (now ns) curves (length (now records)) ⌝ }
+    ensures { λ _. ⌜ now (records .exit) ≡ sets (now (records .entry)) 0 (allRecords t 0 (curvesOf (outlineFrom curves (now (ns .entry)) 0))) ⌝ }
+{
+    let mut at: usize = 0;
+    let mut place: usize = 0;
+    let mut k: usize = 0;
+    while k < curves {
+        place = write_curve(records, place, k as u32, outline::curve_at(ns, at), t);
+        at = outline::next_at(ns, at);
+        k += 1;
     }
 }
