@@ -46,3 +46,9 @@ pub nodes-of-curves : (T : ℤ) (cs : List Curve) → nodesOf T cs + length cs �
 unfolding nodesOf leavesOf
 nodes-of-curves T [] = refl
 nodes-of-curves T (c ∷ cs) = omega (arith, nodes-met (nodeMeets T c) deepest 1, nodes-of-curves T cs)
+
+-- at most 256 leaves a curve
+pub few-leaves : (T : ℤ) (cs : List Curve) → leavesOf T cs ≤ 2 ^ deepest * length cs
+unfolding leavesOf
+few-leaves T [] = omega arith
+few-leaves T (c ∷ cs) = omega (arith, few-ends (nodeMeets T c) deepest 1, few-leaves T cs)

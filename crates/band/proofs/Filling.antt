@@ -24,7 +24,7 @@ use Rattle.band.proofs.Writing.{sets-append}
 use Rattle.band.proofs.Recording.{records-length}
 
 -- where no curve is too wide, neither is the first, nor those behind it
-none-wide : (o : Option ℕ) (k : ℕ) (rest : Option Refusal) 
+none-wide : (o : Option ℕ) (k : ℕ) (rest : Option Refusal)
     → _≡_ {A = Option Refusal} (elim o [ some n ↦ some (TooWide k n) | none ↦ rest ]) none → (o ≡ none) × (rest ≡ none)
 none-wide none k rest e = (refl, e)
 none-wide (some n) k rest e = let z : _≡_ {A = ℕ} 0 1 = cc in absurd (omega arith)

@@ -12,3 +12,4 @@ pub mod Recording
 pub mod Outlines
 pub mod Passes
 pub mod Filling
+pub mod Answers

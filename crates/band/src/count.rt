@@ -3,8 +3,8 @@ ghost use mathlib.Core.Path.{_≡_};
 ghost use Rattle.outline.specs.Checks.{outlineFrom};
 ghost use Rattle.band.specs.Banding.{curvesOf};
 ghost use Rattle.band.specs.Counted.{Readable, countedOf};
-
-use crate::walk::{Walked, walk};
+use crate::walk::Walked;
+use crate::walk::walk;
 use refusals::Refusal;
 
 // What the first pass finds.
@@ -24,7 +24,10 @@ pub fn count(ns: &[i32], t: i64, curves: usize) -> Counted
     while k < curves {
         match walk(outline::curve_at(ns, at), t) {
             Walked::TooWide(node) => {
-                return Counted::Refused(Refusal::TooWide { curve: k as u32, node });
+                return Counted::Refused(Refusal::TooWide {
+                    curve: k as u32,
+                    node,
+                });
             }
             Walked::Leaves(n) => {
                 leaves += n;

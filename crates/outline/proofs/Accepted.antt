@@ -14,6 +14,7 @@ use Rattle.bezier.specs.Bounds.{Sized}
 use Rattle.outline.specs.declared.Checked.the-variants.{Curves, Refused}
 use Rattle.outline.specs.Curves.{nextAt, curveAt}
 use Rattle.outline.specs.Checks.{Outlined, curves, faulty, faultAt, outlineFrom, outlined, checkedOf}
+use Rattle.outline.proofs.Clash.{clash}
 use Rattle.outline.proofs.Faultless.{Padded, faultless, curve-sized, curve-padded}
 use Rattle.outline.proofs.Steps.{outline-begins, outline-ends}
 
@@ -35,7 +36,7 @@ accepted-count left ns at (c ∷ cs) e = let b = outline-begins left ns at c cs 
 
 pub outlined-from : (most : ℕ) (ns : List ℤ) (cs : List Curve) → outlined most ns ≡ curves cs → outlineFrom most ns 0 ≡ curves cs
 unfolding outlined
-outlined-from most [] cs e = let z : _≡_ {A = ℕ} 0 1 = cc in absurd (omega arith)
+outlined-from most [] cs e = clash (cc)
 outlined-from most (z ∷ ns) cs e = e
 
 pub accepted-most : (most : ℕ) (ns : List ℤ) (cs : List Curve) → outlined most ns ≡ curves cs → length cs ≤ most
@@ -43,7 +44,7 @@ accepted-most most ns cs e = accepted-count most ns 0 cs (outlined-from most ns 
 
 pub accepted-some : (most : ℕ) (ns : List ℤ) (cs : List Curve) → outlined most ns ≡ curves cs → 1 ≤ length cs
 unfolding outlined
-accepted-some most [] cs e = let z : _≡_ {A = ℕ} 0 1 = cc in absurd (omega arith)
+accepted-some most [] cs e = clash (cc)
 accepted-some most (z ∷ ns) [] e = absurd (not-suc-le-zero (outline-ends most (z ∷ ns) 0 e))
 accepted-some most (z ∷ ns) (c ∷ cs) e = omega arith
 
@@ -72,8 +73,8 @@ pub record Accepted (o : Outlined) (n : ℕ) : Type 0 where
 
 pub checked-curves : (o : Outlined) (n : ℕ) → checkedOf o ≡ Curves n → Accepted o n
 checked-curves (curves cs) n e = record { cs = cs; is = refl; count = cc }
-checked-curves (faulty r) n e = let z : _≡_ {A = ℕ} 0 1 = cc in absurd (omega arith)
+checked-curves (faulty r) n e = clash (cc)
 
 pub checked-refused : (o : Outlined) (r : Refusal) → checkedOf o ≡ Refused r → o ≡ faulty r
-checked-refused (curves cs) r e = let z : _≡_ {A = ℕ} 0 1 = cc in absurd (omega arith)
+checked-refused (curves cs) r e = clash (cc)
 checked-refused (faulty q) r e = cc

@@ -1,5 +1,5 @@
 -- The search for the first number beyond a coordinate's range, from index i up to an end, one index at a time; and what it says where it finds none.
-use mathlib.Core.Path.{_≡_, refl, _∙_, ap}
+use mathlib.Core.Path.{_≡_, refl}
 use mathlib.Core.Bool.{Bool, true, false}
 use mathlib.Core.List.{List}
 use mathlib.Core.Option.{Option, none, some}
@@ -9,6 +9,7 @@ use native.Mathlib.Omega.{arith}
 use lib.IntN.{ℤ}
 use Rattle.integers.specs.Entry.{entry}
 use Rattle.outline.specs.Checks.{coordinateFine, firstBeyond}
+use Rattle.outline.proofs.Clash.{clash}
 
 module _ (ns : List ℤ) (end i : ℕ) where
   pub beyond-ended : end ≤ i → firstBeyond ns (end - i) i ≡ none
@@ -26,7 +27,7 @@ module _ (ns : List ℤ) (end i : ℕ) where
 -- ---- none of n numbers from index i on is beyond the range
 passed : (b : Bool) (i : ℕ) (o : Option ℕ) → _≡_ {A = Option ℕ} (elim b [ true ↦ o | false ↦ some i ]) none → (b ≡ true) × (o ≡ none)
 passed true i o e = (refl, e)
-passed false i o e = let z : _≡_ {A = ℕ} 0 1 = cc in absurd (omega arith)
+passed false i o e = clash (cc)
 
 pub none-beyond : (ns : List ℤ) (n i : ℕ) → firstBeyond ns n i ≡ none → (k : ℕ) → k < n → coordinateFine (entry ns (i + k)) ≡ true
 unfolding firstBeyond

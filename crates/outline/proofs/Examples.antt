@@ -1,6 +1,6 @@
 -- The examples of document 01 that concern the checks of a tolerance and an outline, and more on the order of the checks, each by computation.
 use mathlib.Core.Path.{_≡_, refl}
-use mathlib.Core.Bool.{Bool, true, false}
+use mathlib.Core.Bool.{true, false}
 use mathlib.Core.List.{List, [], _∷_, _++_}
 use Prim.Native.Nat.{ℕ, zero, suc}
 use lib.ListN.{length}
@@ -26,11 +26,14 @@ lines zero = []
 lines (suc n) = line ++ lines n
 
 -- ---- 1
-pub tolerances : (toleranceFine (pos 2) ≡ true) × (toleranceFine (pos 1) ≡ false) × (toleranceFine (pos 1048576) ≡ true) × (toleranceFine (pos 1048577) ≡ false)
-tolerances = (refl, refl, refl, refl)
+pub least-tolerance : (toleranceFine (pos 2) ≡ true) × (toleranceFine (pos 1) ≡ false)
+least-tolerance = (refl, refl)
 
-pub least-tolerance : toleranceFine (negℤ (pos 2147483648)) ≡ false
-least-tolerance = refl
+pub greatest-tolerance : (toleranceFine (pos 1048576) ≡ true) × (toleranceFine (pos 1048577) ≡ false)
+greatest-tolerance = (refl, refl)
+
+pub least-number : toleranceFine (negℤ (pos 2147483648)) ≡ false
+least-number = refl
 
 -- ---- 6: an empty list, even where no curve may stand
 pub empty : check [] ≡ (6, 0)

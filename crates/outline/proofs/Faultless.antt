@@ -1,18 +1,17 @@
--- What a curve without a fault has: a degree from 1 to 3, all of its coordinates, and each of these within 2^20.
-use mathlib.Core.Path.{_≡_, refl, sym, _∙_, ap, subst}
+-- The faults of one curve, check by check, and what a curve without a fault has: a degree from 1 to 3, all of its coordinates, and each of these
+-- within 2^20.
+use mathlib.Core.Path.{_≡_, refl}
 use mathlib.Core.Bool.{Bool, true, false, cond}
 use mathlib.Core.List.{List}
 use mathlib.Core.Option.{Option, none, some}
 use Prim.Native.Nat.{ℕ, zero, suc, _+_, _-_, _*_, _^_, _≤_, _<_, zero-le}
-use native.Mathlib.Nat.{le-of-eq, add-zero, mul-zero}
+use native.Mathlib.Nat.{mul-zero}
 use native.Mathlib.Omega.{arith}
 use borrow.Author.Tests.{lt-ltb, le-ltb, ltb-false, leb-true, lt-leb}
-use lib.Dec.{T, leb, ltb, lit≤}
+use lib.Dec.{leb, ltb, lit≤}
 use lib.ListN.{length}
-use lib.IntN.{ℤ, pos, negsuc, negℤ, natAbs}
-use lib.Signed.{_≤ℤ_}
+use lib.IntN.{ℤ, pos, negℤ, natAbs}
 use Rattle.integers.specs.Entry.{entry}
-use Rattle.integers.proofs.Order.{NonNeg, nonneg, ≤ℤ-trans, pos-le, le-pos}
 use Rattle.integers.proofs.Size.{abs-within}
 use Rattle.refusals.specs.declared.Refusal.{Refusal}
 use Rattle.refusals.specs.declared.Refusal.the-variants.{Degree, CutShort, Coordinate}
@@ -26,6 +25,7 @@ use Rattle.outline.specs.declared.faults.Found.the-variants.{At, Nothing
 use Rattle.outline.specs.declared.faults.Fault.{Fault}
 use Rattle.outline.specs.declared.faults.Fault.the-variants.{Is, Nothing as NoFault}
 use Rattle.outline.specs.Checks.{between, coordinateFine, firstBeyond, faultAt, foundOf, faultOf}
+use Rattle.outline.proofs.Clash.{clash}
 use Rattle.outline.proofs.Between.{between-low, between-high}
 use Rattle.outline.proofs.Beyond.{none-beyond}
 use Rattle.outline.proofs.Degrees.{degree-least, degree-most}
@@ -62,12 +62,15 @@ pub record Faultless (ns : List ℤ) (at : ℕ) : Type 0 where
   pub fine : (k : ℕ) → k < coordinates (degreeAt ns at) → coordinateFine (entry ns (at + 1 + k)) ≡ true
 
 clear : (b l : Bool) (o : Option ℕ) (i n : ℕ)
-    → _≡_ {A = Option Refusal} (elim b [ false ↦ some (Degree i) | true ↦ elim l [ true ↦ some (CutShort n) | false ↦ elim o [ some j ↦ some (Coordinate j) | none ↦ none ] ] ]) none
+    → _≡_ {A = Option Refusal} (elim b [
+      | false ↦ some (Degree i)
+      | true ↦ elim l [ true ↦ some (CutShort n) | false ↦ elim o [ some j ↦ some (Coordinate j) | none ↦ none ] ]
+    ]) none
     → (b ≡ true) × (l ≡ false) × (o ≡ none)
 clear true false none i n e = (refl, refl, refl)
-clear true false (some j) i n e = let z : _≡_ {A = ℕ} 0 1 = cc in absurd (omega arith)
-clear true true o i n e = let z : _≡_ {A = ℕ} 0 1 = cc in absurd (omega arith)
-clear false l o i n e = let z : _≡_ {A = ℕ} 0 1 = cc in absurd (omega arith)
+clear true false (some j) i n e = clash (cc)
+clear true true o i n e = clash (cc)
+clear false l o i n e = clash (cc)
 
 pub faultless : (ns : List ℤ) (at : ℕ) → faultAt ns at ≡ none → Faultless ns at
 unfolding faultAt
@@ -76,13 +79,14 @@ faultless ns at e =
     let s = clear (between (pos 1) (pos 3) (entry ns at)) (ltb (length ns) (nextAt ns at)) (firstBeyond ns (coordinates d) (at + 1)) at (length ns) e in
     record { degree = s .0; ends = ltb-false (length ns) (nextAt ns at) (s .1); fine = none-beyond ns (coordinates d) (at + 1) (s .2) }
 
--- ---- its degree, its end, and its control values
+-- ---- its control values
 -- number k of a coordinate, as `values` lists it
 abbrev pub valueAt : List ℤ → ℕ → ℕ → ℕ → ℤ
 valueAt ns d i k = cond (leb k d) (entry ns (i + 2 * k)) (pos 0)
 
-abbrev farthest : ℕ
-farthest = 1048576
+small-coordinate : (z : ℤ) → coordinateFine z ≡ true → natAbs z ≤ 2 ^ 20
+small-coordinate z e =
+    abs-within (2 ^ 20) z (between-low (negℤ (pos 1048576)) (pos 1048576) z e) (between-high (negℤ (pos 1048576)) (pos 1048576) z e)
 
 module _ {ns : List ℤ} {at : ℕ} (f : Faultless ns at) where
   -- i is 1 for x and 2 for y
@@ -94,15 +98,21 @@ module _ {ns : List ℤ} {at : ℕ} (f : Faultless ns at) where
           let place : at + 1 + (2 * k + (i - 1)) ≡ at + i + 2 * k = omega arith in
           let z = entry ns (at + 1 + (2 * k + (i - 1))) in
           let fine = f .fine (2 * k + (i - 1)) (omega (arith, leb-true k (degreeAt ns at) e)) in
-          rw (← place) (abs-within farthest z (between-low (negℤ (pos farthest)) (pos farthest) z fine) (between-high (negℤ (pos farthest)) (pos farthest) z fine))
+          rw (← place) (small-coordinate z fine)
       go false e = zero-le
 
   values-small : (i : ℕ) → 1 ≤ i → i ≤ 2 → Each (2 ^ 20 * 2 ^ (degreeAt ns at * 0)) (values ns (degreeAt ns at) (at + i))
-  values-small i l h = rw (mul-zero (degreeAt ns at)) (record { under = listed-under (2 ^ 20) 4 (valueAt ns (degreeAt ns at) (at + i)) (λ k m. value-small i k l h) })
+  values-small i l h = rw (mul-zero (degreeAt ns at))
+      (record { under = listed-under (2 ^ 20) 4 (valueAt ns (degreeAt ns at) (at + i)) (λ k m. value-small i k l h) })
 
   pub curve-sized : Sized 0 (curveAt ns at)
   unfolding curveAt
-  curve-sized = record { least = degree-least ns at (f .degree); most = degree-most ns at (f .degree); x = values-small 1 (lit≤ tt) (lit≤ tt); y = values-small 2 (lit≤ tt) (lit≤ tt) }
+  curve-sized = record {
+    least = degree-least ns at (f .degree);
+    most = degree-most ns at (f .degree);
+    x = values-small 1 (lit≤ tt) (lit≤ tt);
+    y = values-small 2 (lit≤ tt) (lit≤ tt);
+  }
 
 -- ---- past the degree stand zeros, fault or not
 pub record Padded (c : Curve) : Type 0 where

@@ -1,4 +1,5 @@
 -- Laws of outlines. Each file opens with what it holds.
+mod Clash
 pub mod Between
 pub mod Beyond
 pub mod Degrees

@@ -7,7 +7,7 @@ use Prim.Native.Nat.{ℕ, zero, suc, _-_, _≤_, _<_}
 use native.Mathlib.Nat.{not-le-of-lt}
 use native.Mathlib.Numerals.{sub-one}
 use native.Mathlib.Omega.{arith}
-use borrow.Author.Tests.{lt-ltb, le-ltb, ltb-true, ltb-false}
+use borrow.Author.Tests.{lt-ltb, le-ltb, ltb-false}
 use lib.Dec.{ltb}
 use lib.ListN.{length}
 use lib.IntN.{ℤ}
@@ -16,6 +16,7 @@ use Rattle.refusals.specs.declared.Refusal.the-variants.{TooManyCurves}
 use Rattle.bezier.specs.declared.Curve.{Curve}
 use Rattle.outline.specs.Curves.{nextAt, curveAt}
 use Rattle.outline.specs.Checks.{Outlined, curves, faulty, withCurve, faultAt, outlineFrom}
+use Rattle.outline.proofs.Clash.{clash}
 use Rattle.outline.proofs.Degrees.{degree-inside}
 use Rattle.outline.proofs.Faultless.{faultless}
 
@@ -47,10 +48,8 @@ pub record Begins (left : ℕ) (ns : List ℤ) (at : ℕ) (c : Curve) (cs : List
   pub ends : nextAt ns at ≤ length ns
   pub rest : outlineFrom (left - 1) ns (nextAt ns at) ≡ curves cs
 
-clash : {A : Type 0} → _≡_ {A = ℕ} 0 1 → A
-clash e = absurd (omega arith)
-
-no-room : (b : Bool) (i : ℕ) (cs : List Curve) → _≡_ {A = Outlined} (elim b [ true ↦ faulty (TooManyCurves i) | false ↦ curves [] ]) (curves cs) → (b ≡ false) × (cs ≡ [])
+no-room : (b : Bool) (i : ℕ) (cs : List Curve) → _≡_ {A = Outlined} (elim b [ true ↦ faulty (TooManyCurves i) | false ↦ curves [] ]) (curves cs)
+    → (b ≡ false) × (cs ≡ [])
 no-room true i cs e = clash (cc)
 no-room false i cs e = (refl, cc)
 
@@ -69,13 +68,21 @@ last true none found (faulty r) e = clash (cc)
 last true (some r) found rest e = clash (cc)
 last false o found rest e = refl
 
-pub outline-begins : (left : ℕ) (ns : List ℤ) (at : ℕ) (c : Curve) (cs : List Curve) → outlineFrom left ns at ≡ curves (c ∷ cs) → Begins left ns at c cs
+pub outline-begins : (left : ℕ) (ns : List ℤ) (at : ℕ) (c : Curve) (cs : List Curve)
+    → outlineFrom left ns at ≡ curves (c ∷ cs) → Begins left ns at c cs
 unfolding outlineFrom
 outline-begins zero ns at c cs e = let n = no-room (ltb at (length ns)) at (c ∷ cs) e .1 in clash (cc)
 outline-begins (suc left) ns at c cs e =
     let s = first (ltb at (length ns)) (faultAt ns at) (curveAt ns at) (outlineFrom left ns (nextAt ns at)) c cs e in
     let f = faultless ns at (s .0) in
-    record { some = omega arith; inside = degree-inside ns at (f .degree); no-fault = s .0; is = s .1; ends = f .ends; rest = rw sub-one (s .2) }
+    record {
+      some = omega arith;
+      inside = degree-inside ns at (f .degree);
+      no-fault = s .0;
+      is = s .1;
+      ends = f .ends;
+      rest = rw sub-one (s .2);
+    }
 
 pub outline-ends : (left : ℕ) (ns : List ℤ) (at : ℕ) → outlineFrom left ns at ≡ curves [] → length ns ≤ at
 unfolding outlineFrom

@@ -14,16 +14,14 @@ use Rattle.refusals.specs.declared.Refusal.the-variants.{EmptyOutline, TooManyC
 use Rattle.bezier.specs.declared.Curve.{Curve}
 use Rattle.outline.specs.declared.Checked.{Checked}
 use Rattle.outline.specs.declared.Checked.the-variants.{Curves, Refused}
-use Rattle.outline.specs.declared.faults.Fault.{Fault}
 use Rattle.outline.specs.declared.faults.Fault.the-variants.{Is, Nothing}
 use Rattle.outline.specs.Curves.{nextAt, curveAt}
 use Rattle.outline.specs.Checks.{Outlined, curves, faulty, withCurve, faultAt, faultOf, outlineFrom, outlined, checkedOf}
+use Rattle.outline.proofs.Clash.{clash}
 use Rattle.outline.proofs.Faultless.{faultless}
 use Rattle.outline.proofs.Steps.{outline-ended, outline-full, outline-faulty, outline-step}
 use Rattle.outline.proofs.check_outline.Statement.{statement}
 use Rattle.outline.proofs.check_outline.Tie as tie
-use Rattle.outline.proofs.check_outline.Reads as reads
-use Rattle.outline.proofs.check_outline.Lts as lts
 
 -- ---- counting on
 abbrev counted : ℕ → Outlined → Checked
@@ -43,12 +41,12 @@ counted-one k c (faulty r) = refl
 
 -- ---- what the code learns of one curve
 is-fault : (o : Option Refusal) (r : Refusal) → faultOf o ≡ Is r → o ≡ some r
-is-fault none r e = let z : _≡_ {A = ℕ} 0 1 = cc in absurd (omega arith)
+is-fault none r e = clash (cc)
 is-fault (some q) r e = cc
 
 no-fault : (o : Option Refusal) → faultOf o ≡ Nothing → o ≡ none
 no-fault none e = refl
-no-fault (some q) e = let z : _≡_ {A = ℕ} 0 1 = cc in absurd (omega arith)
+no-fault (some q) e = clash (cc)
 
 -- ---- `count` curves are read, up to index `at`
 record Read (ns : List ℤ) (most at count : ℕ) : Type 0 where
@@ -82,7 +80,9 @@ module _ {ns : List ℤ} {most at count : ℕ} (r : Read ns most at count) where
     gone-on : faultAt ns at ≡ none → Read ns most (nextAt ns at) (count + 1)
     gone-on e = record {
       few = let m = r .few in omega arith;
-      is = r .is ∙ rw room (ap (counted count) (outline-step ns at (most - (count + 1)) e) ∙ counted-one count (curveAt ns at) (outlineFrom (most - (count + 1)) ns (nextAt ns at)));
+      is = r .is
+          ∙ rw room (ap (counted count) (outline-step ns at (most - (count + 1)) e))
+          ∙ counted-one count (curveAt ns at) (outlineFrom (most - (count + 1)) ns (nextAt ns at));
     }
 
 abbrev Inv-loop : tie.InvT-loop
@@ -109,15 +109,16 @@ enum-known-refusal c = search needs
 returns-3 : tie.Need-returns-3 Inv-loop μ-loop
 returns-3 c =
     let turn = c .before .before .before in
-    let found = is-fault (faultAt (turn .before .before .before .before .before .args .ns .now) (turn .before .before .before .loop .at)) (c .before .refusal .given .0 .0)
-    (sym (turn .fault-at .ensures) ∙ c .before .refusal .given .1) in
-    stopped (turn .before .before .before .loop .inv) (turn .before .if2 .left) (c .before .refusal .given .0 .0) (turn .before .before .loop-test .taken) found
+    let found = c .before .refusal .given in
+    stopped (turn .before .before .before .loop .inv) (turn .before .if2 .left) (found .0 .0) (turn .before .before .loop-test .taken)
+    (is-fault _ (found .0 .0) (sym (turn .fault-at .ensures) ∙ found .1))
 
 enum-told : tie.Need-enum-told Inv-loop μ-loop
 enum-told c = search needs
 
 -- where the curve has no fault
-clear : (c : tie.After-enum-told Inv-loop μ-loop) → faultAt (c .before .before .before .before .before .before .before .args .ns .now) (c .before .before .before .before .before .loop .at) ≡ none
+clear : (c : tie.After-enum-told Inv-loop μ-loop)
+    → faultAt (c .before .before .before .before .before .before .before .args .ns .now) (c .before .before .before .before .before .loop .at) ≡ none
 clear c = no-fault _ (sym (c .before .before .fault-at .ensures) ∙ c .enum-told .given .1)
 
 next-at-requires : tie.Need-next-at-requires Inv-loop μ-loop

@@ -15,7 +15,8 @@ degree-at-requires : tie.Need-degree-at-requires
 degree-at-requires c κs = whole c .degree
 
 -- the degree as the code has it, and where the curve ends
-room : (c : tie.After-degree-at) → (c .degree-at .result ≤ 3) × (c .before .args .at + 1 + coordinates (c .degree-at .result) ≤ length (c .before .args .ns .now))
+room : (c : tie.After-degree-at)
+    → (c .degree-at .result ≤ 3) × (c .before .args .at + 1 + coordinates (c .degree-at .result) ≤ length (c .before .args .ns .now))
 room c = rw (c .degree-at .ensures) (degree-most (c .before .args .ns .now) (c .before .args .at) (whole (c .before) .degree), whole (c .before) .ends)
 
 add-values-at : tie.Need-add-values-at

@@ -1,5 +1,4 @@
 -- `outline::degree_at` meets its contract: a degree from 1 to 3 stands inside the list and is a natural.
-use lib.IntN.{pos}
 use borrow.Author.Needs.{needs}
 use native.Mathlib.Omega.{arith}
 use mir.Syntax.{w32}

@@ -57,12 +57,15 @@ enum-told : tie.Need-enum-told
 enum-told c = search needs
 
 -- past the second: what the search for a coordinate found decides
-last-check : (c : tie.After-first-beyond) → faultOf (faultAt (c .before .before .before .before .before .before .args .ns .now) (c .before .before .before .before .before .before .args .at)) ≡ coordinateFault (c .first-beyond .result)
+last-check : (c : tie.After-first-beyond)
+    → faultOf (faultAt (c .before .before .before .before .before .before .args .ns .now) (c .before .before .before .before .before .before .args .at))
+    ≡ coordinateFault (c .first-beyond .result)
 last-check c =
     let ns = c .before .before .before .before .before .before .args .ns .now in
     let at = c .before .before .before .before .before .before .args .at in
     let next = c .before .before .next-at .ensures in
-    fault-coordinate ns at (degree-fine (c .before .before .before)) (rw next at (c .before .if3 .left)) ∙ ap coordinateFault (sym (rw next at (c .first-beyond .ensures)))
+    fault-coordinate ns at (degree-fine (c .before .before .before)) (rw next at (c .before .if3 .left))
+    ∙ ap coordinateFault (sym (rw next at (c .first-beyond .ensures)))
 
 returns-4 : tie.Need-returns-4
 returns-4 c = sym (last-check (c .before .before .before) ∙ ap coordinateFault (c .before .i .given .1))

@@ -56,7 +56,9 @@ loop-again c =
     l .loop .inv ∙ beyond-on (l .before .args .ns .now) (l .before .args .end) (l .loop .i) (c .before .before .before .loop-test .taken) fine
 
 returns-3 : tie.Need-returns-3 Inv-loop μ-loop
-returns-3 c = let l = c .before in sym (ap foundOf (l .loop .inv ∙ beyond-ended (l .before .args .ns .now) (l .before .args .end) (l .loop .i) (c .loop-test .left)))
+returns-3 c =
+    let l = c .before in
+    sym (ap foundOf (l .loop .inv ∙ beyond-ended (l .before .args .ns .now) (l .before .args .end) (l .loop .i) (c .loop-test .left)))
 
 pub first-beyond-spec : {M : Type 1} → statement M
 first-beyond-spec = tie.close (tie.spec Inv-loop μ-loop loop-holds mul-z shared-slice-copy-out-z returns returns-2 add-i loop-less loop-again returns-3)

@@ -1,11 +1,10 @@
 -- `outline::values::values_at` meets its contract. The loop's invariant: the first k control values are read, and zeros stand behind them. The
 -- measure is how many of the four places are left.
-use mathlib.Core.Path.{_≡_, refl, sym, _∙_, ap}
+use mathlib.Core.Path.{_≡_, refl, _∙_, ap}
 use mathlib.Core.Bool.{cond}
 use mathlib.Core.List.{List}
 use Prim.Native.Nat.{ℕ, zero, suc, _+_, _-_, _*_, _≤_, _<_}
 use native.Mathlib.Omega.{arith}
-use borrow.Author.Needs.{needs}
 use lib.Dec.{ltb}
 use lib.ListN.{set}
 use lib.IntN.{ℤ, pos}
@@ -19,8 +18,6 @@ use Rattle.outline.specs.Curves.{values}
 use Rattle.outline.proofs.Between.{element-fits}
 use Rattle.outline.proofs.values.values_at.Statement.{statement}
 use Rattle.outline.proofs.values.values_at.Tie as tie
-use Rattle.outline.proofs.values.values_at.Reads as reads
-use Rattle.outline.proofs.values.values_at.Lts as lts
 
 -- the first k are read
 abbrev read : List ℤ → ℕ → ℕ → List ℤ
@@ -62,8 +59,12 @@ shared-slice-copy-out-cs : tie.Need-shared-slice-copy-out-cs Inv-loop μ-loop
 shared-slice-copy-out-cs c = omega arith
 
 -- the element that a turn reads
-read-fits : (c : tie.After-cs Inv-loop μ-loop) → SFits w32 (entry (c .before .before .before .args .ns .now) (c .before .before .before .args .from + 2 * c .before .before .loop .k))
+read-fits : (c : tie.After-cs Inv-loop μ-loop)
+    → SFits w32 (entry (c .before .before .before .args .ns .now) (c .before .before .before .args .from + 2 * c .before .before .loop .k))
 read-fits c = element-fits (c .before .before .before .args .ns .now) (c .before .before .before .args .from + 2 * c .before .before .loop .k) (c .cs .given)
+
+widened : (z : ℤ) → SFits w32 z → stored w64 (stored w32 z) ≡ z
+widened z h = is! (search (machine, h) depth 40) tt
 
 cast-cs : tie.Need-cast-cs Inv-loop μ-loop
 cast-cs c = fits! (search (machine, read-fits c) depth 40) tt
@@ -85,7 +86,7 @@ loop-again c =
     let ns = c .before .before .before .args .ns .now in
     let from = c .before .before .before .args .from in
     let k = c .before .before .loop .k in
-    (omega arith, rw (c .before .before .loop .inv .1, is! {z = stored w64 (stored w32 (entry ns (from + 2 * k)))} (search (machine, read-fits c) depth 40) tt) (read-more ns from k (omega arith)))
+    (omega arith, rw (c .before .before .loop .inv .1, widened _ (read-fits c)) (read-more ns from k (omega arith)))
 
 returns : tie.Need-returns Inv-loop μ-loop
 returns c =

@@ -1,0 +1,89 @@
+-- Banding an outline of at most so many curves, from the checks and the two passes.
+use mathlib.Core.Path.{_≡_, sym, _∙_, ap}
+use mathlib.Core.Bool.{true}
+use native.Mathlib.Omega.{arith}
+use borrow.Author.Needs.{needs}
+use borrow.Author.Tests.{not-true, not-false}
+use mir.Syntax.{w32, w64}
+use mir.Facts.{toZ-ofZ, sfits-widen}
+use lib.IntN.{pos}
+use Rattle.outline.specs.Checks.{toleranceFine}
+use Rattle.outline.proofs.Between.{between-high}
+use Rattle.band.proofs.Answers.{readable, banded-curves, written-curves, banded-tolerance, banded-faulty, written-refused}
+use Rattle.band.proofs.band_most.Statement.{statement}
+use Rattle.band.proofs.band_most.Tie as tie
+
+tolerance-fine-requires : tie.Need-tolerance-fine-requires
+tolerance-fine-requires c κs = search needs
+
+returns : tie.Need-returns
+returns c =
+    let s = c .before .before in
+    let a = s .args in
+    let e = banded-tolerance (a .most) (a .ns .now) (a .tolerance) _ (rw (toZ-ofZ (s .fits .tolerance)) at (sym (c .before .tolerance-fine .ensures) ∙ not-true (c .before .tolerance-fine .result) (c .if1 .taken))) in
+    (e, written-refused (a .most) (a .ns .now) (a .tolerance) (a .records .now) e)
+
+check-outline-requires : tie.Need-check-outline-requires
+check-outline-requires c κs = search needs
+
+-- the tolerance is in its range, once its check is behind
+fine : (c : tie.After-check-outline) → toleranceFine (c .before .before .before .args .tolerance) ≡ true
+fine c =
+    let s = c .before .before .before in
+    rw (toZ-ofZ (s .fits .tolerance)) at
+    (sym (c .before .before .tolerance-fine .ensures) ∙ not-false (c .before .before .tolerance-fine .result) (c .before .if1 .left))
+
+enum-known-refusal : tie.Need-enum-known-refusal
+enum-known-refusal c = search needs
+
+enum-known-curves : tie.Need-enum-known-curves
+enum-known-curves c = search needs
+
+cast-band-curves : tie.Need-cast-band-curves
+cast-band-curves c =
+    let s = c .before .before .before .before .before .before in
+    rw (toZ-ofZ (s .fits .tolerance)) (sfits-widen tt (s .fits .tolerance))
+
+band-curves-requires : tie.Need-band-curves-requires
+band-curves-requires c κs =
+    let k = c .before .before .before .before in
+    let s = k .before .before .before in (
+      readable (s .args .most) (s .args .ns .now) (sym (c .before .before .curves .given .1) ∙ k .check-outline .ensures) (s .pre),
+      rw (toZ-ofZ (s .fits .tolerance), toZ-ofZ (sfits-widen {w′ = w64} tt (s .fits .tolerance))) (between-high (pos 2) (pos 1048576) (s .args .tolerance) (fine k)),
+    )
+
+returns-2 : tie.Need-returns-2
+returns-2 c =
+    let k = c .before .before .before in
+    let s = k .before .before .before in
+    let a = s .args in
+    let e = banded-faulty (a .most) (a .ns .now) (a .tolerance) _ (fine k) (sym (c .before .refusal .given .1) ∙ k .check-outline .ensures) in
+    (e, written-refused (a .most) (a .ns .now) (a .tolerance) (a .records .now) e)
+
+same-length : tie.Need-same-length
+same-length c = search needs
+
+returns-3 : tie.Need-returns-3
+returns-3 c =
+    let k = c .before .before .before .before .before .before in
+    let s = k .before .before .before in
+    let a = s .args in
+    let e = sym (c .before .before .before .before .curves .given .1) ∙ k .check-outline .ensures in
+    let r = rw (toZ-ofZ (s .fits .tolerance), toZ-ofZ (sfits-widen {w′ = w64} tt (s .fits .tolerance))) at (c .before .band-curves .ensures) in
+    let b = r .0 ∙ banded-curves (a .most) (a .ns .now) e (a .tolerance) _ (fine k) in
+    (b, written-curves (a .most) (a .ns .now) e (a .tolerance) (a .records .now) _ b (r .1))
+
+pub band-most-spec : {M : Type 1} → statement M
+band-most-spec =
+    tie.close
+    (tie.spec
+    tolerance-fine-requires
+    returns
+    check-outline-requires
+    enum-known-refusal
+    enum-known-curves
+    cast-band-curves
+    band-curves-requires
+    returns-2
+    same-length
+    returns-3)
