@@ -1,0 +1,67 @@
+/* The C interface of the contour band engine: banding an outline. */
+#ifndef CONTOUR_BAND_H
+#define CONTOUR_BAND_H
+
+#include <stddef.h>
+#include <stdint.h>
+
+#ifdef __cplusplus
+extern "C" {
+#endif
+
+/* How many numbers one leaf record has. */
+#define CONTOUR_BAND_RECORD 18
+
+/* The ranges of document 01. A tolerance is in sixteenths of a stage unit, a coordinate in stage units. */
+#define CONTOUR_BAND_TOLERANCE_MIN 2
+#define CONTOUR_BAND_TOLERANCE_MAX 1048576
+#define CONTOUR_BAND_COORDINATE_MIN (-1048576)
+#define CONTOUR_BAND_COORDINATE_MAX 1048576
+#define CONTOUR_BAND_CURVES_MAX 64
+
+/* The refusals of banding, in the order in which they are tried. 5, 2, 3 and 4 are tried curve by curve.
+ * The spot stands beside each. */
+enum contour_band_refusal {
+    CONTOUR_BAND_ACCEPTED = 0,         /* nothing is refused; 0 */
+    CONTOUR_BAND_TOLERANCE = 1,        /* the tolerance is outside its range; 0 */
+    CONTOUR_BAND_EMPTY_OUTLINE = 6,    /* the outline has no number; 0 */
+    CONTOUR_BAND_TOO_MANY_CURVES = 5,  /* a 65th curve begins; the index of its degree */
+    CONTOUR_BAND_DEGREE = 2,           /* a degree is not 1, 2 or 3; its index */
+    CONTOUR_BAND_CUT_SHORT = 3,        /* the outline ends inside a curve; the outline's length */
+    CONTOUR_BAND_COORDINATE = 4,       /* a coordinate is outside its range; the index of the curve's first such */
+    CONTOUR_BAND_TOO_WIDE = 7,         /* a node at depth 8 is wider than the tolerance; 512 * curve + node, for the first */
+    CONTOUR_BAND_TOO_FEW_RECORDS = 8   /* records_length is less than 18 * leaves; the number of leaves */
+};
+
+/* What banding answers. */
+struct contour_band_answer {
+    uint32_t refusal; /* 0 where the outline is accepted, else the number of the refusal */
+    uint64_t spot;    /* the refusal's spot; 0 where the outline is accepted */
+    uint64_t curves;  /* the curves of the outline, 1 to 64; 0 where it is refused */
+    uint64_t leaves;  /* the leaves, each a record at the front of the records; 0 where the outline is refused */
+    uint64_t nodes;   /* the nodes met, which is 2 * leaves - curves; 0 where the outline is refused */
+};
+
+/* Puts a band round an outline.
+ *
+ * outline: for each curve its degree d, which is 1, 2 or 3, then x and y of its d + 1 control points, in stage units.
+ *     Curves are numbered from 0 and need not meet.
+ * tolerance: the greatest width of a box in x and in y, in sixteenths of a stage unit.
+ * records: where the leaves are written. A record is 18 numbers: the curve, the node (1 to 511), then for each of the
+ *     break points 0, 1, 2, 3 its x low, x high, y low, y high, in sixteenths of a stage unit. Records stand by curve, then
+ *     by parameter. 18 * 256 numbers for each curve are always enough.
+ *
+ * Accepted: the first 18 * leaves numbers of the records are written, and the numbers past them stay as they were.
+ * Refused: every number of the records stays as it was. With a records_length of 0 the answer is refusal 8 for any outline
+ * that is otherwise accepted, so its spot says how many leaves to lend room for.
+ *
+ * Any contents and any lengths are taken. Both pointers must be aligned for int32_t and must not be NULL, also where a
+ * length is 0. The outline and the records must not overlap. The call allocates nothing, keeps nothing and always returns. */
+struct contour_band_answer contour_band(const int32_t *outline, size_t outline_length, int32_t tolerance, int32_t *records,
+                                        size_t records_length);
+
+#ifdef __cplusplus
+}
+#endif
+
+#endif

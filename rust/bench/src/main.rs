@@ -1,0 +1,9 @@
+//! Times the proved engine against the plain one, on the same inputs in one run.
+
+#![forbid(unsafe_code)]
+
+mod banding;
+
+fn main() {
+    banding::run();
+}

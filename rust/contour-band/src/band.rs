@@ -1,0 +1,40 @@
+//! Banding an outline.
+
+use crate::library;
+use crate::refusal::Refusal;
+
+/// What banding reports of an outline that it accepts.
+#[derive(Debug, Clone, Copy, PartialEq, Eq, Hash)]
+pub struct Report {
+    /// The curves of the outline, 1 to 64.
+    pub curves: u64,
+    /// The leaves, each written as one record.
+    pub leaves: u64,
+    /// The nodes met, 2 × leaves − curves.
+    pub nodes: u64,
+}
+
+/// Puts a band round an outline.
+///
+/// `outline` has for each curve its degree d (1, 2 or 3), then x and y of its d + 1 control points
+/// in stage units, each from −1,048,576 to 1,048,576. There are 1 to 64 curves, and they need not
+/// meet. `tolerance` is the greatest width of a box in x and in y, 2 to 1,048,576 sixteenths of a
+/// unit.
+///
+/// The leaves are written to the front of `records`, [`RECORD`](crate::RECORD) numbers each, by
+/// curve and then by parameter; [`leaves`](crate::leaves) reads them. The numbers past them stay
+/// as they were. A list of 18 × 256 numbers for each curve is always long enough.
+///
+/// # Errors
+///
+/// A [`Refusal`] where the tolerance or the outline breaks a bound, a stretch is too wide after
+/// the last halving, or `records` is too short. It is the first in document 01's order, and
+/// `records` is then unaltered. An empty list therefore asks how many leaves there are: the answer
+/// is [`Refusal::TooFewRecords`] for any outline that is otherwise accepted.
+pub fn band(outline: &[i32], tolerance: i32, records: &mut [i32]) -> Result<Report, Refusal> {
+    let answer = library::band(outline, tolerance, records);
+    if answer.refusal != 0 {
+        return Err(Refusal::new(answer.refusal, answer.spot));
+    }
+    Ok(Report { curves: answer.curves, leaves: answer.leaves, nodes: answer.nodes })
+}

@@ -1,0 +1,32 @@
+//! Contour bands of Bézier outlines, by the proved engine.
+//!
+//! An outline is a list of numbers: for each curve its degree d (1, 2 or 3), then x and y of its
+//! d + 1 control points in stage units. [`band`] encloses it in boxes that are nowhere wider than
+//! a tolerance, and writes them to a list that the caller lends. [`leaves`] reads them.
+//!
+//! ```
+//! use contour_band::{band, leaves, Refusal};
+//!
+//! let outline = [3, 0, 0, 10, 30, 20, 30, 30, 0];
+//! let mut records = [0; 18];
+//! let report = band(&outline, 44, &mut records)?;
+//! assert_eq!((report.curves, report.leaves, report.nodes), (1, 1, 1));
+//!
+//! let leaf = leaves(&records).next().unwrap();
+//! assert_eq!((leaf.curve, leaf.node), (0, 1));
+//! assert_eq!((leaf.boxes[1].y.low, leaf.boxes[1].y.high), (319, 363));
+//!
+//! // At 43 there are two leaves, and a refusal leaves the list as it was.
+//! assert_eq!(band(&outline, 43, &mut records), Err(Refusal::TooFewRecords { leaves: 2 }));
+//! assert_eq!(records[0..2], [0, 1]);
+//! # Ok::<(), Refusal>(())
+//! ```
+
+mod band;
+mod leaf;
+mod library;
+mod refusal;
+
+pub use band::{band, Report};
+pub use leaf::{leaves, Bounds, BoxBounds, Leaf, BREAK_POINTS, RECORD};
+pub use refusal::Refusal;

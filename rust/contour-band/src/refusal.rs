@@ -1,0 +1,149 @@
+//! Refusals as an enum, with document 01's numbers and spots.
+
+use std::error::Error;
+use std::fmt;
+
+/// Why an operation refused its input. Every list that the caller lent is then as it was.
+#[derive(Debug, Clone, Copy, PartialEq, Eq, Hash)]
+#[non_exhaustive]
+pub enum Refusal {
+    /// 1: the tolerance is not 2 to 1,048,576.
+    Tolerance,
+    /// 2: a degree is not 1, 2 or 3.
+    Degree {
+        /// The degree's index in the outline.
+        index: usize,
+    },
+    /// 3: the outline ends inside a curve.
+    CutShort {
+        /// The outline's length.
+        length: usize,
+    },
+    /// 4: a coordinate is not −1,048,576 to 1,048,576.
+    Coordinate {
+        /// The index in the outline of the curve's first such coordinate.
+        index: usize,
+    },
+    /// 5: the outline has more than 64 curves.
+    TooManyCurves {
+        /// The index in the outline of the 65th curve's degree.
+        index: usize,
+    },
+    /// 6: the outline has no curve.
+    EmptyOutline,
+    /// 7: a stretch is still wider than the tolerance after the last halving.
+    TooWide {
+        /// The number of the curve, from 0.
+        curve: usize,
+        /// The first such node of the walk, 256 to 511.
+        node: u32,
+    },
+    /// 8: the lent list has fewer numbers than the leaves need.
+    TooFewRecords {
+        /// How many leaves the outline has; each needs [`RECORD`](crate::RECORD) numbers.
+        leaves: usize,
+    },
+}
+
+impl Refusal {
+    /// The refusal's number in document 01.
+    pub fn number(self) -> u32 {
+        match self {
+            Refusal::Tolerance => 1,
+            Refusal::Degree { .. } => 2,
+            Refusal::CutShort { .. } => 3,
+            Refusal::Coordinate { .. } => 4,
+            Refusal::TooManyCurves { .. } => 5,
+            Refusal::EmptyOutline => 6,
+            Refusal::TooWide { .. } => 7,
+            Refusal::TooFewRecords { .. } => 8,
+        }
+    }
+
+    /// The spot that document 01 gives beside the number.
+    pub fn spot(self) -> u64 {
+        match self {
+            Refusal::Tolerance | Refusal::EmptyOutline => 0,
+            Refusal::Degree { index } | Refusal::Coordinate { index } | Refusal::TooManyCurves { index } => {
+                index as u64
+            }
+            Refusal::CutShort { length } => length as u64,
+            Refusal::TooWide { curve, node } => 512 * curve as u64 + u64::from(node),
+            Refusal::TooFewRecords { leaves } => leaves as u64,
+        }
+    }
+
+    /// The refusal with this number and spot.
+    ///
+    /// # Panics
+    ///
+    /// Where no refusal has the number. The library is proved never to answer such a one.
+    pub(crate) fn new(number: u32, spot: u64) -> Refusal {
+        let place = spot as usize;
+        match number {
+            1 => Refusal::Tolerance,
+            2 => Refusal::Degree { index: place },
+            3 => Refusal::CutShort { length: place },
+            4 => Refusal::Coordinate { index: place },
+            5 => Refusal::TooManyCurves { index: place },
+            6 => Refusal::EmptyOutline,
+            7 => Refusal::TooWide { curve: place / 512, node: (spot % 512) as u32 },
+            8 => Refusal::TooFewRecords { leaves: place },
+            _ => panic!("the library answered refusal {number} at {spot}, which does not exist"),
+        }
+    }
+}
+
+impl fmt::Display for Refusal {
+    fn fmt(&self, f: &mut fmt::Formatter<'_>) -> fmt::Result {
+        write!(f, "refused {} {}: ", self.number(), self.spot())?;
+        match self {
+            Refusal::Tolerance => write!(f, "the tolerance is outside its range"),
+            Refusal::Degree { .. } => write!(f, "a degree is not 1, 2 or 3"),
+            Refusal::CutShort { .. } => write!(f, "the outline ends inside a curve"),
+            Refusal::Coordinate { .. } => write!(f, "a coordinate is outside its range"),
+            Refusal::TooManyCurves { .. } => write!(f, "the outline has more than 64 curves"),
+            Refusal::EmptyOutline => write!(f, "the outline is empty"),
+            Refusal::TooWide { curve, node } => {
+                write!(f, "node {node} of curve {curve} is too wide after its last halving")
+            }
+            Refusal::TooFewRecords { leaves } => {
+                write!(f, "the list has no room for {leaves} leaves")
+            }
+        }
+    }
+}
+
+impl Error for Refusal {}
+
+#[cfg(test)]
+mod tests {
+    use super::*;
+
+    #[test]
+    fn number_and_spot_are_what_the_library_answered() {
+        let places = [0, 1, 17, 575, 32_767];
+        for number in 2..=8 {
+            for place in places {
+                // 6 has the spot 0 only.
+                let spot = if number == 6 { 0 } else { place };
+                let refusal = Refusal::new(number, spot);
+                assert_eq!((refusal.number(), refusal.spot()), (number, spot));
+            }
+        }
+        assert_eq!((Refusal::new(1, 0).number(), Refusal::new(1, 0).spot()), (1, 0));
+        assert_eq!(Refusal::new(7, 512 * 63 + 300), Refusal::TooWide { curve: 63, node: 300 });
+    }
+
+    #[test]
+    #[should_panic(expected = "refusal 99 at 5")]
+    fn an_unknown_number_is_no_refusal() {
+        Refusal::new(99, 5);
+    }
+
+    #[test]
+    fn a_message_begins_with_number_and_spot() {
+        let message = Refusal::TooWide { curve: 2, node: 300 }.to_string();
+        assert_eq!(message, "refused 7 1324: node 300 of curve 2 is too wide after its last halving");
+    }
+}

@@ -1,0 +1,63 @@
+//! The measured examples of document 01 that banding reaches, through the public functions.
+
+use contour_band::{band, leaves, Refusal, Report, RECORD};
+
+const CURVE_A: [i32; 9] = [3, 0, 0, 10, 30, 20, 30, 30, 0];
+
+/// The numbers written for an outline that is accepted, out of a longer list whose rest stays.
+fn written(outline: &[i32], tolerance: i32) -> (Report, Vec<i32>) {
+    let mut records = vec![-5; 4 * RECORD];
+    let report = band(outline, tolerance, &mut records).expect("the outline is accepted");
+    let rest = records.split_off(RECORD * report.leaves as usize);
+    assert!(rest.iter().all(|&n| n == -5));
+    (report, records)
+}
+
+#[test]
+fn curve_a() {
+    let (report, records) = written(&CURVE_A, 44);
+    assert_eq!(report, Report { curves: 1, leaves: 1, nodes: 1 });
+    assert_eq!(records, [0, 1, 0, 0, 0, 38, 160, 160, 319, 363, 320, 320, 319, 363, 480, 480, 0, 38]);
+    let (report, records) = written(&CURVE_A, 43);
+    assert_eq!(report, Report { curves: 1, leaves: 2, nodes: 3 });
+    assert_eq!(leaves(&records).map(|leaf| leaf.node).collect::<Vec<_>>(), [2, 3]);
+    assert_eq!(
+        records[..RECORD],
+        [0, 2, 0, 0, 0, 10, 80, 80, 199, 211, 160, 160, 319, 331, 240, 240, 360, 370]
+    );
+}
+
+/// The y bounds of the first leaf's boxes.
+fn y_bounds(outline: &[i32], tolerance: i32) -> [(i32, i32); 4] {
+    let (_, records) = written(outline, tolerance);
+    let leaf = leaves(&records).next().expect("there is a leaf");
+    leaf.boxes.map(|b| (b.y.low, b.y.high))
+}
+
+#[test]
+fn bounds_of_y() {
+    let negated = [3, 0, 0, 10, -30, 20, -30, 30, 0];
+    assert_eq!(y_bounds(&negated, 44), [(-38, 0), (-363, -319), (-363, -319), (-38, 0)]);
+    let quadratic = [2, 0, 0, 0, 18, 0, 0];
+    assert_eq!(y_bounds(&quadratic, 44), [(0, 17), (127, 144), (127, 144), (0, 17)]);
+    let line = [1, 0, 0, 0, 1];
+    assert_eq!(y_bounds(&line, 2), [(0, 0), (5, 6), (10, 11), (16, 16)]);
+}
+
+#[test]
+fn limits_and_refusals() {
+    let mut records = [7; RECORD];
+    let mut refused = |outline: &[i32], tolerance| {
+        let refusal = band(outline, tolerance, &mut records).expect_err("the outline is refused");
+        assert_eq!(records, [7; RECORD]);
+        refusal
+    };
+    assert_eq!(refused(&CURVE_A, 1), Refusal::Tolerance);
+    assert_eq!(refused(&[1, 0, 0, 0, 1_048_577], 2), Refusal::Coordinate { index: 4 });
+    assert_eq!(refused(&[], 2), Refusal::EmptyOutline);
+    assert_eq!(refused(&[4; 11], 44), Refusal::Degree { index: 0 });
+    let steep = [3, 0, 0, 0, 1_048_576, 0, 1_048_576, 0, 0];
+    assert_eq!(refused(&steep, 2), Refusal::TooWide { curve: 0, node: 256 });
+    assert_eq!(refused(&CURVE_A, 43), Refusal::TooFewRecords { leaves: 2 });
+    written(&[1, 0, 0, 0, 1_048_576], 2);
+}

@@ -1,0 +1,200 @@
+//! One outline, tolerance and lent list to both engines, and what they answer compared.
+
+use crate::random::Random;
+use std::fmt;
+use std::io::Write;
+
+/// Numbers on each side of a lent list, which no engine may touch.
+const MARGIN: usize = 20;
+
+/// Enough numbers for the leaves of any outline, with some to spare.
+const LONGEST: usize = 18 * 64 * 256 + 1_000;
+
+/// What an engine answers.
+#[derive(Debug, Clone, Copy, PartialEq, Eq)]
+pub enum Answer {
+    /// The curves, leaves and nodes that it reports.
+    Accepted {
+        /// Curves of the outline.
+        curves: u64,
+        /// Records written.
+        leaves: u64,
+        /// Nodes met.
+        nodes: u64,
+    },
+    /// The number and the spot of its refusal.
+    Refused(u32, u64),
+}
+
+use Answer::{Accepted, Refused};
+
+/// Compares the engines on one input after the other, and counts.
+pub struct Comparison {
+    name: &'static str,
+    noise: Vec<i32>,
+    proved: Vec<i32>,
+    plain: Vec<i32>,
+    random: Random,
+    /// What was compared so far.
+    pub tally: Tally,
+}
+
+/// Counts of what was compared.
+#[derive(Debug, Clone, Default)]
+pub struct Tally {
+    /// Outlines, each with one tolerance or more and one lent list or more.
+    pub outlines: u64,
+    /// Answers.
+    pub answers: u64,
+    /// Numbers of lent lists, their margins and the rest past the records included.
+    pub numbers: u64,
+    /// Answers that accept.
+    pub accepted: u64,
+    /// Answers that refuse, by the refusal's number.
+    pub refused: [u64; 9],
+    /// Leaves, by depth.
+    pub leaves: [u64; 9],
+}
+
+impl Comparison {
+    /// A comparison that reports under a name. What stands in the lent lists follows from the seed.
+    pub fn new(name: &'static str, seed: u64) -> Comparison {
+        let mut random = Random::new(seed ^ 0x5eed_0f11_5ea5_0000);
+        let noise = (0..LONGEST + 2 * MARGIN)
+            .map(|_| match random.below(16) {
+                0 => random.pick(&[i32::MIN, i32::MAX, 0, -1]),
+                _ => random.bits() as i32,
+            })
+            .collect();
+        let tally = Tally::default();
+        Comparison { name, noise, proved: Vec::new(), plain: Vec::new(), random, tally }
+    }
+
+    /// Bands with both engines into lists of `length` numbers. Returns the answer that they share.
+    ///
+    /// # Panics
+    ///
+    /// Where an answer or a number differs, or a number that was not to be written has changed.
+    /// Prints the input and both answers.
+    pub fn band(&mut self, outline: &[i32], tolerance: i32, length: usize) -> Answer {
+        // Other noise at the same place from call to call.
+        let start = self.random.below(LONGEST.saturating_sub(length) + 1);
+        let noise = &self.noise[start..][..length + 2 * MARGIN];
+        for list in [&mut self.proved, &mut self.plain] {
+            list.clear();
+            list.extend_from_slice(noise);
+        }
+        let lent = MARGIN..MARGIN + length;
+        let given = outline.to_vec();
+        let proved = by_proved(&given, tolerance, &mut self.proved[lent.clone()]);
+        let plain = by_plain(outline, tolerance, &mut self.plain[lent]);
+        let leaves = match plain {
+            Accepted { leaves, .. } => leaves as usize,
+            Refused(..) => 0,
+        };
+        let written = MARGIN..MARGIN + 18 * leaves;
+        let stays = |list: &[i32]| {
+            list[..written.start] == noise[..written.start] && list[written.end..] == noise[written.end..]
+        };
+        let alike = proved == plain && self.proved == self.plain && given == outline;
+        if !alike || !stays(&self.proved) {
+            self.fail(outline, &given, tolerance, length, proved, plain);
+        }
+        self.count(plain, leaves);
+        plain
+    }
+
+    /// Bands into an empty list, one a number short, an exact one and a longer one, as far as the
+    /// outline has leaves. Returns the answer for the longer one.
+    pub fn band_into_every_length(&mut self, outline: &[i32], tolerance: i32) -> Answer {
+        let empty = self.band(outline, tolerance, 0);
+        let Refused(8, leaves) = empty else {
+            let some = self.random.below(100);
+            assert_eq!(self.band(outline, tolerance, some), empty);
+            return empty;
+        };
+        let exact = 18 * leaves as usize;
+        assert_eq!(self.band(outline, tolerance, exact - 1), empty);
+        let accepted = self.band(outline, tolerance, exact);
+        assert!(matches!(accepted, Accepted { .. }));
+        let longer = exact + 1 + self.random.below(60);
+        assert_eq!(self.band(outline, tolerance, longer), accepted);
+        accepted
+    }
+
+    /// The records that were last written: both engines wrote the same.
+    pub fn records(&self, leaves: u64) -> &[i32] {
+        &self.plain[MARGIN..MARGIN + 18 * leaves as usize]
+    }
+
+    /// Prints what was compared, also where the test runner keeps a test's output to itself.
+    pub fn report(&self) {
+        let mut out = std::io::stdout().lock();
+        writeln!(out, "{}: {}", self.name, self.tally).expect("standard output takes a line");
+    }
+
+    fn count(&mut self, answer: Answer, leaves: usize) {
+        self.tally.answers += 1;
+        self.tally.numbers += self.plain.len() as u64;
+        match answer {
+            Accepted { .. } => self.tally.accepted += 1,
+            Refused(number, _) => self.tally.refused[number as usize] += 1,
+        }
+        for record in self.plain[MARGIN..][..18 * leaves].chunks_exact(18) {
+            self.tally.leaves[record[1].ilog2() as usize] += 1;
+        }
+    }
+
+    fn fail(
+        &self,
+        outline: &[i32],
+        given: &[i32],
+        tolerance: i32,
+        length: usize,
+        proved: Answer,
+        plain: Answer,
+    ) -> ! {
+        let mut message = format!("{}: the engines differ, or a number changed\n", self.name);
+        message += &format!("outline {outline:?}\ntolerance {tolerance}\nlent numbers {length}\n");
+        message += &format!("proved answers {proved:?}\nplain answers {plain:?}\n");
+        if given != outline {
+            message += &format!("outline after the proved engine {given:?}\n");
+        }
+        let differs = |i: &usize| self.proved[*i] != self.plain[*i];
+        for i in (0..self.plain.len()).filter(differs).take(20) {
+            let (proved, plain) = (self.proved[i], self.plain[i]);
+            let index = i as i64 - MARGIN as i64;
+            message += &format!("records[{index}]: proved {proved}, plain {plain}\n");
+        }
+        panic!("{message}");
+    }
+}
+
+fn by_proved(outline: &[i32], tolerance: i32, records: &mut [i32]) -> Answer {
+    match contour_band::band(outline, tolerance, records) {
+        Ok(contour_band::Report { curves, leaves, nodes }) => Accepted { curves, leaves, nodes },
+        Err(refusal) => Refused(refusal.number(), refusal.spot()),
+    }
+}
+
+fn by_plain(outline: &[i32], tolerance: i32, records: &mut [i32]) -> Answer {
+    match plain::band(outline, tolerance, records) {
+        Ok(plain::Report { curves, leaves, nodes }) => Accepted { curves, leaves, nodes },
+        Err(refusal) => Refused(refusal.number(), refusal.spot()),
+    }
+}
+
+impl fmt::Display for Tally {
+    fn fmt(&self, f: &mut fmt::Formatter<'_>) -> fmt::Result {
+        write!(
+            f,
+            "{} outlines, {} answers and {} numbers compared; accepted {}, refused by number {:?}, leaves by depth {:?}",
+            self.outlines,
+            self.answers,
+            self.numbers,
+            self.accepted,
+            &self.refused[1..],
+            self.leaves
+        )
+    }
+}

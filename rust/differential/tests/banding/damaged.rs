@@ -1,0 +1,287 @@
+//! Damaged outlines: each refusal, every two that can be had together in every order of places, and
+//! extreme numbers everywhere.
+
+use differential::banding::Answer::{self, Accepted, Refused};
+use differential::banding::Comparison;
+use differential::outlines::{AWKWARD, EDGE};
+use std::collections::BTreeSet;
+
+/// A fault and where it is planted. Places are numbers of curves.
+#[derive(Debug, Clone, Copy, PartialEq, Eq, PartialOrd, Ord)]
+enum Fault {
+    /// 1: this tolerance.
+    Tolerance(i32),
+    /// 6: no number at all.
+    Empty,
+    /// 5: so many curves.
+    Curves(usize),
+    /// 2: this degree.
+    Degree(usize, i32),
+    /// 3: so many numbers of the last curve are left.
+    Cut(usize),
+    /// 4: at this number of the curve, 1 to its length, this coordinate.
+    Coordinate(usize, usize, i32),
+    /// 7: a curve too wide after its last halving.
+    Wide(usize),
+    /// 8: a list without room, empty or one number short.
+    Lent(bool),
+}
+
+use Fault::*;
+
+impl Fault {
+    fn number(self) -> u32 {
+        match self {
+            Tolerance(_) => 1,
+            Degree(..) => 2,
+            Cut(_) => 3,
+            Coordinate(..) => 4,
+            Curves(_) => 5,
+            Empty => 6,
+            Wide(_) => 7,
+            Lent(_) => 8,
+        }
+    }
+}
+
+/// Curves that are accepted at every tolerance from 2, one after the other.
+const CURVES: [&[i32]; 4] = [
+    &[3, 0, 0, 10, 30, 20, 30, 30, 0],
+    &[1, 30, 0, 40, 7],
+    &[2, 40, 7, 90, 300, -20, 5],
+    &[3, 5, 5, 800, -700, -600, 500, -400, 300],
+];
+
+/// A curve whose first node at depth 8 does not meet 2.
+const WIDE: [i32; 9] = [3, 0, 0, 0, EDGE, 0, EDGE, 0, 0];
+
+/// An outline with faults planted, and the answer that document 01's table gives for it.
+struct Planted {
+    outline: Vec<i32>,
+    tolerance: i32,
+    room: Room,
+    expected: Option<(u32, u64)>,
+}
+
+#[derive(Debug, Clone, Copy, PartialEq, Eq)]
+enum Room {
+    Enough,
+    OneShort,
+    None,
+}
+
+/// Plants faults in an outline of `count` curves, or says that they cannot be had together.
+fn plant(count: usize, faults: &[Fault]) -> Option<Planted> {
+    let empty = faults.contains(&Empty);
+    if empty && faults.iter().any(|fault| !matches!(fault, Empty | Tolerance(_))) {
+        return None;
+    }
+    let (mut count, mut tolerance, mut room) = (if empty { 0 } else { count }, 2, Room::Enough);
+    for &fault in faults {
+        match fault {
+            Tolerance(bad) => tolerance = bad,
+            Curves(many) => count = many,
+            Lent(one_short) => room = if one_short { Room::OneShort } else { Room::None },
+            _ => {}
+        }
+    }
+    let curves = damaged(count, faults)?;
+    let outline = curves.concat();
+    let expected = first(&curves, faults, outline.len());
+    Some(Planted { outline, tolerance, room, expected })
+}
+
+/// So many curves with the faults that stand in one of them.
+fn damaged(count: usize, faults: &[Fault]) -> Option<Vec<Vec<i32>>> {
+    let mut curves: Vec<Vec<i32>> = (0..count).map(|i| CURVES[i % CURVES.len()].to_vec()).collect();
+    // A curve is made wide before anything else in it is damaged, and cut before its degree is.
+    let mut faults = faults.to_vec();
+    faults.sort_by_key(|fault| match fault {
+        Wide(_) => 0,
+        Coordinate(..) => 1,
+        Cut(_) => 2,
+        _ => 3,
+    });
+    for &fault in &faults {
+        match fault {
+            Wide(at) => *curves.get_mut(at)? = WIDE.to_vec(),
+            Coordinate(at, number, coordinate) => *curves.get_mut(at)?.get_mut(number)? = coordinate,
+            Cut(left) => {
+                let last = curves.last_mut().filter(|last| left < last.len())?;
+                last.truncate(left);
+            }
+            Degree(at, degree) => *curves.get_mut(at)?.first_mut()? = degree,
+            _ => {}
+        }
+    }
+    // A coordinate that was cut away or damaged once more is no fault of the outline.
+    let stands = |fault: &Fault| match *fault {
+        Coordinate(at, number, coordinate) => curves[at].get(number) == Some(&coordinate),
+        _ => true,
+    };
+    faults.iter().all(stands).then_some(curves)
+}
+
+/// The refusal that the table names first. That of 8 is left open: its spot is a count.
+fn first(curves: &[Vec<i32>], faults: &[Fault], length: usize) -> Option<(u32, u64)> {
+    let has = |wanted: &dyn Fn(&Fault) -> bool| faults.iter().any(wanted);
+    if has(&|f| matches!(f, Tolerance(_))) {
+        return Some((1, 0));
+    }
+    if has(&|f| matches!(f, Empty)) {
+        return Some((6, 0));
+    }
+    let mut index = 0;
+    for (at, curve) in curves.iter().enumerate() {
+        if at == 64 {
+            return Some((5, index as u64));
+        }
+        if has(&|f| matches!(f, Degree(place, _) if *place == at)) {
+            return Some((2, index as u64));
+        }
+        if at + 1 == curves.len() && has(&|f| matches!(f, Cut(_))) {
+            return Some((3, length as u64));
+        }
+        let bad = faults.iter().filter_map(|f| match f {
+            Coordinate(place, number, _) if *place == at => Some(index + number),
+            _ => None,
+        });
+        if let Some(bad) = bad.min() {
+            return Some((4, bad as u64));
+        }
+        index += curve.len();
+    }
+    let wide = faults.iter().filter_map(|f| match f {
+        Wide(place) => Some(512 * place + 256),
+        _ => None,
+    });
+    wide.min().map(|spot| (7, spot as u64))
+}
+
+/// Compares the engines on planted faults, and the answer with the table's.
+fn check(comparison: &mut Comparison, planted: &Planted) {
+    comparison.tally.outlines += 1;
+    let Planted { outline, tolerance, room, expected } = planted;
+    let empty = comparison.band(outline, *tolerance, 0);
+    let answer: Answer = match (room, empty) {
+        (Room::OneShort, Refused(8, leaves)) => {
+            comparison.band(outline, *tolerance, 18 * leaves as usize - 1)
+        }
+        (Room::Enough, Refused(8, leaves)) => comparison.band(outline, *tolerance, 18 * leaves as usize),
+        (Room::OneShort, _) => comparison.band(outline, *tolerance, 17),
+        (Room::Enough, _) => comparison.band(outline, *tolerance, 18 * 300),
+        (Room::None, _) => empty,
+    };
+    let right = match (*expected, answer) {
+        (Some((number, spot)), answer) => answer == Refused(number, spot),
+        (None, Refused(8, leaves)) => *room != Room::Enough && leaves > 0,
+        (None, Accepted { .. }) => *room == Room::Enough,
+        (None, Refused(..)) => false,
+    };
+    assert!(right, "outline {outline:?}, tolerance {tolerance}, {room:?}: {answer:?}, not {expected:?}");
+}
+
+/// Faults at every place of an outline of `count` curves.
+fn faults(count: usize, places: &[usize]) -> Vec<Fault> {
+    let mut faults = vec![Empty, Lent(true), Lent(false)];
+    faults.extend([i32::MIN, -1, 0, 1, EDGE + 1, i32::MAX].map(Tolerance));
+    faults.extend([65, 66].map(Curves));
+    faults.extend((1..9).map(Cut));
+    for &at in places {
+        faults.extend([i32::MIN, -1, 0, 4, i32::MAX].map(|degree| Degree(at, degree)));
+        let length = CURVES[at % CURVES.len()].len();
+        for number in [1, 2, length - 2, length - 1] {
+            for coordinate in [i32::MIN, -EDGE - 1, EDGE + 1, i32::MAX] {
+                faults.push(Coordinate(at, number, coordinate));
+            }
+        }
+        faults.push(Wide(at));
+    }
+    faults.retain(|fault| !matches!(fault, Curves(curves) if *curves <= count));
+    faults
+}
+
+#[test]
+fn every_fault_alone() {
+    let mut comparison = Comparison::new("banding, every fault alone", 501);
+    for (count, places) in [(4, &[0, 1, 2, 3][..]), (1, &[0]), (64, &[0, 1, 33, 62, 63])] {
+        check(&mut comparison, &plant(count, &[]).unwrap());
+        for fault in faults(count, places) {
+            if let Some(planted) = plant(count, &[fault]) {
+                let expected = planted.expected.map_or(8, |(number, _)| number);
+                assert_eq!(expected, fault.number());
+                check(&mut comparison, &planted);
+            }
+        }
+    }
+    assert!(comparison.tally.refused[1..].iter().all(|&count| count > 0));
+    comparison.report();
+}
+
+#[test]
+fn every_two_faults() {
+    let mut comparison = Comparison::new("banding, every two faults", 502);
+    let mut pairs = BTreeSet::new();
+    // Four curves, and 65 or 66 with faults before, in and after the 65th.
+    for (count, places) in [(4, &[0, 1, 2, 3][..]), (64, &[0, 1, 62, 63, 64, 65])] {
+        let faults = faults(count, places);
+        for &one in &faults {
+            for &other in &faults {
+                // The long outlines are for 5 only.
+                let many = matches!(one, Curves(_)) || matches!(other, Curves(_));
+                if one == other || (count == 64) != many {
+                    continue;
+                }
+                if let Some(planted) = plant(count, &[one, other]) {
+                    check(&mut comparison, &planted);
+                    let (a, b) = (one.number(), other.number());
+                    pairs.insert((a.min(b), a.max(b)));
+                }
+            }
+        }
+    }
+    for one in 1..=8 {
+        for other in one + 1..=8 {
+            // An empty outline has no other fault than its tolerance.
+            let together = (one, other) == (1, 6) || (one != 6 && other != 6);
+            assert_eq!(pairs.contains(&(one, other)), together, "{one} with {other}");
+        }
+    }
+    // The faults that can stand at two places.
+    assert!([(2, 2), (4, 4), (7, 7)].iter().all(|twice| pairs.contains(twice)));
+    comparison.report();
+}
+
+#[test]
+fn awkward_numbers_everywhere() {
+    let mut comparison = Comparison::new("banding, awkward numbers everywhere", 503);
+    let outline = CURVES.concat();
+    for tolerance in AWKWARD.into_iter().chain([44, 700]) {
+        for at in 0..outline.len() {
+            for number in AWKWARD {
+                let mut outline = outline.clone();
+                outline[at] = number;
+                comparison.tally.outlines += 1;
+                comparison.band_into_every_length(&outline, tolerance);
+                outline.truncate(at + 1);
+                comparison.tally.outlines += 1;
+                comparison.band_into_every_length(&outline, tolerance);
+            }
+        }
+    }
+    comparison.report();
+}
+
+#[test]
+fn every_length_of_an_outline() {
+    let mut comparison = Comparison::new("banding, every length of an outline", 504);
+    let mut outline: Vec<i32> = Vec::new();
+    for i in 0..70 {
+        outline.extend(CURVES[i % CURVES.len()]);
+    }
+    for length in 0..=outline.len() {
+        comparison.tally.outlines += 1;
+        comparison.band_into_every_length(&outline[..length], 44);
+    }
+    comparison.report();
+}

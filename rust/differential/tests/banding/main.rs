@@ -1,0 +1,8 @@
+//! The proved engine against the plain one: banding.
+
+mod damaged;
+mod edges;
+mod examples;
+mod largest;
+mod random;
+mod short_lists;

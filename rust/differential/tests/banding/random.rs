@@ -1,0 +1,73 @@
+//! Random outlines with fixed seeds.
+
+use differential::banding::{Answer, Comparison};
+use differential::outlines::{damage, outline, tolerance};
+use differential::random::Random;
+
+const EACH: u64 = 60_000;
+
+/// Outlines that pass every check, each at one tolerance: into an empty list, into one that is exact
+/// or longer, and at times into one that is a number short.
+fn whole(name: &'static str, seed: u64) {
+    let mut comparison = Comparison::new(name, seed);
+    let mut random = Random::new(seed);
+    for _ in 0..EACH {
+        let outline = outline(&mut random);
+        let tolerance = tolerance(&mut random);
+        comparison.tally.outlines += 1;
+        let Answer::Refused(8, leaves) = comparison.band(&outline, tolerance, 0) else {
+            continue;
+        };
+        let exact = 18 * leaves as usize;
+        let longer = if random.one_in(2) { random.below(200) } else { 0 };
+        comparison.band(&outline, tolerance, exact + longer);
+        if random.one_in(8) {
+            comparison.band(&outline, tolerance, exact - 1);
+        }
+    }
+    comparison.report();
+}
+
+/// Outlines damaged in one to three places.
+fn broken(name: &'static str, seed: u64) {
+    let mut comparison = Comparison::new(name, seed);
+    let mut random = Random::new(seed);
+    for _ in 0..EACH {
+        let mut outline = outline(&mut random);
+        let mut tolerance = tolerance(&mut random);
+        damage(&mut random, &mut outline, &mut tolerance);
+        comparison.tally.outlines += 1;
+        comparison.band_into_every_length(&outline, tolerance);
+    }
+    comparison.report();
+}
+
+#[test]
+fn whole_1() {
+    whole("banding, random outlines, seed 101", 101);
+}
+
+#[test]
+fn whole_2() {
+    whole("banding, random outlines, seed 102", 102);
+}
+
+#[test]
+fn whole_3() {
+    whole("banding, random outlines, seed 103", 103);
+}
+
+#[test]
+fn whole_4() {
+    whole("banding, random outlines, seed 104", 104);
+}
+
+#[test]
+fn broken_1() {
+    broken("banding, damaged random outlines, seed 201", 201);
+}
+
+#[test]
+fn broken_2() {
+    broken("banding, damaged random outlines, seed 202", 202);
+}

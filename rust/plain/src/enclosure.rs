@@ -1,0 +1,197 @@
+//! The enclosure of a curve: the rows of document 01 and the box at each break point.
+
+use crate::curve::{Curve, Values};
+
+/// How many break points a node has.
+pub const BREAK_POINTS: usize = 4;
+
+/// The two rows of one second difference: ten-thousandths at each break point.
+struct Rows {
+    high: [i64; BREAK_POINTS],
+    low: [i64; BREAK_POINTS],
+}
+
+const QUADRATIC: [Rows; 1] = [Rows { high: [0, -2222, -2222, 0], low: [-278, -2500, -2500, -278] }];
+
+const CUBIC: [Rows; 2] = [
+    Rows { high: [0, -3703, -2962, 0], low: [-696, -4400, -3155, -88] },
+    Rows { high: [0, -2962, -3703, 0], low: [-88, -3155, -4400, -696] },
+];
+
+/// The rows of a degree, one pair for each second difference.
+fn rows(degree: usize) -> &'static [Rows] {
+    match degree {
+        2 => &QUADRATIC,
+        3 => &CUBIC,
+        _ => &[],
+    }
+}
+
+/// A low and a high of one coordinate, in sixteenths.
+#[derive(Debug, Clone, Copy, PartialEq, Eq, Default)]
+pub struct Bounds {
+    pub low: i64,
+    pub high: i64,
+}
+
+impl Bounds {
+    fn meets(self, tolerance: i64) -> bool {
+        self.high - self.low <= tolerance
+    }
+}
+
+/// The bounds of both coordinates at one break point.
+#[derive(Debug, Clone, Copy, PartialEq, Eq, Default)]
+pub struct BoxBounds {
+    pub x: Bounds,
+    pub y: Bounds,
+}
+
+impl Curve {
+    /// The four boxes, or nothing where one of them is wider than the tolerance.
+    pub fn boxes_within(&self, tolerance: i64) -> Option<[BoxBounds; BREAK_POINTS]> {
+        let mut boxes = [BoxBounds::default(); BREAK_POINTS];
+        for (i, at) in boxes.iter_mut().enumerate() {
+            at.x = bounds(&self.x, self.degree, self.scale, i);
+            at.y = bounds(&self.y, self.degree, self.scale, i);
+            if !at.x.meets(tolerance) || !at.y.meets(tolerance) {
+                return None;
+            }
+        }
+        Some(boxes)
+    }
+}
+
+/// The bounds at break point `i` of control values over `scale`. The document's sum of thirds and
+/// ten-thousandths, times 16, is one fraction over 1875 × scale.
+fn bounds(values: &Values, degree: usize, scale: i64, i: usize) -> Bounds {
+    let along = i as i64;
+    let chord = 10_000 * ((3 - along) * values[0] + along * values[degree]);
+    let (mut low, mut high) = (chord, chord);
+    for (rows, c) in rows(degree).iter().zip(values.windows(3)) {
+        let difference = c[0] - 2 * c[1] + c[2];
+        let (under, over) =
+            if difference > 0 { (rows.low[i], rows.high[i]) } else { (rows.high[i], rows.low[i]) };
+        low += 3 * under * difference;
+        high += 3 * over * difference;
+    }
+    let divisor = 1875 * scale;
+    Bounds { low: floor(low, divisor), high: -floor(-high, divisor) }
+}
+
+/// The quotient rounded down, for a positive divisor.
+fn floor(number: i64, divisor: i64) -> i64 {
+    number.div_euclid(divisor)
+}
+
+#[cfg(test)]
+mod tests {
+    use super::*;
+
+    /// The document's formula, kept over 3 × 10000 × scale in wide numbers.
+    fn formula(values: &Values, degree: usize, scale: i64, i: usize) -> Bounds {
+        let c: Vec<i128> = values[..=degree].iter().map(|&v| i128::from(v)).collect();
+        let i_wide = i as i128;
+        let chord = ((3 - i_wide) * c[0] + i_wide * c[degree]) * 10_000;
+        let sum = |for_high: bool| -> i128 {
+            (0..degree - 1)
+                .map(|k| {
+                    let difference = c[k] - 2 * c[k + 1] + c[k + 2];
+                    let pair = &rows(degree)[k];
+                    let row = if for_high == (difference > 0) { pair.high } else { pair.low };
+                    i128::from(row[i]) * difference * 3
+                })
+                .sum()
+        };
+        let over = 30_000 * i128::from(scale);
+        let low = (16 * (chord + sum(false))).div_euclid(over);
+        let high = -(-16 * (chord + sum(true))).div_euclid(over);
+        Bounds { low: low as i64, high: high as i64 }
+    }
+
+    /// A polynomial at p/q, times q^3.
+    type Polynomial = fn(i128, i128) -> i128;
+
+    #[test]
+    fn rows_lie_on_their_sides_of_the_polynomials() {
+        // -u(1-u), -u(1-u)(2-u) and -u(1-u)(1+u).
+        let polynomials: [(&Rows, Polynomial); 3] = [
+            (&QUADRATIC[0], |p, q| -p * (q - p) * q),
+            (&CUBIC[0], |p, q| -p * (q - p) * (2 * q - p)),
+            (&CUBIC[1], |p, q| -p * (q - p) * (q + p)),
+        ];
+        let q = 3 * 500;
+        for (rows, polynomial) in polynomials {
+            for p in 0..=q {
+                let piece = (p * 3 / q).min(2);
+                let along = p * 3 - piece * q;
+                let joined = |row: &[i64; 4]| {
+                    let (from, to) = (row[piece as usize], row[piece as usize + 1]);
+                    (i128::from(from) * (q - along) + i128::from(to) * along) * q * q
+                };
+                let exact = 10_000 * polynomial(p, q);
+                assert!(joined(&rows.low) <= exact && exact <= joined(&rows.high));
+            }
+        }
+    }
+
+    #[test]
+    fn bounds_are_the_documents_formula() {
+        const EDGE: i64 = 1_048_576;
+        const SOME: [i64; 8] = [-EDGE, -EDGE + 1, -37, -1, 0, 1, 18, EDGE];
+        for degree in 1..=3 {
+            for choice in 0..SOME.len().pow(4) {
+                let mut values = [0, 1, 2, 3].map(|place| SOME[choice / SOME.len().pow(place) % SOME.len()]);
+                values[degree + 1..].fill(0);
+                let mut node = Curve { degree, x: values, y: values, scale: 1 };
+                for _ in 0..=8 {
+                    for i in 0..BREAK_POINTS {
+                        let got = bounds(&node.x, degree, node.scale, i);
+                        assert_eq!(got, formula(&node.x, degree, node.scale, i));
+                        assert!(got.low <= got.high);
+                    }
+                    node = node.halves().1;
+                }
+            }
+        }
+    }
+
+    #[test]
+    fn a_low_is_rounded_down_below_zero() {
+        assert_eq!(floor(-376, 10), -38);
+        assert_eq!(floor(376, 10), 37);
+        assert_eq!(floor(-380, 10), -38);
+    }
+
+    #[test]
+    fn each_difference_chooses_its_row_by_its_own_sign() {
+        // Differences 1 and -1: one row for the whole sum would give other bounds.
+        let values = [0, 0, 1, 1];
+        let tenthousandths = |i: usize| match i {
+            0 => (-696, 88),
+            1 => (3333 - 4400 + 2962, 3333 - 3703 + 3155),
+            2 => (6666 - 3155 + 3703, 6667 - 2962 + 4400),
+            _ => (10_000 - 88, 10_000 + 696),
+        };
+        for i in 0..BREAK_POINTS {
+            let (low, high) = tenthousandths(i);
+            let got = bounds(&values, 3, 1, i);
+            let expected = (floor(16 * low, 10_000), -floor(-16 * high, 10_000));
+            assert_eq!((got.low, got.high), expected);
+        }
+    }
+
+    #[test]
+    fn a_box_too_wide_in_the_middle_is_noticed() {
+        // The boxes at 1 and 2 are wider than those at 0 and 3.
+        let curve = Curve { degree: 3, x: [0; 4], y: [0, 100, -100, 0], scale: 1 };
+        let widths = |i| {
+            let b = bounds(&curve.y, 3, 1, i);
+            b.high - b.low
+        };
+        let widest = (0..4).map(widths).max().unwrap();
+        assert!(widest > widths(0).max(widths(3)));
+        assert!(curve.boxes_within(widest).is_some());
+        assert!(curve.boxes_within(widest - 1).is_none());
+    }
+}

@@ -1,0 +1,18 @@
+//! A plain engine for contour bands, written from document 01 alone. It shares nothing with the
+//! proved engine, and the two are compared with each other, number by number.
+//!
+//! [`band`] encloses an outline of Bézier curves in boxes. The modules follow the document's
+//! sections: the checks of an outline, halving, the enclosure, the walk.
+
+#![forbid(unsafe_code)]
+
+mod band;
+mod curve;
+mod enclosure;
+#[cfg(test)]
+mod examples;
+mod outline;
+mod refusal;
+
+pub use band::{band, Report, RECORD};
+pub use refusal::Refusal;

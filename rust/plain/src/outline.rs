@@ -1,0 +1,130 @@
+//! The checks of a tolerance and an outline, and the outline's curves.
+
+use crate::curve::Curve;
+use crate::refusal::Refusal;
+use std::ops::RangeInclusive;
+
+/// Tolerances that are taken, in sixteenths of a stage unit.
+const TOLERANCES: RangeInclusive<i32> = 2..=1_048_576;
+
+/// Coordinates that are taken, in stage units.
+const COORDINATES: RangeInclusive<i32> = -1_048_576..=1_048_576;
+
+/// Degrees that are taken.
+const DEGREES: RangeInclusive<i32> = 1..=3;
+
+/// How many curves an outline may have.
+const MOST_CURVES: usize = 64;
+
+/// Check 1.
+pub fn check_tolerance(tolerance: i32) -> Result<(), Refusal> {
+    if TOLERANCES.contains(&tolerance) {
+        Ok(())
+    } else {
+        Err(Refusal::Tolerance)
+    }
+}
+
+/// The curves of an outline, after checks 6 and, curve by curve, 5, 2, 3 and 4.
+pub fn curves(outline: &[i32]) -> Result<Vec<Curve>, Refusal> {
+    if outline.is_empty() {
+        return Err(Refusal::EmptyOutline);
+    }
+    let mut curves = Vec::new();
+    let mut index = 0;
+    while index < outline.len() {
+        if curves.len() == MOST_CURVES {
+            return Err(Refusal::TooManyCurves { index });
+        }
+        let degree = degree(outline[index]).ok_or(Refusal::Degree { index })?;
+        let first = index + 1;
+        let end = first + 2 * (degree + 1);
+        let length = outline.len();
+        let points = outline.get(first..end).ok_or(Refusal::CutShort { length })?;
+        if let Some(bad) = points.iter().position(|c| !COORDINATES.contains(c)) {
+            return Err(Refusal::Coordinate { index: first + bad });
+        }
+        curves.push(Curve::new(degree, points));
+        index = end;
+    }
+    Ok(curves)
+}
+
+fn degree(number: i32) -> Option<usize> {
+    DEGREES.contains(&number).then_some(number as usize)
+}
+
+#[cfg(test)]
+mod tests {
+    use super::*;
+
+    const LINE: [i32; 5] = [1, 0, 0, 0, 1];
+
+    fn refusal(outline: &[i32]) -> Refusal {
+        curves(outline).expect_err("the outline is faulty")
+    }
+
+    #[test]
+    fn the_last_tolerances_of_the_range_are_taken() {
+        for tolerance in [i32::MIN, -2, 0, 1, 1_048_577, i32::MAX] {
+            assert_eq!(check_tolerance(tolerance), Err(Refusal::Tolerance));
+        }
+        for tolerance in [2, 3, 1_048_575, 1_048_576] {
+            assert_eq!(check_tolerance(tolerance), Ok(()));
+        }
+    }
+
+    #[test]
+    fn a_degree_is_1_to_3() {
+        for bad in [i32::MIN, -1, 0, 4, i32::MAX] {
+            assert_eq!(refusal(&[bad]), Refusal::Degree { index: 0 });
+            let mut outline = LINE.to_vec();
+            outline.push(bad);
+            assert_eq!(refusal(&outline), Refusal::Degree { index: 5 });
+        }
+        for degree in 1..=3 {
+            let mut outline = vec![0; 3 + 2 * degree];
+            outline[0] = degree as i32;
+            assert_eq!(curves(&outline).map(|c| c.len()), Ok(1));
+        }
+    }
+
+    #[test]
+    fn a_curve_that_is_cut_short_is_named_before_its_coordinates() {
+        assert_eq!(refusal(&[3, 1_048_577, 0]), Refusal::CutShort { length: 3 });
+        assert_eq!(refusal(&[1]), Refusal::CutShort { length: 1 });
+        assert_eq!(refusal(&[2, 0, 0, 0, 0, 0]), Refusal::CutShort { length: 6 });
+    }
+
+    #[test]
+    fn an_earlier_curve_is_named_before_a_later_one() {
+        let bad_coordinate_first = [1, 1_048_577, 0, 0, 0, 7];
+        assert_eq!(refusal(&bad_coordinate_first), Refusal::Coordinate { index: 1 });
+        let bad_degree_first = [7, 1, 1_048_577, 0, 0, 0];
+        assert_eq!(refusal(&bad_degree_first), Refusal::Degree { index: 0 });
+    }
+
+    #[test]
+    fn the_first_coordinate_out_of_range_is_named() {
+        for bad in [i32::MIN, -1_048_577, 1_048_577, i32::MAX] {
+            for at in 1..LINE.len() {
+                let mut outline = LINE;
+                outline[at..].fill(bad);
+                assert_eq!(refusal(&outline), Refusal::Coordinate { index: at });
+            }
+        }
+        for good in [-1_048_576, 1_048_576] {
+            assert!(curves(&[1, good, good, good, good]).is_ok());
+        }
+    }
+
+    #[test]
+    fn a_65th_curve_is_named_before_anything_of_it_is_read() {
+        let mut outline = LINE.repeat(64);
+        assert_eq!(curves(&outline).map(|c| c.len()), Ok(64));
+        outline.push(9);
+        assert_eq!(refusal(&outline), Refusal::TooManyCurves { index: 320 });
+        outline[316] = i32::MIN;
+        assert_eq!(refusal(&outline), Refusal::Coordinate { index: 316 });
+    }
+}

@@ -1,0 +1,73 @@
+//! Refusals, with the number and the spot that document 01 gives each.
+
+/// Why an operation refused its input. Nothing that the caller lent is altered then.
+#[derive(Debug, Clone, Copy, PartialEq, Eq)]
+#[non_exhaustive]
+pub enum Refusal {
+    /// 1: the tolerance is outside its range.
+    Tolerance,
+    /// 2: a degree is not 1 to 3.
+    Degree {
+        /// Where the degree stands in the outline.
+        index: usize,
+    },
+    /// 3: the outline ends inside a curve.
+    CutShort {
+        /// The length of the outline.
+        length: usize,
+    },
+    /// 4: a coordinate is outside its range.
+    Coordinate {
+        /// Where the first such coordinate of its curve stands in the outline.
+        index: usize,
+    },
+    /// 5: a 65th curve begins.
+    TooManyCurves {
+        /// Where its degree stands in the outline.
+        index: usize,
+    },
+    /// 6: the outline is empty.
+    EmptyOutline,
+    /// 7: a node at the last depth does not meet the tolerance.
+    TooWide {
+        /// The number of the curve, from 0.
+        curve: usize,
+        /// The first such node of the walk.
+        node: usize,
+    },
+    /// 8: the lent records have no room for the leaves.
+    TooFewRecords {
+        /// How many leaves the outline has.
+        leaves: usize,
+    },
+}
+
+impl Refusal {
+    /// The refusal's number in document 01.
+    pub fn number(self) -> u32 {
+        match self {
+            Refusal::Tolerance => 1,
+            Refusal::Degree { .. } => 2,
+            Refusal::CutShort { .. } => 3,
+            Refusal::Coordinate { .. } => 4,
+            Refusal::TooManyCurves { .. } => 5,
+            Refusal::EmptyOutline => 6,
+            Refusal::TooWide { .. } => 7,
+            Refusal::TooFewRecords { .. } => 8,
+        }
+    }
+
+    /// The one whole number that document 01 gives beside the refusal's number.
+    pub fn spot(self) -> u64 {
+        let spot = match self {
+            Refusal::Tolerance | Refusal::EmptyOutline => 0,
+            Refusal::Degree { index } | Refusal::Coordinate { index } | Refusal::TooManyCurves { index } => {
+                index
+            }
+            Refusal::CutShort { length } => length,
+            Refusal::TooWide { curve, node } => 512 * curve + node,
+            Refusal::TooFewRecords { leaves } => leaves,
+        };
+        spot as u64
+    }
+}
