@@ -3,7 +3,6 @@ ghost use mathlib.Core.Path.{_≡_};
 ghost use lib.ListN.{length};
 ghost use Rattle.band.specs.Banding.{banded, written};
 ghost use Rattle.engine.specs.Answers.{answerOf};
-
 use band::Banded;
 
 // What banding answers, in numbers: a refusal's number and spot, or 0 and 0 and the report.
@@ -30,7 +29,11 @@ fn in_numbers(banded: Banded) -> Answer
     ensures { λ r. ⌜ r ≡ answerOf banded ⌝ }
 {
     match banded {
-        Banded::Done { curves, leaves, nodes } => Answer {
+        Banded::Done {
+            curves,
+            leaves,
+            nodes,
+        } => Answer {
             refusal: 0,
             spot: 0,
             curves: curves as u64,
