@@ -3,11 +3,10 @@ use mathlib.Core.Path.{_≡_, refl, sym, _∙_, ap, ap₂, subst}
 use mathlib.Core.Bool.{true, false}
 use mathlib.Core.List.{List, [], _∷_, _++_}
 use mathlib.Core.Option.{Option, none, some}
-use Prim.Native.Nat.{ℕ, suc, _+_, _-_, _*_, _^_, _≤_, _<_}
+use Prim.Native.Nat.{ℕ, suc, _-_, _*_, _^_, _≤_, _<_}
 use native.Mathlib.Nat.{zero-add}
 use native.Mathlib.Omega.{arith}
 use borrow.Author.Tests.{lt-ltb, le-ltb}
-use lib.Dec.{ltb}
 use lib.ListN.{length, length-append, drop}
 use lib.Seq.{sets, sets-eq}
 use lib.IntN.{ℤ, pos}
@@ -17,7 +16,7 @@ use Rattle.refusals.specs.declared.Refusal.the-variants.{Tolerance, TooFewRecor
 use Rattle.bezier.specs.declared.Curve.{Curve}
 use Rattle.outline.specs.declared.Checked.the-variants.{Curves as Found, Refused as Faulty}
 use Rattle.outline.specs.Curves.{nextAt, curveAt}
-use Rattle.outline.specs.Checks.{toleranceFine, Outlined, curves, faulty, withCurve, outlineFrom, outlined, checkedOf}
+use Rattle.outline.specs.Checks.{toleranceFine, curves, withCurve, outlineFrom, outlined, checkedOf}
 use Rattle.outline.proofs.Steps.{outline-begins, outline-ends, outline-ended, outline-step}
 use Rattle.outline.proofs.Accepted.{Accepted, checked-curves, checked-refused, outlined-from, accepted-most}
 use Rattle.band.specs.declared.Banded.{Banded}

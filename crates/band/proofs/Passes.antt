@@ -14,7 +14,6 @@ use Rattle.outline.specs.Curves.{nextAt, curveAt}
 use Rattle.outline.specs.Checks.{outlineFrom}
 use Rattle.band.specs.declared.count.Counted.{Counted}
 use Rattle.band.specs.declared.count.Counted.the-variants.{Leaves, Refused}
-use Rattle.band.specs.declared.walk.Walked.{Walked}
 use Rattle.band.specs.declared.walk.Walked.the-variants.{Leaves as WalkLeaves, TooWide}
 use Rattle.band.specs.Tree.{firstFailing}
 use Rattle.band.specs.Records.{deepest, nodeMeets, endsOf}

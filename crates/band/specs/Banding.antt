@@ -1,5 +1,5 @@
 -- What banding answers, and what it leaves in the caller's list (document 01). The most curves that an outline may have is a parameter.
-use mathlib.Core.Bool.{Bool, true, false}
+use mathlib.Core.Bool.{true, false}
 use mathlib.Core.List.{List, [], _∷_, _++_}
 use mathlib.Core.Option.{Option, none, some}
 use Prim.Native.Nat.{ℕ, suc, _+_, _*_}

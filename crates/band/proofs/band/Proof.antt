@@ -1,5 +1,4 @@
 -- Banding outlines of at most 64 curves.
-use native.Mathlib.Omega.{arith}
 use borrow.Author.Needs.{needs}
 use mir.Facts.{toZ-ofZ}
 use Rattle.band.proofs.band.Statement.{statement}

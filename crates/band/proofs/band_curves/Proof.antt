@@ -1,10 +1,9 @@
 -- Checks 7 and 8 and the records, from the two passes.
-use mathlib.Core.Path.{_≡_, sym, _∙_, ap}
+use mathlib.Core.Path.{_≡_, sym, _∙_}
 use native.Mathlib.Omega.{arith}
 use borrow.Author.Needs.{needs}
-use mir.Syntax.{w64}
 use mir.Facts.{toZ-ofZ}
-use Rattle.band.specs.declared.count.Counted.the-variants.{Leaves, Refused}
+use Rattle.band.specs.declared.count.Counted.the-variants.{Leaves}
 use Rattle.band.specs.Banding.{curvesOf}
 use Rattle.band.specs.Counted.{countedOf}
 use Rattle.outline.specs.Checks.{outlineFrom}

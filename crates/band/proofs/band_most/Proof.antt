@@ -1,10 +1,9 @@
 -- Banding an outline of at most so many curves, from the checks and the two passes.
-use mathlib.Core.Path.{_≡_, sym, _∙_, ap}
+use mathlib.Core.Path.{_≡_, sym, _∙_}
 use mathlib.Core.Bool.{true}
-use native.Mathlib.Omega.{arith}
 use borrow.Author.Needs.{needs}
 use borrow.Author.Tests.{not-true, not-false}
-use mir.Syntax.{w32, w64}
+use mir.Syntax.{w64}
 use mir.Facts.{toZ-ofZ, sfits-widen}
 use lib.IntN.{pos}
 use Rattle.outline.specs.Checks.{toleranceFine}

@@ -1,5 +1,5 @@
 -- Banding for programs in other languages.
-use mathlib.Core.Path.{_≡_, _∙_, ap}
+use mathlib.Core.Path.{_∙_, ap}
 use borrow.Author.Needs.{needs}
 use mir.Facts.{toZ-ofZ}
 use Rattle.engine.specs.Answers.{answerOf}

@@ -1,7 +1,6 @@
 -- The numbers of an answer.
-use mathlib.Core.Path.{_≡_, sym, _∙_, ap, ap₂}
+use mathlib.Core.Path.{sym, _∙_, ap, ap₂}
 use borrow.Author.Needs.{needs}
-use Rattle.engine.specs.declared.Answer.{Answer}
 use Rattle.engine.specs.Answers.{answerOf}
 use Rattle.engine.proofs.in_numbers.Statement.{statement}
 use Rattle.engine.proofs.in_numbers.Tie as tie

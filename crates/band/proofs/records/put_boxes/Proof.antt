@@ -1,5 +1,5 @@
 -- The boxes at the break points of a node. The loop's invariant: the boxes before i stand in their places. The measure is what is left of four.
-use mathlib.Core.Path.{_≡_, refl, sym, _∙_, ap}
+use mathlib.Core.Path.{_≡_, refl, _∙_, ap}
 use mathlib.Core.List.{List}
 use Prim.Native.Nat.{ℕ, _+_, _*_, _-_, _≤_}
 use native.Mathlib.Omega.{arith}

@@ -1,6 +1,5 @@
 -- The records of every leaf of an outline. The loop's invariant: with k curves done, the front of the list holds their records. The measure is the
 -- number of curves left.
-use mathlib.Core.Path.{_≡_, sym, _∙_, ap}
 use Prim.Native.Nat.{_-_}
 use native.Mathlib.Omega.{arith}
 use mir.Syntax.{w64}

@@ -1,6 +1,6 @@
 -- The records of a curve's leaves. The loop's invariant: the walk stands at this node, and the list holds the records of the leaves that it passed. The
 -- measure is the node's rank.
-use mathlib.Core.Path.{_≡_, refl, sym, _∙_, ap}
+use mathlib.Core.Path.{sym, _∙_, ap}
 use native.Mathlib.Omega.{arith}
 use mir.Syntax.{w64}
 use mir.Val.{toZ}
