@@ -13,3 +13,10 @@ pub mod Outlines
 pub mod Passes
 pub mod Filling
 pub mod Answers
+pub mod Depths
+pub mod Examples
+pub mod Wide
+pub mod Sound
+pub mod Faults
+pub mod Cases
+pub mod Theorems
