@@ -3,7 +3,7 @@ use mathlib.Core.Path.{_≡_, refl, sym, _∙_, ap}
 use mathlib.Core.Logic.{⊎-elim}
 use mathlib.Core.List.{List}
 use mathlib.Core.Option.{Option, none, some}
-use Prim.Native.Nat.{ℕ, _*_, _≤_, _<_}
+use Prim.Native.Nat.{ℕ, _*_}
 use borrow.Author.Tests.{lt-ltb, le-ltb}
 use lib.ListN.{length}
 use lib.IntN.{ℤ}
@@ -14,21 +14,8 @@ use Rattle.bezier.specs.declared.Curve.{Curve}
 use Rattle.band.specs.declared.Banded.{Banded}
 use Rattle.band.specs.declared.Banded.the-variants.{Done, Refused}
 use Rattle.band.specs.Banding.{firstTooWide, leavesOf, nodesOf, recordLength, bandCurves}
-use Rattle.band.proofs.Wide.{AllMeet, FirstWide, none-wide, first-wide, only-wide}
-
--- check 8: nothing is too wide, but the l leaves find no room
-pub record Few (T : ℤ) (cs : List Curve) (room l : ℕ) : Type 0 where
-  pub meet : AllMeet T cs
-  pub short : room < recordLength * leavesOf T cs
-  pub leaves : leavesOf T cs ≡ l
-
--- nothing is refused, and a curves, b leaves and c nodes are reported
-pub record Report (T : ℤ) (cs : List Curve) (room a b c : ℕ) : Type 0 where
-  pub meet : AllMeet T cs
-  pub enough : recordLength * leavesOf T cs ≤ room
-  pub curves : length cs ≡ a
-  pub leaves : leavesOf T cs ≡ b
-  pub nodes : nodesOf T cs ≡ c
+use Rattle.band.specs.Outcomes.{FirstWide, Few, Report}
+use Rattle.band.proofs.Wide.{none-wide, first-wide, only-wide}
 
 module _ (T : ℤ) (cs : List Curve) (room : ℕ) where
   pub wide-said : {k n : ℕ} → FirstWide T 0 cs k n → bandCurves T cs room ≡ Refused (TooWide k n)

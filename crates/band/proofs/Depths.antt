@@ -5,10 +5,9 @@ use mathlib.Core.Bool.{Bool, true}
 use mathlib.Core.Logic.{⊎-elim}
 use mathlib.Core.List.{List·Memᴰ, List·Memᴰ·append-cases, List·Memᴰ·eq-of-singleton}
 use mathlib.Core.Option.{none}
-use Prim.Native.Nat.{ℕ, _^_, _≤_, _<_}
+use Prim.Native.Nat.{ℕ, _≤_, _<_}
 use native.Mathlib.Omega.{arith}
-use lib.IntN.{ℤ, pos, _-ℤ_, _*ℤ_}
-use lib.Signed.{_≤ℤ_}
+use lib.IntN.{ℤ}
 use Rattle.integers.proofs.Order.{lt-or-ge}
 use Rattle.bezier.specs.declared.Curve.{Curve}
 use Rattle.bezier.specs.Bounds.{Sized}
@@ -21,10 +20,11 @@ use Rattle.enclosure.proofs.Narrow.{width-meets}
 use Rattle.band.specs.Tree.{ends, firstFailing}
 use Rattle.band.specs.Leaves.{Leaf}
 use Rattle.band.specs.Records.{deepest, nodeMeets, endsOf}
+use Rattle.band.specs.Outcomes.{AllPass, Flat}
 use Rattle.band.proofs.Halves.{left-half, right-half}
 use Rattle.band.proofs.Tree.{either, not-both, ends-induction}
 use Rattle.band.proofs.Leaves.{end-facts, leaf-exactly}
-use Rattle.band.proofs.Failing.{AllPass, passing-none}
+use Rattle.band.proofs.Failing.{passing-none}
 
 -- ---- for any test: where all nodes at depth j pass, none of them is halved
 module _ (test : ℕ → Bool) (j : ℕ) (all : (a : ℕ) → 0 < a → depth a ≡ j → test a ≡ true) where
@@ -48,10 +48,6 @@ module _ (test : ℕ → Bool) (j : ℕ) (all : (a : ℕ) → 0 < a → depth a 
   }
 
 -- ---- today's test
--- the premise of the claim
-abbrev pub Flat : ℤ → Curve → ℕ → Type 0
-Flat T c j = (pos 178 *ℤ pos (largest c)) ≤ℤ (pos 125 *ℤ (T -ℤ pos 2) *ℤ pos (4 ^ j))
-
 module _ (T : ℤ) (c : Curve) (s : Sized 0 c) (j : ℕ) (premise : Flat T c j) where
   pub all-meet : (n : ℕ) → 0 < n → depth n ≡ j → nodeMeets T c n ≡ true
   all-meet n hn e =

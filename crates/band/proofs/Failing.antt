@@ -2,23 +2,12 @@
 use mathlib.Core.Path.{_≡_, refl, sym, _∙_, ap}
 use mathlib.Core.Bool.{Bool, true, false}
 use mathlib.Core.Logic.{⊎-elim, _↔_}
-use mathlib.Core.List.{List, [], _∷_, _++_, append-nil, List·Memᴰ, List·Memᴰ·head, List·Memᴰ·tail, List·Memᴰ·not-nil, List·Memᴰ·cases-cons, List·Memᴰ·append-cases, List·Memᴰ·eq-of-singleton}
+use mathlib.Core.List.{List, [], _∷_, _++_, append-nil, List·Memᴰ·head, List·Memᴰ·tail, List·Memᴰ·not-nil, List·Memᴰ·cases-cons, List·Memᴰ·append-cases, List·Memᴰ·eq-of-singleton}
 use mathlib.Core.Option.{none, some, Option·some-injective, Option·none-ne-some, Option·some-ne-none}
 use Prim.Native.Nat.{ℕ}
 use Rattle.band.specs.Tree.{firstFailing}
+use Rattle.band.specs.Outcomes.{AllPass, First}
 use Rattle.band.proofs.Tree.{either}
-
--- every node of the list passes
-pub record AllPass (test : ℕ → Bool) (ns : List ℕ) : Type 0 where
-  pub each : (n : ℕ) → List·Memᴰ n ns → test n ≡ true
-
--- n is in the list, does not pass, and all before it do
-pub record First (test : ℕ → Bool) (ns : List ℕ) (n : ℕ) : Type 0 where
-  pub front : List ℕ
-  pub rest : List ℕ
-  pub split : ns ≡ front ++ n ∷ rest
-  pub passing : AllPass test front
-  pub fails : test n ≡ false
 
 module _ (test : ℕ → Bool) where
   pub pass-nil : AllPass test []

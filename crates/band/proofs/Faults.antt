@@ -18,12 +18,8 @@ use Rattle.outline.specs.Curves.{coordinates, degreeAt, nextAt, curveAt}
 use Rattle.outline.specs.Checks.{between, Outlined, curves, faulty, toleranceFine, withCurve, firstBeyond, faultAt, outlineFrom, outlined}
 use Rattle.band.specs.declared.Banded.the-variants.{Refused}
 use Rattle.band.specs.Banding.{bandCurves, banded}
+use Rattle.band.specs.Outcomes.{Faultless}
 use Rattle.band.proofs.Tree.{either}
-
--- checks 1 to 6 find no fault, and the outline's curves are cs
-pub record Faultless (most : ℕ) (T : ℤ) (ns : List ℤ) (cs : List Curve) : Type 0 where
-  pub tolerance : toleranceFine T ≡ true
-  pub outline : outlined most ns ≡ curves cs
 
 -- a refusal of one of them
 record Early (r : Refusal) : Type 0 where

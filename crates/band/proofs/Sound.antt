@@ -28,9 +28,10 @@ use Rattle.outline.proofs.Accepted.{outlined-from, accepted-most, accepted-some
 use Rattle.band.specs.Records.{deepest, nodeMeets, endsOf, boxNumbers, boxesTo, recordOf, recordsOf, allRecords}
 use Rattle.band.specs.Banding.{firstTooWide, leavesOf, recordLength}
 use Rattle.band.specs.Ranges.{farthest, Interval, SoundRecord, SoundList}
+use Rattle.band.specs.Outcomes.{AllMeet}
 use Rattle.band.proofs.Counting.{some-end}
 use Rattle.band.proofs.Leaves.{end-facts}
-use Rattle.band.proofs.Wide.{AllMeet, meet-head, meet-rest, none-wide}
+use Rattle.band.proofs.Wide.{meet-head, meet-rest, none-wide}
 use Rattle.band.proofs.Writing.{boxes-length}
 
 -- ---- one record: a leaf's

@@ -21,15 +21,16 @@ use Rattle.band.specs.Leaves.{Leaf, Covers, EndToEnd}
 use Rattle.band.specs.Records.{deepest, nodeMeets, endsOf, allRecords}
 use Rattle.band.specs.Banding.{recordLength, bandCurves, banded, written}
 use Rattle.band.specs.Ranges.{SoundList}
+use Rattle.band.specs.Outcomes.{AllMeet, FirstWide, Faultless, Few, Report, Flat}
 use Rattle.band.proofs.Leaves.{all-leaves}
 use Rattle.band.proofs.Covering.{some-end-covers, ends-end-to-end, neighbours-meet, in-order}
 use Rattle.band.proofs.Counting.{nodes-of-curves}
-use Rattle.band.proofs.Depths.{Flat, end-depth, none-too-wide}
+use Rattle.band.proofs.Depths.{end-depth, none-too-wide}
 use Rattle.band.proofs.Failing.{none-passing}
-use Rattle.band.proofs.Wide.{AllMeet, FirstWide, none-wide}
+use Rattle.band.proofs.Wide.{none-wide}
 use Rattle.band.proofs.Sound.{some-leaves, records-sound}
-use Rattle.band.proofs.Faults.{Faultless, banded-curves, faultless-or}
-use Rattle.band.proofs.Cases.{Few, Report, wide-said, few-said, done-said, said-wide, said-few, said-done}
+use Rattle.band.proofs.Faults.{banded-curves, faultless-or}
+use Rattle.band.proofs.Cases.{wide-said, few-said, done-said, said-wide, said-few, said-done}
 
 -- ---- the answer of banding, behind checks 1 to 6
 module _ (most : ℕ) (T : ℤ) (ns : List ℤ) (room : ℕ) where

@@ -2,7 +2,7 @@
 -- not is named, with its first such end.
 use mathlib.Core.Path.{_≡_, refl, sym, _∙_, ap}
 use mathlib.Core.Logic.{_⊎_, inl, inr, ⊎-elim, _↔_}
-use mathlib.Core.List.{List, [], _∷_, _++_, List·Memᴰ, List·Memᴰ·head, List·Memᴰ·tail, List·Memᴰ·not-nil, List·Memᴰ·cases-cons}
+use mathlib.Core.List.{List, [], _∷_, _++_, List·Memᴰ·head, List·Memᴰ·tail, List·Memᴰ·not-nil, List·Memᴰ·cases-cons}
 use mathlib.Core.Option.{Option, none, some, Option·some-injective, Option·some-ne-none, Option·none-ne-some}
 use Prim.Native.Nat.{ℕ, suc, _+_}
 use native.Mathlib.Omega.{arith}
@@ -14,21 +14,8 @@ use Rattle.bezier.specs.declared.Curve.{Curve}
 use Rattle.band.specs.Tree.{firstFailing}
 use Rattle.band.specs.Records.{nodeMeets, endsOf}
 use Rattle.band.specs.Banding.{firstTooWide}
-use Rattle.band.proofs.Failing.{AllPass, First, none-passing, passing-none, some-first, first-some}
-
--- every end of every curve meets T
-pub record AllMeet (T : ℤ) (cs : List Curve) : Type 0 where
-  pub each : (c : Curve) → List·Memᴰ c cs → AllPass (nodeMeets T c) (endsOf T c)
-
--- Of the curves numbered from s on, number k is the first with an end that does not meet T, and n is its first such end.
-pub record FirstWide (T : ℤ) (s : ℕ) (cs : List Curve) (k n : ℕ) : Type 0 where
-  pub front : List Curve
-  pub curve : Curve
-  pub rest : List Curve
-  pub split : cs ≡ front ++ curve ∷ rest
-  pub number : s + length front ≡ k
-  pub before : AllMeet T front
-  pub first : First (nodeMeets T curve) (endsOf T curve) n
+use Rattle.band.specs.Outcomes.{AllPass, AllMeet, FirstWide}
+use Rattle.band.proofs.Failing.{none-passing, passing-none, some-first, first-some}
 
 module _ (T : ℤ) where
   meet-nil : AllMeet T []
