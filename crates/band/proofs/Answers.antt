@@ -116,9 +116,9 @@ module _ (most : ℕ) (ns : List ℤ) where
     readable h = let a = found in
         record { all = a .cs; is = read; count = a .count; few = omega (arith, h, accepted-most most ns (a .cs) (a .is), a .count) }
 
-    pub banded-curves : (T : ℤ) (room : ℕ) → toleranceFine T ≡ true → bandCurves T (curvesOf (outlineFrom n ns 0)) room ≡ banded most T ns room
+    pub banded-read : (T : ℤ) (room : ℕ) → toleranceFine T ≡ true → bandCurves T (curvesOf (outlineFrom n ns 0)) room ≡ banded most T ns room
     unfolding banded
-    banded-curves T room f = rw (banded, f, read, found .is)
+    banded-read T room f = rw (banded, f, read, found .is)
 
     pub written-curves : (T : ℤ) (l : List ℤ) {l′ : List ℤ} (b : Banded) → b ≡ banded most T ns (length l)
         → l′ ≡ writtenBy b (allRecords T 0 (curvesOf (outlineFrom n ns 0))) l → l′ ≡ written most T ns l

@@ -1,7 +1,6 @@
 -- The second pass over an outline: what the list holds after each curve.
-use mathlib.Core.Path.{_≡_, refl, sym, _∙_, ap, ap₂}
+use mathlib.Core.Path.{_≡_, refl, sym, _∙_, ap, ap₂, subst}
 use mathlib.Core.List.{List, [], _∷_, _++_, append-assoc, append-nil}
-use mathlib.Core.Option.{Option, none, some}
 use Prim.Native.Nat.{ℕ, suc, _+_, _*_, _^_, _≤_, _<_}
 use native.Mathlib.Nat.{zero-add}
 use native.Mathlib.Numerals.{add-one}
@@ -10,29 +9,18 @@ use lib.ListN.{length, length-append}
 use lib.Seq.{sets, length-sets}
 use lib.IntN.{ℤ, pos}
 use lib.Signed.{_≤ℤ_}
-use Rattle.refusals.specs.declared.Refusal.{Refusal}
-use Rattle.refusals.specs.declared.Refusal.the-variants.{TooWide}
 use Rattle.bezier.specs.declared.Curve.{Curve}
 use Rattle.outline.specs.Curves.{nextAt, curveAt}
 use Rattle.outline.specs.Checks.{outlineFrom}
-use Rattle.band.specs.Tree.{firstFailing}
 use Rattle.band.specs.Records.{nodeMeets, endsOf, recordsOf, allRecords}
-use Rattle.band.specs.Banding.{curvesOf, firstTooWide, leavesOf}
+use Rattle.band.specs.Banding.{curvesOf, leavesOf}
 use Rattle.band.specs.Writing.{Ready, Fillable}
+use Rattle.band.specs.Outcomes.{AllMeet}
+use Rattle.band.proofs.Failing.{passing-none}
+use Rattle.band.proofs.Wide.{none-wide, meet-head, meet-rest}
 use Rattle.band.proofs.Outlines.{Rest, rest-start, rest-next, rest-done}
 use Rattle.band.proofs.Writing.{sets-append}
 use Rattle.band.proofs.Recording.{records-length}
-
--- where no curve is too wide, neither is the first, nor those behind it
-none-wide : (o : Option ℕ) (k : ℕ) (rest : Option Refusal)
-    → _≡_ {A = Option Refusal} (elim o [ some n ↦ some (TooWide k n) | none ↦ rest ]) none → (o ≡ none) × (rest ≡ none)
-none-wide none k rest e = (refl, e)
-none-wide (some n) k rest e = let z : _≡_ {A = ℕ} 0 1 = cc in absurd (omega arith)
-
-first-passing : (T : ℤ) (k : ℕ) (c : Curve) (cs : List Curve) → firstTooWide T k (c ∷ cs) ≡ none
-    → (firstFailing (nodeMeets T c) (endsOf T c) ≡ none) × (firstTooWide T (suc k) cs ≡ none)
-unfolding firstTooWide
-first-passing T k c cs e = none-wide (firstFailing (nodeMeets T c) (endsOf T c)) k (firstTooWide T (suc k) cs) e
 
 more-leaves : (T : ℤ) (c : Curve) (cs : List Curve) → leavesOf T (c ∷ cs) ≡ length (endsOf T c) + leavesOf T cs
 unfolding leavesOf
@@ -54,7 +42,7 @@ pub record Filled (T : ℤ) (ns : List ℤ) (n : ℕ) (l : List ℤ) (k at place
   pub here : place ≡ length done
   pub list : l′ ≡ sets l 0 done
   pub split : allRecords T 0 (curvesOf (outlineFrom n ns 0)) ≡ done ++ allRecords T k rest
-  pub passing : firstTooWide T k rest ≡ none
+  pub passing : AllMeet T rest
   pub room : place + 18 * leavesOf T rest ≤ length l
 
 module _ {T : ℤ} {ns : List ℤ} {n : ℕ} {l : List ℤ} where
@@ -66,7 +54,7 @@ module _ {T : ℤ} {ns : List ℤ} {n : ℕ} {l : List ℤ} where
     here = refl;
     list = refl;
     split = ap (λ o. allRecords T 0 (curvesOf o)) (f .readable .is);
-    passing = f .passing;
+    passing = none-wide T 0 (f .readable .all) .0 (f .passing);
     room = omega (arith, f .enough);
   }
 
@@ -79,16 +67,15 @@ module _ {T : ℤ} {ns : List ℤ} {n : ℕ} {l : List ℤ} where
         (sym (f .split ∙ ap (λ cs. f .done ++ allRecords T k cs) (rest-done (f .rest) (f .ahead) h) ∙ ap (λ xs. f .done ++ xs) (no-records T k) ∙ append-nil (f .done)))
 
     module _ (h : k < n) where
-      passing-here : (firstFailing (nodeMeets T (curveAt ns at)) (endsOf T (curveAt ns at)) ≡ none)
-          × (firstTooWide T (suc k) (rest-next (f .rest) (f .ahead) h .more) ≡ none)
-      passing-here = let x = rest-next (f .rest) (f .ahead) h in first-passing T k (curveAt ns at) (x .more) (ap (firstTooWide T k) (sym (x .is)) ∙ f .passing)
+      passing-here : AllMeet T (curveAt ns at ∷ rest-next (f .rest) (f .ahead) h .more)
+      passing-here = subst (AllMeet T) (rest-next (f .rest) (f .ahead) h .is) (f .passing)
 
       room-here : place + 18 * (length (endsOf T (curveAt ns at)) + leavesOf T (rest-next (f .rest) (f .ahead) h .more)) ≤ length l
       room-here = let x = rest-next (f .rest) (f .ahead) h in
           omega (arith, f .room, ap (leavesOf T) (x .is) ∙ more-leaves T (curveAt ns at) (x .more))
 
       pub filled-ready : T ≤ℤ pos (2 ^ 20) → Ready T (curveAt ns at)
-      filled-ready s = record { sized = rest-next (f .rest) (f .ahead) h .sized; small = s; passing = passing-here .0 }
+      filled-ready s = record { sized = rest-next (f .rest) (f .ahead) h .sized; small = s; passing = passing-none (nodeMeets T (curveAt ns at)) (endsOf T (curveAt ns at)) (meet-head T passing-here) }
 
       pub filled-room : place + 18 * length (endsOf T (curveAt ns at)) ≤ length l′
       filled-room = omega (arith, room-here, filled-length)
@@ -107,7 +94,7 @@ module _ {T : ℤ} {ns : List ℤ} {n : ℕ} {l : List ℤ} where
             list = g ∙ ap₂ (λ p q. sets p q rs) (f .list) (f .here ∙ sym (zero-add (length (f .done)))) ∙ sym (sets-append l 0 (f .done) rs);
             split = f .split ∙ ap (λ cs. f .done ++ allRecords T k cs) (x .is) ∙ ap (λ xs. f .done ++ xs) (more-records T k c (x .more))
                 ∙ sym (append-assoc (f .done) rs (allRecords T (suc k) (x .more))) ∙ ap (λ m. f .done ++ rs ++ allRecords T m (x .more)) (sym (add-one k));
-            passing = ap (λ m. firstTooWide T m (x .more)) (add-one k) ∙ passing-here .1;
+            passing = meet-rest T passing-here;
             room = omega (arith, e, room-here);
           }
 

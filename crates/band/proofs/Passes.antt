@@ -21,6 +21,7 @@ use Rattle.band.specs.Banding.{curvesOf, firstTooWide, leavesOf}
 use Rattle.band.specs.Walked.{walkedOf}
 use Rattle.band.specs.Counted.{Readable, countedOf}
 use Rattle.band.proofs.Counting.{few-ends}
+use Rattle.band.proofs.Wide.{wide-later, wide-here}
 use Rattle.band.proofs.Outlines.{Rest, rest-start, rest-next, rest-done}
 
 -- ---- what the walk of one curve says
@@ -45,24 +46,19 @@ unfolding countedFrom firstTooWide leavesOf
 counted-none leaves T k = ap Leaves (add-zero leaves)
 
 module _ (T : ℤ) (k : ℕ) (c : Curve) (cs : List Curve) where
-  wide-later : firstFailing (nodeMeets T c) (endsOf T c) ≡ none → firstTooWide T k (c ∷ cs) ≡ firstTooWide T (k + 1) cs
-  unfolding firstTooWide
-  wide-later e = rw (e, firstTooWide) (ap (λ m. firstTooWide T m cs) (sym (add-one k)))
-
-  wide-here : (n : ℕ) → firstFailing (nodeMeets T c) (endsOf T c) ≡ some n → firstTooWide T k (c ∷ cs) ≡ some (WideCurve k n)
-  unfolding firstTooWide
-  wide-here n e = rw (e, firstTooWide)
+  later : firstFailing (nodeMeets T c) (endsOf T c) ≡ none → firstTooWide T k (c ∷ cs) ≡ firstTooWide T (k + 1) cs
+  later e = wide-later T k c cs e ∙ ap (λ m. firstTooWide T m cs) (sym (add-one k))
 
   module _ (leaves : ℕ) where
     counted-more : (m : ℕ) → WalkLeaves m ≡ walkedOf T c → countedFrom leaves T k (c ∷ cs) ≡ countedFrom (leaves + m) T (k + 1) cs
     unfolding countedFrom leavesOf walkedOf
     counted-more m e =
         let w = walked-leaves (firstFailing (nodeMeets T c) (endsOf T c)) (length (endsOf T c)) m e in
-        ap₂ (λ o n. elim o [ some r ↦ Refused r | none ↦ Leaves n ]) (wide-later (w .0)) (omega (arith, w .1))
+        ap₂ (λ o n. elim o [ some r ↦ Refused r | none ↦ Leaves n ]) (later (w .0)) (omega (arith, w .1))
 
     counted-wide : (n : ℕ) → TooWide n ≡ walkedOf T c → countedFrom leaves T k (c ∷ cs) ≡ Refused (WideCurve k n)
     unfolding countedFrom walkedOf
-    counted-wide n e = rw (wide-here n (walked-wide (firstFailing (nodeMeets T c) (endsOf T c)) (length (endsOf T c)) n e), countedFrom)
+    counted-wide n e = rw (wide-here T k c cs n (walked-wide (firstFailing (nodeMeets T c) (endsOf T c)) (length (endsOf T c)) n e), countedFrom)
 
 few-leaves : (T : ℤ) (c : Curve) (m : ℕ) → WalkLeaves m ≡ walkedOf T c → m ≤ 256
 unfolding walkedOf

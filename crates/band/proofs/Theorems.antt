@@ -30,6 +30,7 @@ use Rattle.band.proofs.Failing.{none-passing}
 use Rattle.band.proofs.Wide.{none-wide}
 use Rattle.band.proofs.Sound.{some-leaves, records-sound}
 use Rattle.band.proofs.Faults.{banded-curves, faultless-or}
+use Rattle.band.proofs.Answers.{written-refused}
 use Rattle.band.proofs.Cases.{wide-said, few-said, done-said, said-wide, said-few, said-done}
 
 -- ---- the answer of banding, behind checks 1 to 6
@@ -76,8 +77,7 @@ module _ (most : ℕ) (T : ℤ) (ns : List ℤ) (room : ℕ) where
 -- ---- the lent list
 module _ (most : ℕ) (T : ℤ) (ns old : List ℤ) where
   pub refused-unaltered : (r : Refusal) → banded most T ns (length old) ≡ Refused r → written most T ns old ≡ old
-  unfolding written
-  refused-unaltered r e = rw (e, written)
+  refused-unaltered r e = sym (written-refused most ns T old (sym e))
 
   -- nothing is refused (`done-exactly`): as many records as there are leaves, and behind them what stood there
   module _ {cs : List Curve} {a b c : ℕ} (f : Faultless most T ns cs) (r : Report T cs (length old) a b c) where

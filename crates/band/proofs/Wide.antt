@@ -36,26 +36,26 @@ module _ (T : ℤ) where
   either (some n) = inr (n, refl)
 
   module _ (s : ℕ) (c : Curve) (cs : List Curve) where
-    later : firstFailing (nodeMeets T c) (endsOf T c) ≡ none → firstTooWide T s (c ∷ cs) ≡ firstTooWide T (suc s) cs
+    pub wide-later : firstFailing (nodeMeets T c) (endsOf T c) ≡ none → firstTooWide T s (c ∷ cs) ≡ firstTooWide T (suc s) cs
     unfolding firstTooWide
-    later e = rw (e, firstTooWide)
+    wide-later e = rw (e, firstTooWide)
 
-    here : (n : ℕ) → firstFailing (nodeMeets T c) (endsOf T c) ≡ some n → firstTooWide T s (c ∷ cs) ≡ some (TooWide s n)
+    pub wide-here : (n : ℕ) → firstFailing (nodeMeets T c) (endsOf T c) ≡ some n → firstTooWide T s (c ∷ cs) ≡ some (TooWide s n)
     unfolding firstTooWide
-    here n e = rw (e, firstTooWide)
+    wide-here n e = rw (e, firstTooWide)
 
   -- ---- nothing is too wide
   none-meet : (s : ℕ) (cs : List Curve) → firstTooWide T s cs ≡ none → AllMeet T cs
   none-meet s [] e = meet-nil
   none-meet s (c ∷ cs) e = ⊎-elim
-      (λ f. meet-cons (none-passing (nodeMeets T c) (endsOf T c) f) (none-meet (suc s) cs (sym (later s c cs f) ∙ e)))
-      (λ f. absurd (Option·some-ne-none (TooWide s (f .0)) (sym (here s c cs (f .0) (f .1)) ∙ e)))
+      (λ f. meet-cons (none-passing (nodeMeets T c) (endsOf T c) f) (none-meet (suc s) cs (sym (wide-later s c cs f) ∙ e)))
+      (λ f. absurd (Option·some-ne-none (TooWide s (f .0)) (sym (wide-here s c cs (f .0) (f .1)) ∙ e)))
       (either (firstFailing (nodeMeets T c) (endsOf T c)))
 
   meet-none : (s : ℕ) (cs : List Curve) → AllMeet T cs → firstTooWide T s cs ≡ none
   unfolding firstTooWide
   meet-none s [] h = refl
-  meet-none s (c ∷ cs) h = later s c cs (passing-none (nodeMeets T c) (endsOf T c) (meet-head h)) ∙ meet-none (suc s) cs (meet-rest h)
+  meet-none s (c ∷ cs) h = wide-later s c cs (passing-none (nodeMeets T c) (endsOf T c) (meet-head h)) ∙ meet-none (suc s) cs (meet-rest h)
 
   -- ---- something is
   found : (s : ℕ) (cs : List Curve) (r : Refusal) → firstTooWide T s cs ≡ some r → (k : ℕ) × (n : ℕ) × (r ≡ TooWide k n) × FirstWide T s cs k n
@@ -63,7 +63,7 @@ module _ (T : ℤ) where
   found s [] r e = absurd (Option·none-ne-some r e)
   found s (c ∷ cs) r e = ⊎-elim
       (λ f.
-      let w = found (suc s) cs r (sym (later s c cs f) ∙ e) in
+      let w = found (suc s) cs r (sym (wide-later s c cs f) ∙ e) in
       let h = w .3 in (
         w .0,
         w .1,
@@ -81,7 +81,7 @@ module _ (T : ℤ) where
       (λ f. (
         s,
         f .0,
-        Option·some-injective r (TooWide s (f .0)) (sym e ∙ here s c cs (f .0) (f .1)),
+        Option·some-injective r (TooWide s (f .0)) (sym e ∙ wide-here s c cs (f .0) (f .1)),
         record {
           front = [];
           curve = c;
@@ -97,13 +97,13 @@ module _ (T : ℤ) where
   behind : (s : ℕ) (front cs : List Curve) → AllMeet T front → firstTooWide T s (front ++ cs) ≡ firstTooWide T (s + length front) cs
   behind s [] cs h = ap (λ m. firstTooWide T m cs) {x = s} {y = s + 0} (omega arith)
   behind s (c ∷ front) cs h =
-      later s c (front ++ cs) (passing-none (nodeMeets T c) (endsOf T c) (meet-head h)) ∙ behind (suc s) front cs (meet-rest h)
+      wide-later s c (front ++ cs) (passing-none (nodeMeets T c) (endsOf T c) (meet-head h)) ∙ behind (suc s) front cs (meet-rest h)
       ∙ ap (λ m. firstTooWide T m cs) {x = suc s + length front} {y = s + suc (length front)} (omega arith)
 
   first-found : (s : ℕ) (cs : List Curve) (k n : ℕ) → FirstWide T s cs k n → firstTooWide T s cs ≡ some (TooWide k n)
   first-found s cs k n w =
       ap (firstTooWide T s) (w .split) ∙ behind s (w .front) (w .curve ∷ w .rest) (w .before)
-      ∙ here (s + length (w .front)) (w .curve) (w .rest) n (first-some (nodeMeets T (w .curve)) (endsOf T (w .curve)) n (w .first))
+      ∙ wide-here (s + length (w .front)) (w .curve) (w .rest) n (first-some (nodeMeets T (w .curve)) (endsOf T (w .curve)) n (w .first))
       ∙ ap (λ m. some (TooWide m n)) (w .number)
 
   -- ---- in words

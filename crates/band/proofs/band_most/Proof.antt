@@ -8,7 +8,7 @@ use mir.Facts.{toZ-ofZ, sfits-widen}
 use lib.IntN.{pos}
 use Rattle.outline.specs.Checks.{toleranceFine}
 use Rattle.outline.proofs.Between.{between-high}
-use Rattle.band.proofs.Answers.{readable, banded-curves, written-curves, banded-tolerance, banded-faulty, written-refused}
+use Rattle.band.proofs.Answers.{readable, banded-read, written-curves, banded-tolerance, banded-faulty, written-refused}
 use Rattle.band.proofs.band_most.Statement.{statement}
 use Rattle.band.proofs.band_most.Tie as tie
 
@@ -69,7 +69,7 @@ returns-3 c =
     let a = s .args in
     let e = sym (c .before .before .before .before .curves .given .1) ∙ k .check-outline .ensures in
     let r = rw (toZ-ofZ (s .fits .tolerance), toZ-ofZ (sfits-widen {w′ = w64} tt (s .fits .tolerance))) at (c .before .band-curves .ensures) in
-    let b = r .0 ∙ banded-curves (a .most) (a .ns .now) e (a .tolerance) _ (fine k) in
+    let b = r .0 ∙ banded-read (a .most) (a .ns .now) e (a .tolerance) _ (fine k) in
     (b, written-curves (a .most) (a .ns .now) e (a .tolerance) (a .records .now) _ b (r .1))
 
 pub band-most-spec : {M : Type 1} → statement M
