@@ -44,6 +44,9 @@ holds! {B} {z} {r} s t e =
       size = subst (λ x. natAbs x ≤ B) (sym (s .is u)) (le-trans (s .under u) (leb→le (s .bound) B (and-right (s .test) (leb (s .bound) B) t)));
     }
 
+pub small! : {B : ℕ} {z : ℤ} (s : Held z) → T (s .test && leb (s .bound) B) → Small B z
+small! s t = record { size = holds! s t refl .size }
+
 -- ---- what the code starts from
 abbrev pub count-point : {cs : List ℤ} {d i : ℕ} → Readable cs d i → Count i
 count-point h = record { bound = 4; under = h .point }
