@@ -4,10 +4,9 @@ use mathlib.Core.Bool.{Bool, true, false, cond, _&&_}
 use mathlib.Core.Logic.{⊎-elim}
 use mathlib.Core.List.{List, [], _∷_}
 use Prim.Native.Nat.{ℕ, zero, suc, _^_, _≤_, _<_, zero-le}
-use native.Mathlib.Nat.{zero-lt-suc}
 use native.Mathlib.Omega.{arith}
 use lib.Dec.{T, lit<}
-use lib.IntN.{ℤ, pos, negsuc, negℤ, natAbs, _+ℤ_, _-ℤ_, _*ℤ_, +ℤ-idl}
+use lib.IntN.{ℤ, pos, negsuc, negℤ, natAbs, _+ℤ_, _-ℤ_, _*ℤ_, +ℤ-idl, +ℤ-idr}
 use lib.Signed.{ltZ, leZ, _≤ℤ_, _<ℤ_, ltZ-yes, ltZ-no, leZ-yes, clashℤ}
 use mir.Syntax.{w64}
 use mir.Val.{SFits}
@@ -33,7 +32,7 @@ use Rattle.enclosure.proofs.Degrees.{degrees}
 use Rattle.enclosure.proofs.Width.{term-gap}
 use Rattle.enclosure.proofs.Reduced.{low-reduced, high-reduced}
 use Rattle.enclosure.proofs.Narrow.{meets-narrow, narrow-meets}
-use Rattle.enclosure.proofs.Coordinates.{over-positive, denominator-positive}
+use Rattle.enclosure.proofs.Coordinates.{over-positive}
 
 -- ---- the larger of two numbers
 ≤ℤ-refl : {a : ℤ} → a ≤ℤ a
@@ -192,15 +191,15 @@ cond-same false z = refl
 
 pub spread-quadratic : (cs : List ℤ) → pos 278 *ℤ pos (natAbs (difference cs 0)) ≡ spread 2 cs
 unfolding spread apart larger
-spread-quadratic cs = let n = natAbs (difference cs 0) in
-    ring (pos n ∷ []) {b = apart (thirds 2) 1 0 cs} (search sides depth 20) refl ∙ cond-same (ltZ (apart (thirds 2) 1 0 cs) (apart (thirds 2) 2 0 cs)) (apart (thirds 2) 1 0 cs)
+spread-quadratic cs =
+    sym (+ℤ-idr (pos 278 *ℤ pos (natAbs (difference cs 0))))
+    ∙ cond-same (ltZ (apart (thirds 2) 1 0 cs) (apart (thirds 2) 2 0 cs)) (apart (thirds 2) 1 0 cs)
 
 pub spread-cubic : (cs : List ℤ) → let a = pos (natAbs (difference cs 0)) in let b = pos (natAbs (difference cs 1)) in
     larger (pos 697 *ℤ a +ℤ pos 193 *ℤ b) (pos 193 *ℤ a +ℤ pos 697 *ℤ b) ≡ spread 3 cs
 unfolding spread apart
-spread-cubic cs =
-    let a = pos (natAbs (difference cs 0)) in
-    let b = pos (natAbs (difference cs 1)) in
-    ap₂ larger
-    (ring (a ∷ b ∷ []) {a = pos 697 *ℤ a +ℤ pos 193 *ℤ b} {b = apart (thirds 3) 1 0 cs} (search sides depth 20) refl)
-    (ring (a ∷ b ∷ []) {a = pos 193 *ℤ a +ℤ pos 697 *ℤ b} {b = apart (thirds 3) 2 0 cs} (search sides depth 20) refl)
+spread-cubic cs = ap₂ larger (two 697 193) (two 193 697)
+  where
+    two : (g h : ℕ) → let a = pos (natAbs (difference cs 0)) in let b = pos (natAbs (difference cs 1)) in
+        pos g *ℤ a +ℤ pos h *ℤ b ≡ pos g *ℤ a +ℤ (pos h *ℤ b +ℤ pos 0)
+    two g h = ap (λ z. pos g *ℤ pos (natAbs (difference cs 0)) +ℤ z) (sym (+ℤ-idr (pos h *ℤ pos (natAbs (difference cs 1)))))

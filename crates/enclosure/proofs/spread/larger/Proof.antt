@@ -9,13 +9,13 @@ returns : tie.Need-returns
 returns c =
     let a = c .before .args in
     let p = c .before .pre in
-    holds! (search (p .0, p .1, bounded) depth 40) tt (larger-then (a .a) (a .b) (flag! (c .if1 .taken) (search (p .0, p .1, bounded) depth 40) tt))
+    holds! (search (p .1, bounded) depth 40) tt (larger-then (a .a) (a .b) (flag! (c .if1 .taken) (search (p .0, p .1, bounded) depth 40) tt))
 
 returns-2 : tie.Need-returns-2
 returns-2 c =
     let a = c .before .args in
     let p = c .before .pre in
-    holds! (search (p .0, p .1, bounded) depth 40) tt (larger-then (a .a) (a .b) (flag! (c .if1 .left) (search (p .0, p .1, bounded) depth 40) tt))
+    holds! (search (p .0, bounded) depth 40) tt (larger-then (a .a) (a .b) (flag! (c .if1 .left) (search (p .0, p .1, bounded) depth 40) tt))
 
 pub larger-spec : {M : Type 1} → statement M
 larger-spec = tie.close (tie.spec returns returns-2)
