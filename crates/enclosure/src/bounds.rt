@@ -80,13 +80,13 @@ pub fn denominator(degree: u32, depth: u32) -> i64
     1875 * (power as i64)
 }
 
-// The high at break point i.
+// The high at break point i: minus the floor of the negated fraction, whose denominator is a power of 2, by a shift, times 1875.
 pub fn high(c: [i64; 4], degree: u32, depth: u32, i: usize) -> i64
     requires { ⌜ (Readable c degree i) × (depth ≤ 8) ⌝ }
     ensures { λ r. ⌜ Holds (2 ^ 51) (highOf degree depth c i) r ⌝ }
 {
     let n = chord_at(c, degree, i) + 3 * row_sum(c, degree, i);
-    integers::ceiling_div(n, denominator(degree, depth))
+    -integers::floor_div(-n >> (degree * depth), 1875)
 }
 
 // The control values negated.
