@@ -4,16 +4,19 @@ ghost use lib.IntN.{pos, natAbs};
 ghost use Rattle.bezier.specs.Bounds.{Halvable};
 ghost use Rattle.enclosure.specs.Terms.{Readable, Small, Holds};
 ghost use Rattle.enclosure.specs.Spread.{larger, spread, widest};
-
-use bezier::Curve;
 use crate::bounds::difference_at;
+use bezier::Curve;
 
 // The size of a second difference.
 fn size(difference: i64) -> i64
     requires { ⌜ Small (2 ^ 46) difference ⌝ }
     ensures { λ r. ⌜ Holds (2 ^ 46) (pos (natAbs difference)) r ⌝ }
 {
-    if difference < 0 { -difference } else { difference }
+    if difference < 0 {
+        -difference
+    } else {
+        difference
+    }
 }
 
 // The larger of two numbers.
