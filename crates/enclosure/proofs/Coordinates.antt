@@ -11,19 +11,19 @@ use native.Mathlib.Numerals.{add-one, add-two}
 use lib.Dec.{T, leb, ltb, leb→le, lit<}
 use lib.Pow.{pow-mono, pow-pos}
 use lib.ListN.{length}
-use lib.IntN.{ℤ, pos, natAbs, negℤ, _+ℤ_, _-ℤ_, _*ℤ_, +ℤ-idr}
-use lib.Signed.{ltZ, _<ℤ_, ltZ-yes}
+use lib.IntN.{ℤ, pos, natAbs, negℤ, _+ℤ_, _-ℤ_, _*ℤ_, +ℤ-idl, +ℤ-idr}
+use lib.Signed.{ltZ, shrZ, _<ℤ_, ltZ-yes}
 use mir.Syntax.{w64}
 use mir.Val.{toZ}
 use mir.Facts.{toZ-ofZ, toZ-pos}
 use Rattle.integers.specs.Entry.{entry}
-use Rattle.integers.specs.Rounding.{ceiling}
+use Rattle.integers.specs.Rounding.{floor, ceiling}
 use Rattle.integers.proofs.Table.{every, at, and-left, and-right}
 use Rattle.integers.proofs.Ring.{sides}
 use Rattle.integers.proofs.Ranges.{stored}
 use Rattle.integers.proofs.Size.{fits-size, abs-neg, abs-high, abs-low}
-use Rattle.integers.proofs.Rounding.{ceiling-size}
-use Rattle.integers.proofs.Order.{times-positive, natural, gap, gap<, le-by, pos-lt, _+₀_, _×₀_}
+use Rattle.integers.proofs.Rounding.{floor-size, floor-floor, shift-floor}
+use Rattle.integers.proofs.Order.{gap, le-by, pos-lt}
 use Rattle.integers.proofs.Machine.{Held, Count, tests}
 use Rattle.bezier.specs.Differences.{difference}
 use Rattle.bezier.specs.Halves.{four}
@@ -43,6 +43,9 @@ holds! {B} {z} {r} s t e =
       is = s .is u ∙ e;
       size = subst (λ x. natAbs x ≤ B) (sym (s .is u)) (le-trans (s .under u) (leb→le (s .bound) B (and-right (s .test) (leb (s .bound) B) t)));
     }
+
+pub small! : {B : ℕ} {z : ℤ} (s : Held z) → T (s .test && leb (s .bound) B) → Small B z
+small! s t = record { size = holds! s t refl .size }
 
 -- ---- what the code starts from
 abbrev pub count-point : {cs : List ℤ} {d i : ℕ} → Readable cs d i → Count i
@@ -124,33 +127,36 @@ held-shift s h = record {
   under = λ t. pow-mono h;
 }
 
--- ---- a quotient by k times 1875, and what its caller holds of it
+-- ---- a quotient by 1875, and what its caller holds of it
 pub restored : {B : ℕ} {z r : ℤ} → Holds B z r → T (ltb B (2 ^ 63)) → Holds B z (stored w64 r)
 restored {B} {z} {r} h t = record { is = stored-is h t; size = subst (λ x. natAbs x ≤ B) (h .is ∙ sym (stored-is h t)) (h .size) }
 
-module _ (B k : ℕ) (some : 0 < k) where
-  quotient-size : (n : ℤ) → natAbs n ≤ B * 1875 → natAbs (ceiling n (pos 1875 *ℤ pos k)) ≤ B
-  quotient-size n h = ceiling-size B (times-positive {x = pos 1875} (ltZ-yes tt) (pos-lt some))
-      (le-by (pos B ∷ pos k ∷ n ∷ []) (gap (abs-high n h) +₀ natural (B * 1875) ×₀ gap< (pos-lt some)) (search sides depth 20) refl)
-      (le-by (pos B ∷ pos k ∷ n ∷ []) (gap (abs-low n h) +₀ natural (B * 1875) ×₀ gap< (pos-lt some)) (search sides depth 20) refl)
+quotient-size : (B : ℕ) (n : ℤ) → natAbs n ≤ B * 1875 → natAbs (floor n (pos 1875)) ≤ B
+quotient-size B n h = floor-size B {d = pos 1875} (ltZ-yes tt)
+    (le-by (pos B ∷ n ∷ []) (gap (abs-high n h)) (search sides depth 20) refl)
+    (le-by (pos B ∷ n ∷ []) (gap (abs-low n h)) (search sides depth 20) refl)
 
-  pub ceiling-holds : {n q r : ℤ} → r ≡ ceiling n q → q ≡ pos 1875 *ℤ pos k → (s : Held n) → T (s .test && leb (s .bound) (B * 1875))
-      → Holds B (ceiling (s .value) (pos 1875 *ℤ pos k)) r
-  ceiling-holds {n} {q} {r} e f s t =
-      let u = and-left (s .test) (leb (s .bound) (B * 1875)) t in
-      let g = e ∙ ap₂ ceiling (s .is u) f in
-      record {
-        is = g;
-        size = subst (λ x. natAbs x ≤ B) (sym g)
-            (quotient-size (s .value) (le-trans (s .under u) (leb→le (s .bound) (B * 1875) (and-right (s .test) (leb (s .bound) (B * 1875)) t))));
-      }
+pub floor-holds : (B : ℕ) {n r : ℤ} → r ≡ floor n (pos 1875) → (s : Held n) → T (s .test && leb (s .bound) (B * 1875)) → Holds B (floor (s .value) (pos 1875)) r
+floor-holds B e s t =
+    let u = and-left (s .test) (leb (s .bound) (B * 1875)) t in
+    let f = e ∙ ap (λ z. floor z (pos 1875)) (s .is u) in
+    record {
+      is = f;
+      size = subst (λ x. natAbs x ≤ B) (sym f)
+          (quotient-size B (s .value) (le-trans (s .under u) (leb→le (s .bound) (B * 1875) (and-right (s .test) (leb (s .bound) (B * 1875)) t))));
+    }
 
--- the denominator is positive
+-- the ceiling that the code computes: by a shift, then by 1875
+pub ceiling-shifted : (n : ℤ) (k : ℕ) → 0 < k → pos 0 -ℤ floor (shrZ (pos 0 -ℤ n) k) (pos 1875) ≡ ceiling n (pos 1875 *ℤ pos k)
+unfolding ceiling
+ceiling-shifted n k some =
+    +ℤ-idl (negℤ (floor (shrZ (pos 0 -ℤ n) k) (pos 1875)))
+    ∙ ap negℤ (ap (λ z. floor (shrZ z k) (pos 1875)) (+ℤ-idl (negℤ n)) ∙ ap (λ z. floor z (pos 1875)) (shift-floor (negℤ n) k)
+    ∙ floor-floor {d = pos k} {e = pos 1875} (pos-lt some) (ltZ-yes tt) (negℤ n))
+
+-- the denominator of the control values is positive
 pub over-positive : (d k : ℕ) → pos 0 <ℤ over d k
 over-positive d k = pos-lt (pow-pos (d * k))
-
-pub denominator-positive : (d k : ℕ) → pos 0 <ℤ (pos 1875 *ℤ over d k)
-denominator-positive d k = times-positive {x = pos 1875} (ltZ-yes tt) (over-positive d k)
 
 -- ---- the control values negated
 pub readable-opposite : {cs : List ℤ} {d i : ℕ} → Readable cs d i → Readable (opposite cs) d i

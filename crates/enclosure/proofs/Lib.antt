@@ -16,3 +16,4 @@ pub mod Leaf
 pub mod Reduced
 pub mod Coordinates
 pub mod Boxes
+pub mod Apart

@@ -25,7 +25,7 @@ use Rattle.enclosure.proofs.Rows.{table-count}
 
 -- ---- the two sums of row × difference
 -- one term: the rows' gap times the size of the difference
-term-gap : (h l δ : ℤ) → cond (ltZ δ (pos 0)) l h *ℤ δ -ℤ cond (ltZ δ (pos 0)) h l *ℤ δ ≡ (h -ℤ l) *ℤ pos (natAbs δ)
+pub term-gap : (h l δ : ℤ) → cond (ltZ δ (pos 0)) l h *ℤ δ -ℤ cond (ltZ δ (pos 0)) h l *ℤ δ ≡ (h -ℤ l) *ℤ pos (natAbs δ)
 term-gap h l (pos n) =
     ap (λ (c : Bool). cond c l h *ℤ pos n -ℤ cond c h l *ℤ pos n) (no-lt {a = pos n} (pos-le zero-le))
     ∙ ring (h ∷ l ∷ pos n ∷ []) {a = h *ℤ pos n -ℤ l *ℤ pos n} (search sides depth 20) refl

@@ -40,7 +40,7 @@ fn row_term(place: usize, difference: i64) -> i64
 }
 
 // The second difference of the control values from place k on.
-fn difference_at(c: [i64; 4], k: usize) -> i64
+pub fn difference_at(c: [i64; 4], k: usize) -> i64
     requires { ⌜ (Each (2 ^ 44) c) × (k < 2) ⌝ }
     ensures { λ r. ⌜ Holds (2 ^ 46) (difference c k) r ⌝ }
 {
@@ -72,7 +72,7 @@ fn chord_at(c: [i64; 4], degree: u32, i: usize) -> i64
 }
 
 // The denominator of a bound at a depth: 1875 times that of the control values.
-fn denominator(degree: u32, depth: u32) -> i64
+pub fn denominator(degree: u32, depth: u32) -> i64
     requires { ⌜ (degree ≤ 3) × (depth ≤ 8) ⌝ }
     ensures { λ r. ⌜ Holds (1875 * 2 ^ 24) (pos 1875 *ℤ over degree depth) r ⌝ }
 {
@@ -80,13 +80,13 @@ fn denominator(degree: u32, depth: u32) -> i64
     1875 * (power as i64)
 }
 
-// The high at break point i.
+// The high at break point i: minus the floor of the negated fraction, whose denominator is a power of 2, by a shift, times 1875.
 pub fn high(c: [i64; 4], degree: u32, depth: u32, i: usize) -> i64
     requires { ⌜ (Readable c degree i) × (depth ≤ 8) ⌝ }
     ensures { λ r. ⌜ Holds (2 ^ 51) (highOf degree depth c i) r ⌝ }
 {
     let n = chord_at(c, degree, i) + 3 * row_sum(c, degree, i);
-    integers::ceiling_div(n, denominator(degree, depth))
+    -integers::floor_div(-n >> (degree * depth), 1875)
 }
 
 // The control values negated.

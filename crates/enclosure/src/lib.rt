@@ -5,6 +5,7 @@ ghost use Rattle.bezier.specs.Bounds.{Sized};
 ghost use Rattle.enclosure.specs.Boxes.{Sides, boxAt, narrow, meets};
 
 mod bounds;
+mod spread;
 
 use bezier::Curve;
 
@@ -48,8 +49,8 @@ impl Box {
     }
 }
 
-// The node meets the tolerance: its boxes at all four break points are narrow.
-pub fn meets(curve: Curve, depth: u32, t: i64) -> bool
+// The boxes at all four break points are narrow.
+fn boxes_meet(curve: Curve, depth: u32, t: i64) -> bool
     requires { ⌜ (Sized depth curve) × (depth ≤ 8) ⌝ }
     ensures { λ r. ⌜ r ≡ meets t depth curve ⌝ }
 {
@@ -61,4 +62,25 @@ pub fn meets(curve: Curve, depth: u32, t: i64) -> bool
         i += 1;
     }
     true
+}
+
+// The node meets the tolerance: its boxes at all four break points are narrow. How far its lows and highs are apart before rounding decides
+// all but a few nodes; t is tested first, so that no product wraps.
+pub fn meets(curve: Curve, depth: u32, t: i64) -> bool
+    requires { ⌜ (Sized depth curve) × (depth ≤ 8) ⌝ }
+    ensures { λ r. ⌜ r ≡ meets t depth curve ⌝ }
+{
+    if t < 1 || 1048576 < t {
+        return boxes_meet(curve, depth, t);
+    }
+    let apart = spread::widest(curve);
+    let unit = bounds::denominator(curve.degree, depth);
+    let limit = unit * t;
+    if apart <= limit - unit {
+        return true;
+    }
+    if limit < apart {
+        return false;
+    }
+    boxes_meet(curve, depth, t)
 }

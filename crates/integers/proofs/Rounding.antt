@@ -7,13 +7,13 @@ use Prim.Native.Nat.{ℕ, zero, suc, _/_, _%_, _≤_, _<_, zero-le, suc-le-suc}
 use native.Mathlib.Nat.{div-add-mod', mod-lt, div-le-self, lt-of-le-of-lt, le-of-suc-le-suc, le-trans}
 use lib.Dec.{ltb→lt}
 use lib.IntN.{ℤ, pos, negsuc, negℤ, _+ℤ_, _-ℤ_, _*ℤ_, negℤ-negℤ, natAbs}
-use lib.Signed.{mag, mag-rem, quotZ, remZ, ltZ, _≤ℤ_, _<ℤ_}
+use lib.Signed.{mag, mag-rem, quotZ, remZ, shrZ, ltZ, _≤ℤ_, _<ℤ_}
 use mir.Syntax.{Width}
 use mir.Val.{SFits, ofZ}
 use mir.Facts.{toZ-ofZ}
 use Rattle.integers.specs.Rounding.{floor, ceiling}
 use Rattle.integers.proofs.Ring.{ring, sides}
-use Rattle.integers.proofs.Order.{NonNeg, natural, nonneg-by, gap, gap<, le-by, lt-by, clash-by, pos-lt, le-or-lt, ≤ℤ-trans, ≤ℤ-antisymm, *ℤ-cancel, _+₀_, _×₀_}
+use Rattle.integers.proofs.Order.{NonNeg, natural, nonneg-by, gap, gap<, le-by, lt-by, clash-by, pos-lt, le-or-lt, ≤ℤ-trans, ≤ℤ-antisymm, *ℤ-cancel, times-positive, _+₀_, _×₀_}
 use Rattle.integers.proofs.Size.{abs-within}
 use Rattle.integers.proofs.Ranges.{stored, lt-yes, lt-no}
 
@@ -135,11 +135,27 @@ module _ {d : ℤ} (hd : pos 0 <ℤ d) where
           above = le-by (k ∷ d ∷ n ∷ q ∷ []) ((gap< hk +₀ natural 1) ×₀ gap (f .above)) (search sides depth 20) refl;
         }))
 
+-- ---- a division in two steps, and a shift to the right by a power of 2, which divides by it
+pub floor-floor : {d e : ℤ} → pos 0 <ℤ d → pos 0 <ℤ e → (n : ℤ) → floor (floor n d) e ≡ floor n (e *ℤ d)
+floor-floor {d} {e} hd he n =
+    let q = floor n d in
+    let r = floor q e in
+    let f = floor-is n d hd in
+    let g = floor-is q e he in
+    floor-unique (times-positive he hd) (record {
+      below = le-by (d ∷ e ∷ n ∷ q ∷ r ∷ []) (gap (f .below) +₀ (gap< hd +₀ natural 1) ×₀ gap (g .below)) (search sides depth 20) refl;
+      above = lt-by (d ∷ e ∷ n ∷ q ∷ r ∷ []) (gap< (f .above) +₀ (gap< hd +₀ natural 1) ×₀ gap< (g .above)) (search sides depth 20) refl;
+    })
+
+pub shift-floor : (n : ℤ) (k : ℕ) → shrZ n k ≡ floor n (pos k)
+unfolding floor
+shift-floor (pos a) k = refl
+shift-floor (negsuc a) k = refl
+
 -- at most B in size where n is at most B · d
-pub ceiling-size : (B : ℕ) {n d : ℤ} → pos 0 <ℤ d → n ≤ℤ (pos B *ℤ d) → (negℤ (pos B) *ℤ d) ≤ℤ n → natAbs (ceiling n d) ≤ B
-ceiling-size B {n} {d} hd h l = abs-within B (ceiling n d)
-    (*ℤ-cancel {a = negℤ (pos B)} {b = ceiling n d} hd (le-by (pos B ∷ n ∷ d ∷ ceiling n d ∷ []) (gap l +₀ gap (ceiling-is n d hd .above)) (search sides depth 20) refl))
-    (ceiling-le hd h)
+pub floor-size : (B : ℕ) {n d : ℤ} → pos 0 <ℤ d → n ≤ℤ (pos B *ℤ d) → (negℤ (pos B) *ℤ d) ≤ℤ n → natAbs (floor n d) ≤ B
+floor-size B {n} {d} hd h l = abs-within B (floor n d) (le-floor hd l)
+    (*ℤ-cancel {a = floor n d} {b = pos B} hd (le-by (pos B ∷ n ∷ d ∷ floor n d ∷ []) (gap h +₀ gap (floor-is n d hd .below)) (search sides depth 20) refl))
 
 -- ---- as code computes them: `if n % d < 0 { n / d - 1 } else { n / d }`, and `if 0 < n % d { n / d + 1 } else { n / d }`
 quotient-remainder : (n : ℤ) (D : ℕ) → n ≡ quotZ n (pos D) *ℤ pos D +ℤ remZ n (pos D)

@@ -1,82 +1,71 @@
--- The test of a node. The loop's invariant: the boxes before i are narrow. The measure is what is left of four.
-use mathlib.Core.Path.{_≡_, refl, sym, _∙_, ap}
-use mathlib.Core.Bool.{Bool, true}
-use Prim.Native.Nat.{_-_, _≤_}
-use native.Mathlib.Omega.{arith}
-use borrow.Author.Tests.{not-true, not-false}
-use lib.IntN.{ℤ}
-use mir.Syntax.{w64}
-use mir.Val.{toZ}
+-- The test of a node: the spread decides, or the boxes do.
+use mathlib.Core.Path.{sym, _∙_, ap}
 use mir.Facts.{toZ-ofZ}
-use Rattle.integers.proofs.Ranges.{stored}
-use Rattle.enclosure.specs.declared.Box.{Box}
-use Rattle.enclosure.specs.Boxes.{boxAt, narrow, allNarrow, meets}
-use Rattle.enclosure.proofs.Boxes.{narrow-more, not-narrow}
+use Rattle.integers.proofs.Ranges.{lt-yes, le-yes}
+use Rattle.integers.proofs.Machine.{fits!, flag! }
+use Rattle.bezier.proofs.Sizes.{sized-halvable}
+use Rattle.enclosure.specs.Boxes.{meets}
+use Rattle.enclosure.proofs.Coordinates.{bounded}
+use Rattle.enclosure.proofs.Apart.{tolerance-small, close-meets, far-fails}
+use borrow.Author.Needs.{needs}
 use Rattle.enclosure.proofs.meets.Statement.{statement}
 use Rattle.enclosure.proofs.meets.Tie as tie
 
-abbrev Inv-loop : tie.InvT-loop
-Inv-loop curve depth t i₀ i = (i ≤ 4) × (allNarrow i (toZ w64 t) (boxAt depth curve) ≡ true)
+boxes-meet-requires : tie.Need-boxes-meet-requires
+boxes-meet-requires c κs = search needs
 
-abbrev μ-loop : tie.MeasureT-loop
-μ-loop curve depth t i₀ i = 4 - i
+returns : tie.Need-returns
+returns c = let s = c .before .before in c .boxes-meet .ensures ∙ ap (λ t. meets t (s .args .depth) (s .args .curve)) (toZ-ofZ (s .fits .t))
 
-loop-holds : tie.Need-loop-holds Inv-loop μ-loop
-loop-holds c = (omega arith, refl)
+widest-requires : tie.Need-widest-requires
+widest-requires c κs = let p = c .before .before .pre in sized-halvable (p .1) (p .0)
 
-box-at-requires : tie.Need-box-at-requires Inv-loop μ-loop
-box-at-requires c κs = (c .before .before .pre .0, c .before .before .pre .1, omega arith)
+denominator-requires : tie.Need-denominator-requires
+denominator-requires c κs = search needs
 
-is-narrow-requires : tie.Need-is-narrow-requires Inv-loop μ-loop
-is-narrow-requires c κs = c .box-at .ensures .1
+mul-limit : tie.Need-mul-limit
+mul-limit c =
+    let e = c .before .before in
+    let small = tolerance-small (e .before .before .fits .t) (e .before .if1 .left) (e .if2 .left) in
+    fits! (search (small, bounded) depth 40) tt
 
--- what a call said of the box that another call gave
-said : (T : ℤ) {r v : Bool} {b box : Box} → r ≡ narrow T b → b ≡ box → r ≡ v → narrow T box ≡ v
-said T e f g = ap (narrow T) (sym f) ∙ sym e ∙ g
+sub-if3 : tie.Need-sub-if3
+sub-if3 c =
+    let e = c .before .before in
+    let small = tolerance-small (e .before .before .fits .t) (e .before .if1 .left) (e .if2 .left) in
+    fits! (search (small, bounded) depth 40) tt
 
-returns : tie.Need-returns Inv-loop μ-loop
-unfolding meets
-returns c =
-    let s = c .before .before .before .before .before in
-    let a = s .args in
-    sym (ap (λ T. allNarrow 4 T (boxAt (a .depth) (a .curve))) (sym (toZ-ofZ (s .fits .t)))
-    ∙ not-narrow (stored w64 (a .t)) (boxAt (a .depth) (a .curve)) 4 (c .before .before .before .before .loop .i) (omega arith)
-    (said (stored w64 (a .t)) (c .before .is-narrow .ensures) (c .before .before .box-at .ensures .0) (not-true (c .before .is-narrow .result) (c .if1 .taken))))
-
-add-i : tie.Need-add-i Inv-loop μ-loop
-add-i c = omega arith
-
-loop-less : tie.Need-loop-less Inv-loop μ-loop
-loop-less c = omega arith
-
-loop-again : tie.Need-loop-again Inv-loop μ-loop
-loop-again c =
-    let a = c .before .before .before .before .before .args in (
-      omega arith,
-      narrow-more (stored w64 (a .t)) (boxAt (a .depth) (a .curve)) (c .before .before .before .before .loop .i) (c .before .before .before .before .loop .inv .1)
-          (said (stored w64 (a .t)) (c .before .is-narrow .ensures) (c .before .before .box-at .ensures .0) (not-false (c .before .is-narrow .result) (c .if1 .left))),
-    )
-
-returns-2 : tie.Need-returns-2 Inv-loop μ-loop
-unfolding meets
+returns-2 : tie.Need-returns-2
 returns-2 c =
-    let s = c .before .before in
-    let a = s .args in
-    let e : 4 ≡ c .before .loop .i = omega arith in
-    sym (ap (λ T. allNarrow 4 T (boxAt (a .depth) (a .curve))) (sym (toZ-ofZ (s .fits .t)))
-    ∙ ap (λ n. allNarrow n (stored w64 (a .t)) (boxAt (a .depth) (a .curve))) e ∙ c .before .loop .inv .1)
+    let e = c .before .before .before in
+    let small = tolerance-small (e .before .before .fits .t) (e .before .if1 .left) (e .if2 .left) in
+    let a = e .before .before .args in
+    sym (close-meets (a .t) (a .depth) (a .curve) (e .before .before .pre .0) (le-yes (flag! (c .if3 .taken) (search (small, bounded) depth 40) tt)))
+
+returns-3 : tie.Need-returns-3
+returns-3 c =
+    let e = c .before .before .before .before in
+    let small = tolerance-small (e .before .before .fits .t) (e .before .if1 .left) (e .if2 .left) in
+    let a = e .before .before .args in
+    sym (far-fails (a .t) (a .depth) (a .curve) (e .before .before .pre .0) (lt-yes (flag! (c .if4 .taken) (search (small, bounded) depth 40) tt)))
+
+boxes-meet-requires-2 : tie.Need-boxes-meet-requires-2
+boxes-meet-requires-2 c κs = search needs
+
+returns-4 : tie.Need-returns-4
+returns-4 c = let s = c .before .before .before .before .before .before .before in c .boxes-meet2 .ensures ∙ ap (λ t. meets t (s .args .depth) (s .args .curve)) (toZ-ofZ (s .fits .t))
 
 pub meets-spec : {M : Type 1} → statement M
 meets-spec =
     tie.close
     (tie.spec
-    Inv-loop
-    μ-loop
-    loop-holds
-    box-at-requires
-    is-narrow-requires
+    boxes-meet-requires
     returns
-    add-i
-    loop-less
-    loop-again
-    returns-2)
+    widest-requires
+    denominator-requires
+    mul-limit
+    sub-if3
+    returns-2
+    returns-3
+    boxes-meet-requires-2
+    returns-4)
