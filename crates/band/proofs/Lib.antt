@@ -7,6 +7,7 @@ pub mod Counting
 pub mod Failing
 pub mod Walking
 pub mod Rank
+pub mod Paths
 pub mod Writing
 pub mod Recording
 pub mod Outlines

@@ -1,6 +1,6 @@
 -- A walk that writes a record at each leaf: what the list holds at each step, from place `at` on, and that a leaf's boxes fit 32 bits.
 use mathlib.Core.Path.{_≡_, refl, sym, _∙_, ap, ap₂}
-use mathlib.Core.Bool.{Bool, true, false}
+use mathlib.Core.Bool.{true, false}
 use mathlib.Core.List.{List, [], _∷_, _++_, append-assoc, append-nil}
 use Prim.Native.Nat.{ℕ, suc, _+_, _*_, _^_, _≤_, _<_}
 use native.Mathlib.Nat.{le-trans, le-of-suc-le-suc}
@@ -12,7 +12,7 @@ use lib.IntN.{ℤ}
 use Rattle.bezier.specs.declared.Curve.{Curve}
 use Rattle.bezier.specs.Nodes.{depth, nodeCurve, after}
 use Rattle.bezier.proofs.Sizes.{node-sized}
-use Rattle.enclosure.specs.Boxes.{Sides, boxAt, meets}
+use Rattle.enclosure.specs.Boxes.{Sides, boxAt}
 use Rattle.enclosure.proofs.Leaf.{leaf-box}
 use Rattle.band.specs.Records.{deepest, nodeMeets, endsOf, boxesTo, nodeNumbers, recordOf, recordsOf}
 use Rattle.band.specs.Writing.{Writable, Ready}
@@ -101,9 +101,6 @@ module _ {T : ℤ} {c : Curve} {k : ℕ} {l : List ℤ} {at : ℕ} where
     recorded-done e h f = rw (walking-done (r .walking) e h) (on, more f)
 
 -- ---- from what the code called
-pub said : (T : ℤ) (c : Curve) (n : ℕ) {k : ℕ} {p : Curve} {r v : Bool} → p ≡ nodeCurve c n → k ≡ depth n → r ≡ meets T k p → r ≡ v → nodeMeets T c n ≡ v
-said T c n e f g h = ap₂ (λ k p. meets T k p) (sym f) (sym e) ∙ sym g ∙ h
-
 pub put : (l : List ℤ) (place k : ℕ) (c : Curve) (n : ℕ) {p : Curve} {l′ : List ℤ} → p ≡ nodeCurve c n
     → l′ ≡ sets l place (nodeNumbers k n (boxesTo 4 (depth n) p)) → l′ ≡ sets l place (recordOf k c n)
 unfolding recordOf

@@ -85,7 +85,7 @@ module _ {test : ℕ → Bool} {most : ℕ} {passed : List ℕ} {n : ℕ} (w : W
   pub walking-below : n < 2 ^ suc most
   walking-below = lt-of-lt-of-le (depth-high n (w .node)) (pow-mono (suc-le-suc (w .within)))
 
-  not-deepest : n < 2 ^ most → depth n < most
+  pub not-deepest : n < 2 ^ most → depth n < most
   not-deepest l = ⊎-elim (λ h. h) (λ h. absurd (omega (arith, depth-low n (w .node), pow-mono h))) (lt-or-ge (depth n) most)
 
   pub fewer-passed : length passed < length (ends test most 1)

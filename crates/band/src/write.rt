@@ -15,10 +15,11 @@ pub fn write_curve(records: &mut [i32], at: usize, number: u32, curve: Curve, t:
     requires { ⌜ (Ready t curve) × (number < 2 ^ 31) × (at + 18 * length (endsOf t curve) ≤ length (now records)) ⌝ }
     ensures { λ r. ⌜ (r ≡ at + 18 * length (endsOf t curve)) × (now (records .exit) ≡ sets (now (records .entry)) at (recordsOf number curve (endsOf t curve))) ⌝ }
 {
+    let mut path = [curve; 8];
+    let mut part = curve;
     let mut node: u32 = 1;
     let mut place = at;
     loop {
-        let part = bezier::node_curve(curve, node);
         let depth = bezier::depth(node);
         if enclosure::meets(part, depth, t) {
             put_record(records, place, number, node, part);
@@ -27,7 +28,11 @@ pub fn write_curve(records: &mut [i32], at: usize, number: u32, curve: Curve, t:
             if node == 1 {
                 return place;
             }
+            let above = bezier::depth(node) - 1;
+            part = path[above as usize].right();
         } else {
+            path[depth as usize] = part;
+            part = part.left();
             node = 2 * node;
         }
     }
