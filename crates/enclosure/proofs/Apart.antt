@@ -56,15 +56,15 @@ module _ (a b : ℤ) where
 regroup : (a b x y : ℤ) → a +ℤ b -ℤ (x +ℤ y) ≡ (a -ℤ x) +ℤ (b -ℤ y)
 regroup a b x y = ring (a ∷ b ∷ x ∷ y ∷ []) (search sides depth 20) refl
 
-sums-apart : (i : ℕ) (cs : List ℤ) (ρs : List Row) (k : ℕ) → rowSum ρs i k cs -ℤ rowSum (exchanged ρs) i k cs ≡ apart ρs i k cs
+sums-differ : (i : ℕ) (cs : List ℤ) (ρs : List Row) (k : ℕ) → rowSum ρs i k cs -ℤ rowSum (exchanged ρs) i k cs ≡ apart ρs i k cs
 unfolding rowSum apart
-sums-apart i cs [] k = refl
-sums-apart i cs (ρ ∷ ρs) k =
+sums-differ i cs [] k = refl
+sums-differ i cs (ρ ∷ ρs) k =
     let h = entry (ρ .high) i in
     let l = entry (ρ .low) i in
     let δ = difference cs k in
     regroup (cond (ltZ δ (pos 0)) l h *ℤ δ) (rowSum ρs i (suc k) cs) (cond (ltZ δ (pos 0)) h l *ℤ δ) (rowSum (exchanged ρs) i (suc k) cs)
-    ∙ ap₂ _+ℤ_ (term-gap h l δ) (sums-apart i cs ρs (suc k))
+    ∙ ap₂ _+ℤ_ (term-gap h l δ) (sums-differ i cs ρs (suc k))
 
 -- ---- one break point: between what is apart before rounding and the width there is less than two
 module _ {m : ℕ} (some : 0 < m) {D : ℤ} (hD : pos 0 <ℤ D) (ρs : List Row) (d : ℕ) (cs : List ℤ) (i : ℕ) (tolerance : ℤ) where
@@ -85,14 +85,14 @@ module _ {m : ℕ} (some : 0 < m) {D : ℤ} (hD : pos 0 <ℤ D) (ρs : List Row)
 
   apart-narrow : (pos m *ℤ apart ρs i 0 cs) ≤ℤ (Q *ℤ tolerance -ℤ Q) → (high m ρs D d cs i -ℤ low m ρs D d cs i) ≤ℤ tolerance
   apart-narrow h = rw (high-reduced some hD ρs d cs i, low-reduced some hD ρs d cs i) (⊎-elim (λ l. l) (λ l. absurd (clash-by atoms
-      (gap h +₀ gap< (ceiling-is above Q hQ .below) +₀ gap< (floor-is beneath Q hQ .above) +₀ balance (negℤ (pos m)) (sums-apart i cs ρs 0)
+      (gap h +₀ gap< (ceiling-is above Q hQ .below) +₀ gap< (floor-is beneath Q hQ .above) +₀ balance (negℤ (pos m)) (sums-differ i cs ρs 0)
       +₀ (gap< hQ +₀ natural 1) ×₀ gap< l +₀ natural 1) (search sides depth 40 fits 9999) refl))
       (le-or-lt (ceiling above Q -ℤ floor beneath Q) tolerance))
 
   narrow-apart : (high m ρs D d cs i -ℤ low m ρs D d cs i) ≤ℤ tolerance → (pos m *ℤ apart ρs i 0 cs) ≤ℤ (Q *ℤ tolerance)
   narrow-apart h = le-by atoms
       ((gap< hQ +₀ natural 1) ×₀ gap (rw (high-reduced some hD ρs d cs i, low-reduced some hD ρs d cs i) at h)
-      +₀ gap (ceiling-is above Q hQ .above) +₀ gap (floor-is beneath Q hQ .below) +₀ balance (pos m) (sums-apart i cs ρs 0))
+      +₀ gap (ceiling-is above Q hQ .above) +₀ gap (floor-is beneath Q hQ .below) +₀ balance (pos m) (sums-differ i cs ρs 0))
       (search sides depth 40 fits 9999) refl
 
 -- ---- the break points of today's rows: the two inner ones are the widest, by a computed test

@@ -17,10 +17,10 @@ apart (ρ ∷ ρs) i k cs = (entry (ρ .high) i -ℤ entry (ρ .low) i) *ℤ pos
 unfoldable pub larger : ℤ → ℤ → ℤ
 larger a b = cond (ltZ a b) b a
 
--- of the break points 0 to 3 one of the two inner ones has the largest
+-- the largest over the break points 0 to 3: one of the two inner ones has it
 unfoldable pub spread : ℕ → List ℤ → ℤ
 spread d cs = larger (apart (thirds d) 1 0 cs) (apart (thirds d) 2 0 cs)
 
--- over both coordinates, with the denominator of the bounds
+-- over both coordinates, in parts of the bounds' denominator 1875 · 2^(d k)
 unfoldable pub widest : Curve → ℤ
 widest c = pos pieces *ℤ larger (spread (c .degree) (c .x)) (spread (c .degree) (c .y))

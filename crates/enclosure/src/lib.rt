@@ -65,7 +65,7 @@ fn boxes_meet(curve: Curve, depth: u32, t: i64) -> bool
 }
 
 // The node meets the tolerance: its boxes at all four break points are narrow. How far its lows and highs are apart before rounding decides
-// all but a few nodes; t is tested first, so that no product wraps.
+// most nodes, and rounding adds less than two units. t is tested first, so that no product wraps.
 pub fn meets(curve: Curve, depth: u32, t: i64) -> bool
     requires { ⌜ (Sized depth curve) × (depth ≤ 8) ⌝ }
     ensures { λ r. ⌜ r ≡ meets t depth curve ⌝ }

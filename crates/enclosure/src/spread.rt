@@ -43,7 +43,7 @@ fn spread(c: [i64; 4], degree: u32) -> i64
     }
 }
 
-// The spread of a curve, over the denominator of its bounds.
+// The spread of a curve, over both coordinates, in parts of the denominator of its bounds.
 pub fn widest(curve: Curve) -> i64
     requires { ⌜ Halvable curve ⌝ }
     ensures { λ r. ⌜ Holds (3 * 2 ^ 60) (widest curve) r ⌝ }
