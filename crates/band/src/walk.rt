@@ -10,19 +10,8 @@ pub enum Walked {
     TooWide(u32),
 }
 
-// The leaves of a curve, counted. A curve that is one leaf needs no path.
+// The leaves of a curve, counted. The path holds the curves above the node's own, by depth, so that each step halves once.
 pub fn walk(curve: Curve, t: i64) -> Walked
-    requires { ⌜ Sized 0 curve ⌝ }
-    ensures { λ r. ⌜ r ≡ walkedOf t curve ⌝ }
-{
-    if enclosure::meets(curve, 0, t) {
-        return Walked::Leaves(1);
-    }
-    walk_halves(curve, t)
-}
-
-// The same by halving. The path holds the curves above the node's own, by depth, so that each step halves once.
-fn walk_halves(curve: Curve, t: i64) -> Walked
     requires { ⌜ Sized 0 curve ⌝ }
     ensures { λ r. ⌜ r ≡ walkedOf t curve ⌝ }
 {

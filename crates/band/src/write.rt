@@ -15,18 +15,6 @@ pub fn write_curve(records: &mut [i32], at: usize, number: u32, curve: Curve, t:
     requires { ⌜ (Ready t curve) × (number < 2 ^ 31) × (at + 18 * length (endsOf t curve) ≤ length (now records)) ⌝ }
     ensures { λ r. ⌜ (r ≡ at + 18 * length (endsOf t curve)) × (now (records .exit) ≡ sets (now (records .entry)) at (recordsOf number curve (endsOf t curve))) ⌝ }
 {
-    if enclosure::meets(curve, 0, t) {
-        put_record(records, at, number, 1, curve);
-        return at + 18;
-    }
-    write_halves(records, at, number, curve, t)
-}
-
-// The same by halving, as the first pass does.
-fn write_halves(records: &mut [i32], at: usize, number: u32, curve: Curve, t: i64) -> usize
-    requires { ⌜ (Ready t curve) × (number < 2 ^ 31) × (at + 18 * length (endsOf t curve) ≤ length (now records)) ⌝ }
-    ensures { λ r. ⌜ (r ≡ at + 18 * length (endsOf t curve)) × (now (records .exit) ≡ sets (now (records .entry)) at (recordsOf number curve (endsOf t curve))) ⌝ }
-{
     let mut path = [curve; 8];
     let mut part = curve;
     let mut node: u32 = 1;
