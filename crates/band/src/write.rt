@@ -10,7 +10,7 @@ ghost use Rattle.band.specs.Writing.{Ready, Fillable};
 use crate::records::put_record;
 use bezier::Curve;
 
-// The records of a curve's leaves, from place `at` on. It returns the place after them.
+// The records of a curve's leaves, from place `at` on. It returns the place after them. The path is as in `walk`.
 pub fn write_curve(records: &mut [i32], at: usize, number: u32, curve: Curve, t: i64) -> usize
     requires { ⌜ (Ready t curve) × (number < 2 ^ 31) × (at + 18 * length (endsOf t curve) ≤ length (now records)) ⌝ }
     ensures { λ r. ⌜ (r ≡ at + 18 * length (endsOf t curve)) × (now (records .exit) ≡ sets (now (records .entry)) at (recordsOf number curve (endsOf t curve))) ⌝ }

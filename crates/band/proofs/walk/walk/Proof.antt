@@ -67,7 +67,7 @@ loop-holds : tie.Need-loop-holds Inv-loop μ-loop
 loop-holds c = (counted-start, path-start (c .args .curve) refl)
 
 depth-requires : tie.Need-depth-requires Inv-loop μ-loop
-depth-requires c κs = c .loop .inv .0 .walking .node
+depth-requires c κs = omega (arith, c .loop .inv .0 .walking .node)
 
 meets-requires : tie.Need-meets-requires Inv-loop μ-loop
 meets-requires c κs =
@@ -94,7 +94,7 @@ returns c =
 depth-requires-2 : tie.Need-depth-requires-2 Inv-loop μ-loop
 depth-requires-2 c κs =
     let l = c .before .before .before .before .before .loop .inv .0 in
-    rw (c .before .after .ensures) (walking-leaf (l .walking) (passes (c .before .before)) (λ e. c .if2 .left (c .before .after .ensures ∙ e)) .node)
+    omega (arith, c .before .after .ensures, walking-leaf (l .walking) (passes (c .before .before)) (λ e. c .if2 .left (c .before .after .ensures ∙ e)) .node)
 
 leads : (c : tie.After-depth2 Inv-loop μ-loop)
     → let l = c .before .before .before .before .before .before in Leads (l .before .args .curve) (c .before .before .after .result) (c .depth2 .result) (l .loop .path)

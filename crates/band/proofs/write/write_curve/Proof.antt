@@ -38,7 +38,7 @@ room : (c : tie.At-loop Inv-loop μ-loop) → c .loop .place + 18 ≤ length (c 
 room c = recorded-room (c .loop .inv .0) (rw (toZ-ofZ (c .before .fits .t)) (c .before .pre .2))
 
 depth-requires : tie.Need-depth-requires Inv-loop μ-loop
-depth-requires c κs = c .loop .inv .0 .walking .node
+depth-requires c κs = omega (arith, c .loop .inv .0 .walking .node)
 
 meets-requires : tie.Need-meets-requires Inv-loop μ-loop
 meets-requires c κs =
@@ -87,7 +87,7 @@ returns c =
 depth-requires-2 : tie.Need-depth-requires-2 Inv-loop μ-loop
 depth-requires-2 c κs =
     let w = c .before .before .before .before .before .before .before .before .loop .inv .0 .walking in
-    rw (c .before .after .ensures) (walking-leaf w (passes (c .before .before .before .before .before)) (λ e. c .if2 .left (c .before .after .ensures ∙ e)) .node)
+    omega (arith, c .before .after .ensures, walking-leaf w (passes (c .before .before .before .before .before)) (λ e. c .if2 .left (c .before .after .ensures ∙ e)) .node)
 
 leads : (c : tie.After-depth2 Inv-loop μ-loop)
     → let l = c .before .before .before .before .before .before .before .before .before in
