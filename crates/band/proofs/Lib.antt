@@ -8,6 +8,7 @@ pub mod Failing
 pub mod Walking
 pub mod Rank
 pub mod Paths
+pub mod Whole
 pub mod Writing
 pub mod Recording
 pub mod Outlines

@@ -1,4 +1,4 @@
-// The walk of a curve's nodes: from node 1 in the order of the parameter, without a stack of nodes.
+// The walk of a curve's nodes: from node 1 in the order of the parameter, without a stack.
 ghost use mathlib.Core.Path.{_≡_};
 ghost use Rattle.bezier.specs.Bounds.{Sized};
 ghost use Rattle.band.specs.Walked.{walkedOf};
@@ -10,9 +10,19 @@ pub enum Walked {
     TooWide(u32),
 }
 
-// The leaves of a curve, counted. The path holds the curves above the node's own, by depth, so that each step halves once; a leaf leaves it as it is,
-// since the node after it is the right half of one above.
+// The leaves of a curve, counted. A curve that is one leaf needs no path.
 pub fn walk(curve: Curve, t: i64) -> Walked
+    requires { ⌜ Sized 0 curve ⌝ }
+    ensures { λ r. ⌜ r ≡ walkedOf t curve ⌝ }
+{
+    if enclosure::meets(curve, 0, t) {
+        return Walked::Leaves(1);
+    }
+    walk_halves(curve, t)
+}
+
+// The same by halving. The path holds the curves above the node's own, by depth, so that each step halves once.
+fn walk_halves(curve: Curve, t: i64) -> Walked
     requires { ⌜ Sized 0 curve ⌝ }
     ensures { λ r. ⌜ r ≡ walkedOf t curve ⌝ }
 {
