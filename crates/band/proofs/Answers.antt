@@ -22,7 +22,8 @@ use Rattle.outline.proofs.Accepted.{Accepted, checked-curves, checked-refused, 
 use Rattle.band.specs.declared.Banded.{Banded}
 use Rattle.band.specs.declared.Banded.the-variants.{Done, Refused}
 use Rattle.band.specs.declared.count.Counted.the-variants.{Leaves, Refused as Stopped}
-use Rattle.band.specs.Records.{endsOf, recordsOf, allRecords}
+use Rattle.tree.specs.Walked.{endsOf}
+use Rattle.band.specs.Records.{recordsOf, allRecords}
 use Rattle.band.specs.Banding.{curvesOf, firstTooWide, leavesOf, nodesOf, bandCurves, writtenBy, banded, written}
 use Rattle.band.specs.Counted.{Readable, countedOf}
 use Rattle.band.specs.Writing.{Fillable}

@@ -17,14 +17,15 @@ use Rattle.bezier.proofs.Coordinates.{node-degree}
 use Rattle.bezier.proofs.Numbers.{depth-one}
 use Rattle.bezier.proofs.Quarter.{quarter-x, quarter-y}
 use Rattle.enclosure.proofs.Narrow.{width-meets}
-use Rattle.band.specs.Tree.{ends, firstFailing}
-use Rattle.band.specs.Leaves.{Leaf}
-use Rattle.band.specs.Records.{deepest, nodeMeets, endsOf}
-use Rattle.band.specs.Outcomes.{AllPass, Flat}
-use Rattle.band.proofs.Halves.{left-half, right-half}
-use Rattle.band.proofs.Tree.{either, not-both, ends-induction}
-use Rattle.band.proofs.Leaves.{end-facts, leaf-exactly}
-use Rattle.band.proofs.Failing.{passing-none}
+use Rattle.tree.specs.Tree.{ends, firstFailing}
+use Rattle.tree.specs.Leaves.{Leaf}
+use Rattle.tree.specs.Walked.{deepest, nodeMeets, endsOf}
+use Rattle.tree.specs.Passing.{AllPass}
+use Rattle.band.specs.Outcomes.{Flat}
+use Rattle.tree.proofs.Halves.{left-half, right-half}
+use Rattle.tree.proofs.Tree.{either, not-both, ends-induction}
+use Rattle.tree.proofs.Leaves.{end-facts, leaf-exactly}
+use Rattle.tree.proofs.Failing.{passing-none}
 
 -- ---- for any test: where all nodes at depth j pass, none of them is halved
 module _ (test : ℕ → Bool) (j : ℕ) (all : (a : ℕ) → 0 < a → depth a ≡ j → test a ≡ true) where

@@ -15,7 +15,7 @@ use Rattle.outline.specs.Curves.{curveAt}
 use Rattle.outline.specs.Checks.{firstBeyond, faultAt, outlineFrom, outlined}
 use Rattle.band.specs.declared.Banded.{Banded}
 use Rattle.band.specs.declared.Banded.the-variants.{Done, Refused}
-use Rattle.band.specs.Tree.{ends, met, firstFailing}
+use Rattle.tree.specs.Tree.{ends, met, firstFailing}
 use Rattle.band.specs.Records.{recordOf, recordsOf, allRecords}
 use Rattle.band.specs.Banding.{firstTooWide, leavesOf, nodesOf, bandCurves, banded, written}
 

@@ -19,7 +19,7 @@ use Rattle.outline.specs.Checks.{between, Outlined, curves, faulty, toleranceFi
 use Rattle.band.specs.declared.Banded.the-variants.{Refused}
 use Rattle.band.specs.Banding.{bandCurves, banded}
 use Rattle.band.specs.Outcomes.{Faultless}
-use Rattle.band.proofs.Tree.{either}
+use Rattle.tree.proofs.Tree.{either}
 
 -- a refusal of one of them
 record Early (r : Refusal) : Type 0 where

@@ -12,11 +12,12 @@ use lib.Signed.{_≤ℤ_}
 use Rattle.bezier.specs.declared.Curve.{Curve}
 use Rattle.outline.specs.Curves.{nextAt, curveAt}
 use Rattle.outline.specs.Checks.{outlineFrom}
-use Rattle.band.specs.Records.{nodeMeets, endsOf, recordsOf, allRecords}
+use Rattle.tree.specs.Walked.{nodeMeets, endsOf}
+use Rattle.band.specs.Records.{recordsOf, allRecords}
 use Rattle.band.specs.Banding.{curvesOf, leavesOf}
 use Rattle.band.specs.Writing.{Ready, Fillable}
 use Rattle.band.specs.Outcomes.{AllMeet}
-use Rattle.band.proofs.Failing.{passing-none}
+use Rattle.tree.proofs.Failing.{passing-none}
 use Rattle.band.proofs.Wide.{none-wide, meet-head, meet-rest}
 use Rattle.band.proofs.Outlines.{Rest, rest-start, rest-next, rest-done}
 use Rattle.band.proofs.Writing.{sets-append}

@@ -1,14 +1,5 @@
 -- Laws of banding. Each file opens with what it holds.
-pub mod Halves
-pub mod Tree
-pub mod Leaves
-pub mod Covering
 pub mod Counting
-pub mod Failing
-pub mod Walking
-pub mod Rank
-pub mod Paths
-pub mod Whole
 pub mod Writing
 pub mod Recording
 pub mod Outlines

@@ -14,13 +14,12 @@ use Rattle.outline.specs.Curves.{nextAt, curveAt}
 use Rattle.outline.specs.Checks.{outlineFrom}
 use Rattle.band.specs.declared.count.Counted.{Counted}
 use Rattle.band.specs.declared.count.Counted.the-variants.{Leaves, Refused}
-use Rattle.band.specs.declared.walk.Walked.the-variants.{Leaves as WalkLeaves, TooWide}
-use Rattle.band.specs.Tree.{firstFailing}
-use Rattle.band.specs.Records.{deepest, nodeMeets, endsOf}
+use Rattle.tree.specs.declared.Walked.the-variants.{Leaves as WalkLeaves, TooWide}
+use Rattle.tree.specs.Tree.{firstFailing}
+use Rattle.tree.specs.Walked.{deepest, nodeMeets, endsOf, walkedOf}
 use Rattle.band.specs.Banding.{curvesOf, firstTooWide, leavesOf}
-use Rattle.band.specs.Walked.{walkedOf}
 use Rattle.band.specs.Counted.{Readable, countedOf}
-use Rattle.band.proofs.Counting.{few-ends}
+use Rattle.tree.proofs.Counting.{few-ends}
 use Rattle.band.proofs.Wide.{wide-later, wide-here}
 use Rattle.band.proofs.Outlines.{Rest, rest-start, rest-next, rest-done}
 

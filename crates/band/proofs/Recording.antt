@@ -14,10 +14,11 @@ use Rattle.bezier.specs.Nodes.{depth, nodeCurve, after}
 use Rattle.bezier.proofs.Sizes.{node-sized}
 use Rattle.enclosure.specs.Boxes.{Sides, boxAt}
 use Rattle.enclosure.proofs.Leaf.{leaf-box}
-use Rattle.band.specs.Records.{deepest, nodeMeets, endsOf, boxesTo, nodeNumbers, recordOf, recordsOf}
+use Rattle.tree.specs.Walked.{deepest, nodeMeets, endsOf}
+use Rattle.band.specs.Records.{boxesTo, nodeNumbers, recordOf, recordsOf}
 use Rattle.band.specs.Writing.{Writable, Ready}
-use Rattle.band.proofs.Failing.{none-passing}
-use Rattle.band.proofs.Walking.{Walking, walking-start, walking-half, walking-halvable, walking-leaf, walking-done, fewer-passed}
+use Rattle.tree.proofs.Failing.{none-passing}
+use Rattle.tree.proofs.Walking.{Walking, walking-start, walking-half, walking-halvable, walking-leaf, walking-done, fewer-passed}
 use Rattle.band.proofs.Writing.{boxes-length, sets-append}
 
 -- ---- lengths

@@ -25,12 +25,13 @@ use Rattle.enclosure.proofs.Leaf.{Sound, leaf-box}
 use Rattle.outline.specs.Checks.{toleranceFine, curves, outlined}
 use Rattle.outline.proofs.Between.{between-high}
 use Rattle.outline.proofs.Accepted.{outlined-from, accepted-most, accepted-some, accepted-all}
-use Rattle.band.specs.Records.{deepest, nodeMeets, endsOf, boxNumbers, boxesTo, recordOf, recordsOf, allRecords}
+use Rattle.tree.specs.Walked.{deepest, nodeMeets, endsOf}
+use Rattle.band.specs.Records.{boxNumbers, boxesTo, recordOf, recordsOf, allRecords}
 use Rattle.band.specs.Banding.{firstTooWide, leavesOf, recordLength}
 use Rattle.band.specs.Ranges.{farthest, Interval, SoundRecord, SoundList}
 use Rattle.band.specs.Outcomes.{AllMeet}
-use Rattle.band.proofs.Counting.{some-end}
-use Rattle.band.proofs.Leaves.{end-facts}
+use Rattle.tree.proofs.Counting.{some-end}
+use Rattle.tree.proofs.Leaves.{end-facts}
 use Rattle.band.proofs.Wide.{meet-head, meet-rest, none-wide}
 use Rattle.band.proofs.Writing.{boxes-length}
 

@@ -17,16 +17,17 @@ use Rattle.bezier.specs.Nodes.{depth, start}
 use Rattle.outline.proofs.Accepted.{outlined-from, accepted-all}
 use Rattle.band.specs.declared.Banded.{Banded}
 use Rattle.band.specs.declared.Banded.the-variants.{Done, Refused}
-use Rattle.band.specs.Leaves.{Leaf, Covers, EndToEnd}
-use Rattle.band.specs.Records.{deepest, nodeMeets, endsOf, allRecords}
+use Rattle.tree.specs.Leaves.{Leaf, Covers, EndToEnd}
+use Rattle.tree.specs.Walked.{deepest, nodeMeets, endsOf}
+use Rattle.band.specs.Records.{allRecords}
 use Rattle.band.specs.Banding.{recordLength, bandCurves, banded, written}
 use Rattle.band.specs.Ranges.{SoundList}
 use Rattle.band.specs.Outcomes.{AllMeet, FirstWide, Faultless, Few, Report, Flat}
-use Rattle.band.proofs.Leaves.{all-leaves}
-use Rattle.band.proofs.Covering.{some-end-covers, ends-end-to-end, neighbours-meet, in-order}
+use Rattle.tree.proofs.Leaves.{all-leaves}
+use Rattle.tree.proofs.Covering.{some-end-covers, ends-end-to-end, neighbours-meet, in-order}
 use Rattle.band.proofs.Counting.{nodes-of-curves}
 use Rattle.band.proofs.Depths.{end-depth, none-too-wide}
-use Rattle.band.proofs.Failing.{none-passing}
+use Rattle.tree.proofs.Failing.{none-passing}
 use Rattle.band.proofs.Wide.{none-wide}
 use Rattle.band.proofs.Sound.{some-leaves, records-sound}
 use Rattle.band.proofs.Faults.{banded-curves, faultless-or}

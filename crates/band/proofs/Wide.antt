@@ -11,11 +11,12 @@ use lib.IntN.{ℤ}
 use Rattle.refusals.specs.declared.Refusal.{Refusal}
 use Rattle.refusals.specs.declared.Refusal.the-variants.{TooWide}
 use Rattle.bezier.specs.declared.Curve.{Curve}
-use Rattle.band.specs.Tree.{firstFailing}
-use Rattle.band.specs.Records.{nodeMeets, endsOf}
+use Rattle.tree.specs.Tree.{firstFailing}
+use Rattle.tree.specs.Walked.{nodeMeets, endsOf}
 use Rattle.band.specs.Banding.{firstTooWide}
-use Rattle.band.specs.Outcomes.{AllPass, AllMeet, FirstWide}
-use Rattle.band.proofs.Failing.{none-passing, passing-none, some-first, first-some}
+use Rattle.tree.specs.Passing.{AllPass}
+use Rattle.band.specs.Outcomes.{AllMeet, FirstWide}
+use Rattle.tree.proofs.Failing.{none-passing, passing-none, some-first, first-some}
 
 module _ (T : ℤ) where
   meet-nil : AllMeet T []

@@ -12,8 +12,9 @@ use Rattle.bezier.specs.declared.Curve.{Curve}
 use Rattle.outline.specs.Checks.{toleranceFine, Outlined, curves, faulty, outlined}
 use Rattle.band.specs.declared.Banded.{Banded}
 use Rattle.band.specs.declared.Banded.the-variants.{Done, Refused}
-use Rattle.band.specs.Tree.{met, firstFailing}
-use Rattle.band.specs.Records.{deepest, nodeMeets, endsOf, allRecords}
+use Rattle.tree.specs.Tree.{met, firstFailing}
+use Rattle.tree.specs.Walked.{deepest, nodeMeets, endsOf}
+use Rattle.band.specs.Records.{allRecords}
 
 -- ---- 7: the first node at the last depth, in the order of the walk, that does not meet T; of the curves numbered from k on
 unfoldable pub firstTooWide : ℤ → ℕ → List Curve → Option Refusal

@@ -1,7 +1,7 @@
--- What the theorems of banding speak of: nodes that pass, the first that does not, the faults and the report of an outline, and the premise of the depth
--- claim. No contract cites these; crates/band/proofs/Theorems.antt does.
+-- What the theorems of banding speak of: curves whose ends all meet T, the first that does not, the faults and the report of an outline, and the premise of
+-- the depth claim. No contract cites these; crates/band/proofs/Theorems.antt does.
 use mathlib.Core.Path.{_≡_}
-use mathlib.Core.Bool.{Bool, true, false}
+use mathlib.Core.Bool.{true}
 use mathlib.Core.List.{List, _∷_, _++_, List·Memᴰ}
 use Prim.Native.Nat.{ℕ, _+_, _*_, _^_, _≤_, _<_}
 use lib.ListN.{length}
@@ -10,21 +10,9 @@ use lib.Signed.{_≤ℤ_}
 use Rattle.bezier.specs.declared.Curve.{Curve}
 use Rattle.bezier.specs.Differences.{largest}
 use Rattle.outline.specs.Checks.{toleranceFine, curves, outlined}
-use Rattle.band.specs.Records.{nodeMeets, endsOf}
+use Rattle.tree.specs.Passing.{AllPass, First}
+use Rattle.tree.specs.Walked.{nodeMeets, endsOf}
 use Rattle.band.specs.Banding.{recordLength, leavesOf, nodesOf}
-
--- ---- nodes
--- every node of the list passes
-pub record AllPass (test : ℕ → Bool) (ns : List ℕ) : Type 0 where
-  pub each : (n : ℕ) → List·Memᴰ n ns → test n ≡ true
-
--- n is in the list, does not pass, and all before it do
-pub record First (test : ℕ → Bool) (ns : List ℕ) (n : ℕ) : Type 0 where
-  pub front : List ℕ
-  pub rest : List ℕ
-  pub split : ns ≡ front ++ n ∷ rest
-  pub passing : AllPass test front
-  pub fails : test n ≡ false
 
 -- ---- curves
 -- every end of every curve meets T

@@ -1,5 +1,4 @@
 -- Leaf records (document 01): curve, node, then for each break point a box: x low, x high, y low, y high.
-use mathlib.Core.Bool.{Bool}
 use mathlib.Core.List.{List, [], _∷_, _++_}
 use Prim.Native.Nat.{ℕ, zero, suc}
 use lib.IntN.{ℤ, pos}
@@ -7,20 +6,8 @@ use Rattle.bezier.specs.declared.Curve.{Curve}
 use Rattle.bezier.specs.Nodes.{depth, nodeCurve}
 use Rattle.enclosure.specs.declared.Box.{Box}
 use Rattle.enclosure.specs.Rows.{pieces}
-use Rattle.enclosure.specs.Boxes.{boxAt, meets}
-use Rattle.band.specs.Tree.{ends}
-
--- greatest depth
-abbrev pub deepest : ℕ
-deepest = 8
-
--- node n of curve c meets T
-abbrev pub nodeMeets : ℤ → Curve → ℕ → Bool
-nodeMeets T c n = meets T (depth n) (nodeCurve c n)
-
--- where the walk of curve c ends at T
-abbrev pub endsOf : ℤ → Curve → List ℕ
-endsOf T c = ends (nodeMeets T c) deepest 1
+use Rattle.enclosure.specs.Boxes.{boxAt}
+use Rattle.tree.specs.Walked.{endsOf}
 
 abbrev pub boxNumbers : Box → List ℤ
 boxNumbers b = b .«x_low» ∷ b .«x_high» ∷ b .«y_low» ∷ b .«y_high» ∷ []

@@ -8,8 +8,8 @@ use lib.Signed.{_≤ℤ_}
 use Rattle.bezier.specs.declared.Curve.{Curve}
 use Rattle.bezier.specs.Bounds.{Sized}
 use Rattle.enclosure.specs.Boxes.{Sides, boxAt}
-use Rattle.band.specs.Tree.{firstFailing}
-use Rattle.band.specs.Records.{nodeMeets, endsOf}
+use Rattle.tree.specs.Tree.{firstFailing}
+use Rattle.tree.specs.Walked.{nodeMeets, endsOf}
 use Rattle.band.specs.Banding.{firstTooWide, leavesOf}
 use Rattle.band.specs.Counted.{Readable}
 

@@ -3,9 +3,9 @@ ghost use mathlib.Core.Path.{_≡_};
 ghost use Rattle.outline.specs.Checks.{outlineFrom};
 ghost use Rattle.band.specs.Banding.{curvesOf};
 ghost use Rattle.band.specs.Counted.{Readable, countedOf};
-use crate::walk::Walked;
-use crate::walk::walk;
 use refusals::Refusal;
+use tree::Walked;
+use tree::walk;
 
 // What the first pass finds.
 pub enum Counted {

@@ -11,7 +11,6 @@ ghost use Rattle.band.specs.Counted.{Readable};
 
 mod count;
 mod records;
-mod walk;
 mod write;
 
 use count::Counted;

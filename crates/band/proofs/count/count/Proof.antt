@@ -10,17 +10,12 @@ use mir.Facts.{toZ-ofZ}
 use Rattle.integers.proofs.Ranges.{stored}
 use Rattle.outline.specs.Curves.{curveAt}
 use Rattle.outline.proofs.Faultless.{faultless}
-use Rattle.band.specs.declared.walk.Walked.the-variants.{Leaves as WalkLeaves}
-use Rattle.band.specs.Walked.{walkedOf}
+use Rattle.tree.specs.declared.Walked.the-variants.{Leaves as WalkLeaves}
+use Rattle.tree.specs.Walked.{walkedOf}
 use Rattle.band.proofs.Outlines.{rest-next}
 use Rattle.band.proofs.Passes.{Passed, passed-start, passed-wide, passed-few, passed-more, passed-done}
 use Rattle.band.proofs.count.count.Statement.{statement}
 use Rattle.band.proofs.count.count.Tie as tie
-use Rattle.band.proofs.count.count.Reads as reads
-use Rattle.band.proofs.count.count.Lts as lts
-use Rattle.band.proofs.walk.walk.Reads as walk-reads
-use Rattle.outline.proofs.curve_at.Reads as curve-at-reads
-use Rattle.outline.proofs.next_at.Reads as next-at-reads
 
 abbrev Inv-loop : tie.InvT-loop
 Inv-loop ns t curves leaves₀ at₀ k₀ leaves at k = Passed (toZ w64 t) ns curves k at leaves

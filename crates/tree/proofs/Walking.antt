@@ -13,13 +13,13 @@ use lib.Pow.{pow-mono}
 use Rattle.integers.proofs.Order.{lt-or-ge}
 use Rattle.bezier.specs.Nodes.{depth, after}
 use Rattle.bezier.proofs.Numbers.{depth-one, depth-low, depth-high, depth-unique, after-one, after-left, after-right}
-use Rattle.band.specs.Tree.{ends}
-use Rattle.band.specs.Outcomes.{AllPass, First}
-use Rattle.band.proofs.Halves.{left-half, right-half}
-use Rattle.band.proofs.Tree.{not-both, ends-here, ends-halved}
-use Rattle.band.proofs.Counting.{some-end}
-use Rattle.band.proofs.Rank.{rank, rank-half, rank-after}
-use Rattle.band.proofs.Failing.{pass-nil, pass-more}
+use Rattle.tree.specs.Tree.{ends}
+use Rattle.tree.specs.Passing.{AllPass, First}
+use Rattle.tree.proofs.Halves.{left-half, right-half}
+use Rattle.tree.proofs.Tree.{not-both, ends-here, ends-halved}
+use Rattle.tree.proofs.Counting.{some-end}
+use Rattle.tree.proofs.Rank.{rank, rank-half, rank-after}
+use Rattle.tree.proofs.Failing.{pass-nil, pass-more}
 
 -- the ends below node n
 abbrev below : (test : ℕ → Bool) (most n : ℕ) → List ℕ

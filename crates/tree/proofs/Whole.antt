@@ -7,12 +7,11 @@ use lib.IntN.{ℤ}
 use Rattle.bezier.specs.declared.Curve.{Curve}
 use Rattle.bezier.proofs.Numbers.{depth-one, node-one}
 use Rattle.enclosure.specs.Boxes.{meets}
-use Rattle.band.specs.declared.walk.Walked.the-variants.{Leaves}
-use Rattle.band.specs.Records.{deepest, nodeMeets, endsOf}
-use Rattle.band.specs.Walked.{walkedOf}
-use Rattle.band.specs.Outcomes.{AllPass}
-use Rattle.band.proofs.Tree.{ends-leaf}
-use Rattle.band.proofs.Failing.{passing-none, pass-nil, pass-more}
+use Rattle.tree.specs.declared.Walked.the-variants.{Leaves}
+use Rattle.tree.specs.Walked.{deepest, nodeMeets, endsOf, walkedOf}
+use Rattle.tree.specs.Passing.{AllPass}
+use Rattle.tree.proofs.Tree.{ends-leaf}
+use Rattle.tree.proofs.Failing.{passing-none, pass-nil, pass-more}
 
 module _ (T : ℤ) (c : Curve) where
   -- from what the code called

@@ -5,9 +5,9 @@ use mathlib.Core.Logic.{⊎-elim, _↔_}
 use mathlib.Core.List.{List, [], _∷_, _++_, append-nil, List·Memᴰ·head, List·Memᴰ·tail, List·Memᴰ·not-nil, List·Memᴰ·cases-cons, List·Memᴰ·append-cases, List·Memᴰ·eq-of-singleton}
 use mathlib.Core.Option.{none, some, Option·some-injective, Option·none-ne-some, Option·some-ne-none}
 use Prim.Native.Nat.{ℕ}
-use Rattle.band.specs.Tree.{firstFailing}
-use Rattle.band.specs.Outcomes.{AllPass, First}
-use Rattle.band.proofs.Tree.{either}
+use Rattle.tree.specs.Tree.{firstFailing}
+use Rattle.tree.specs.Passing.{AllPass, First}
+use Rattle.tree.proofs.Tree.{either}
 
 module _ (test : ℕ → Bool) where
   pub pass-nil : AllPass test []

@@ -9,7 +9,7 @@ use native.Mathlib.Omega.{arith}
 use lib.Pow.{pow-pos, shl-lt}
 use Rattle.bezier.specs.Nodes.{depth, start, after}
 use Rattle.bezier.proofs.Numbers.{start-below, after-one, after-left, after-right}
-use Rattle.band.proofs.Halves.{Half, left-half, right-half, half-induction}
+use Rattle.tree.proofs.Halves.{Half, left-half, right-half, half-induction}
 
 module _ (most : ℕ) where
   -- how many of the deepest nodes lie below n, and how many before it

@@ -1,7 +1,7 @@
 // The walk of a curve's nodes: from node 1 in the order of the parameter, without a stack.
 ghost use mathlib.Core.Path.{_≡_};
 ghost use Rattle.bezier.specs.Bounds.{Sized};
-ghost use Rattle.band.specs.Walked.{walkedOf};
+ghost use Rattle.tree.specs.Walked.{walkedOf};
 use bezier::Curve;
 
 // What the walk of a curve finds: how many leaves it has, or the first node at the last depth that does not meet the tolerance.

@@ -11,10 +11,10 @@ use lib.Pow.{pow-pos, pow-mono}
 use Rattle.integers.proofs.Order.{lt-or-ge}
 use Rattle.bezier.specs.Nodes.{depth}
 use Rattle.bezier.proofs.Numbers.{depth-low, depth-high, depth-unique, depth-bit}
-use Rattle.band.specs.Tree.{ends}
-use Rattle.band.specs.Leaves.{Leaf}
-use Rattle.band.specs.Outcomes.{AllPass}
-use Rattle.band.proofs.Tree.{not-both, ends-leaf, ends-halved, ends-induction}
+use Rattle.tree.specs.Tree.{ends}
+use Rattle.tree.specs.Leaves.{Leaf}
+use Rattle.tree.specs.Passing.{AllPass}
+use Rattle.tree.proofs.Tree.{not-both, ends-leaf, ends-halved, ends-induction}
 
 above : (n j : ℕ) → n / 2 ^ suc j ≡ n / 2 ^ j / 2
 above n j = ap (λ (x : ℕ). n / x) (pow-suc 2 j) ∙ sym (div-div-eq-div-mul n (2 ^ j) 2)

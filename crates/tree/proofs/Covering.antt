@@ -10,10 +10,10 @@ use lib.Pow.{pow-pos}
 use Rattle.integers.proofs.Order.{lt-or-ge}
 use Rattle.bezier.specs.Nodes.{depth, start}
 use Rattle.bezier.proofs.Numbers.{depth-one}
-use Rattle.band.specs.Tree.{ends}
-use Rattle.band.specs.Leaves.{Covers, EndToEnd, done, next}
-use Rattle.band.proofs.Halves.{Half, left-half, right-half, finer}
-use Rattle.band.proofs.Tree.{ends-induction}
+use Rattle.tree.specs.Tree.{ends}
+use Rattle.tree.specs.Leaves.{Covers, EndToEnd, done, next}
+use Rattle.tree.proofs.Halves.{Half, left-half, right-half, finer}
+use Rattle.tree.proofs.Tree.{ends-induction}
 
 -- ---- every parameter is covered
 module _ (p r : ℕ) where
