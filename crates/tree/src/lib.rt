@@ -1,4 +1,4 @@
-// The walk of a curve's nodes: from node 1 in the order of the parameter, without a stack.
+// The walk of a curve's nodes: from node 1 in the order of the parameter, by node numbers and without recursion.
 ghost use mathlib.Core.Path.{_≡_};
 ghost use Rattle.bezier.specs.Bounds.{Sized};
 ghost use Rattle.tree.specs.Walked.{walkedOf};
