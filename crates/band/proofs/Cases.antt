@@ -13,7 +13,8 @@ use Rattle.refusals.specs.declared.Refusal.the-variants.{TooWide, TooFewRecords
 use Rattle.bezier.specs.declared.Curve.{Curve}
 use Rattle.band.specs.declared.Banded.{Banded}
 use Rattle.band.specs.declared.Banded.the-variants.{Done, Refused}
-use Rattle.band.specs.Banding.{firstTooWide, leavesOf, nodesOf, recordLength, bandCurves}
+use Rattle.boxes.specs.Records.{recordLength}
+use Rattle.band.specs.Banding.{firstTooWide, leavesOf, nodesOf, bandCurves}
 use Rattle.band.specs.Outcomes.{FirstWide, Few, Report}
 use Rattle.band.proofs.Wide.{none-wide, first-wide, only-wide}
 

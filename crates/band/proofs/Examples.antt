@@ -12,7 +12,8 @@ use Rattle.bezier.specs.Nodes.{descendIn, descend, depth, nodeCurve}
 use Rattle.enclosure.specs.Bounds.{rowSum, high, low}
 use Rattle.enclosure.specs.Boxes.{boxAt, meets}
 use Rattle.outline.specs.Curves.{curveAt}
-use Rattle.outline.specs.Checks.{firstBeyond, faultAt, outlineFrom, outlined}
+use Rattle.integers.specs.First.{firstBad}
+use Rattle.outline.specs.Checks.{faultAt, outlineFrom, outlined}
 use Rattle.band.specs.declared.Banded.{Banded}
 use Rattle.band.specs.declared.Banded.the-variants.{Done, Refused}
 use Rattle.tree.specs.Tree.{ends, met, firstFailing}
@@ -28,7 +29,7 @@ lent T ns old = written 64 T ns old
 
 -- what the examples compute through
 computing : ℤ → List ℤ → List ℤ → List ℤ
-unfolding written allRecords recordsOf recordOf banded bandCurves firstTooWide leavesOf nodesOf ends met firstFailing outlined outlineFrom faultAt firstBeyond curveAt descend descendIn depth nodeCurve meets boxAt high low rowSum floor ceiling leftHalf rightHalf left right triangle pow one
+unfolding written allRecords recordsOf recordOf banded bandCurves firstTooWide leavesOf nodesOf ends met firstFailing outlined outlineFrom faultAt firstBad curveAt descend descendIn depth nodeCurve meets boxAt high low rowSum floor ceiling leftHalf rightHalf left right triangle pow one
 computing = lent
 
 -- number and spot of a refusal

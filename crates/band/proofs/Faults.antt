@@ -15,7 +15,8 @@ use Rattle.refusals.specs.declared.Refusal.the-variants.{Tolerance, Degree, Cut
 use Rattle.refusals.specs.Refusals.{numberOf}
 use Rattle.bezier.specs.declared.Curve.{Curve}
 use Rattle.outline.specs.Curves.{coordinates, degreeAt, nextAt, curveAt}
-use Rattle.outline.specs.Checks.{between, Outlined, curves, faulty, toleranceFine, withCurve, firstBeyond, faultAt, outlineFrom, outlined}
+use Rattle.integers.specs.Between.{between}
+use Rattle.outline.specs.Checks.{Outlined, curves, faulty, toleranceFine, withCurve, firstBeyond, faultAt, outlineFrom, outlined}
 use Rattle.band.specs.declared.Banded.the-variants.{Refused}
 use Rattle.band.specs.Banding.{bandCurves, banded}
 use Rattle.band.specs.Outcomes.{Faultless}

@@ -23,12 +23,14 @@ use Rattle.enclosure.specs.Rows.{pieces}
 use Rattle.enclosure.specs.Boxes.{boxAt}
 use Rattle.enclosure.proofs.Leaf.{Sound, leaf-box}
 use Rattle.outline.specs.Checks.{toleranceFine, curves, outlined}
-use Rattle.outline.proofs.Between.{between-high}
+use Rattle.integers.proofs.Between.{between-high}
 use Rattle.outline.proofs.Accepted.{outlined-from, accepted-most, accepted-some, accepted-all}
 use Rattle.tree.specs.Walked.{deepest, nodeMeets, endsOf}
 use Rattle.band.specs.Records.{boxNumbers, boxesTo, recordOf, recordsOf, allRecords}
-use Rattle.band.specs.Banding.{firstTooWide, leavesOf, recordLength}
-use Rattle.band.specs.Ranges.{farthest, Interval, SoundRecord, SoundList}
+use Rattle.boxes.specs.Records.{recordLength}
+use Rattle.band.specs.Banding.{firstTooWide, leavesOf}
+use Rattle.boxes.specs.Ranges.{farthest, Interval}
+use Rattle.band.specs.Ranges.{SoundRecord, SoundList}
 use Rattle.band.specs.Outcomes.{AllMeet}
 use Rattle.tree.proofs.Counting.{some-end}
 use Rattle.tree.proofs.Leaves.{end-facts}

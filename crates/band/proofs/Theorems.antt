@@ -20,7 +20,8 @@ use Rattle.band.specs.declared.Banded.the-variants.{Done, Refused}
 use Rattle.tree.specs.Leaves.{Leaf, Covers, EndToEnd}
 use Rattle.tree.specs.Walked.{deepest, nodeMeets, endsOf}
 use Rattle.band.specs.Records.{allRecords}
-use Rattle.band.specs.Banding.{recordLength, bandCurves, banded, written}
+use Rattle.boxes.specs.Records.{recordLength}
+use Rattle.band.specs.Banding.{bandCurves, banded, written}
 use Rattle.band.specs.Ranges.{SoundList}
 use Rattle.band.specs.Outcomes.{AllMeet, FirstWide, Faultless, Few, Report, Flat}
 use Rattle.tree.proofs.Leaves.{all-leaves}

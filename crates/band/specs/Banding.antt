@@ -7,6 +7,7 @@ use lib.Dec.{ltb}
 use lib.ListN.{length, drop}
 use lib.IntN.{ℤ}
 use Rattle.refusals.specs.declared.Refusal.{Refusal}
+use Rattle.boxes.specs.Records.{recordLength}
 use Rattle.refusals.specs.declared.Refusal.the-variants.{Tolerance, TooWide, TooFewRecords}
 use Rattle.bezier.specs.declared.Curve.{Curve}
 use Rattle.outline.specs.Checks.{toleranceFine, Outlined, curves, faulty, outlined}
@@ -29,10 +30,6 @@ leavesOf T (c ∷ cs) = length (endsOf T c) + leavesOf T cs
 unfoldable pub nodesOf : ℤ → List Curve → ℕ
 nodesOf T [] = 0
 nodesOf T (c ∷ cs) = met (nodeMeets T c) deepest 1 + nodesOf T cs
-
--- how many numbers a record has
-abbrev pub recordLength : ℕ
-recordLength = 18
 
 -- ---- the answer, with `room` numbers lent: 7, then 8, then the report
 unfoldable pub bandCurves : ℤ → List Curve → ℕ → Banded

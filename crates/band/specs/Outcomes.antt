@@ -12,7 +12,8 @@ use Rattle.bezier.specs.Differences.{largest}
 use Rattle.outline.specs.Checks.{toleranceFine, curves, outlined}
 use Rattle.tree.specs.Passing.{AllPass, First}
 use Rattle.tree.specs.Walked.{nodeMeets, endsOf}
-use Rattle.band.specs.Banding.{recordLength, leavesOf, nodesOf}
+use Rattle.boxes.specs.Records.{recordLength}
+use Rattle.band.specs.Banding.{leavesOf, nodesOf}
 
 -- ---- curves
 -- every end of every curve meets T

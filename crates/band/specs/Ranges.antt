@@ -7,17 +7,8 @@ use lib.IntN.{ℤ, pos, negℤ}
 use lib.Signed.{_≤ℤ_, _<ℤ_}
 use Rattle.integers.specs.Entry.{entry}
 use Rattle.enclosure.specs.Rows.{pieces}
-use Rattle.band.specs.Banding.{recordLength}
-
--- the greatest size of a box number
-abbrev pub farthest : ℕ
-farthest = 536870912
-
--- a low and a high in range, the low not above the high
-pub record Interval (low high : ℤ) : Type 0 where
-  pub from : negℤ (pos farthest) ≤ℤ low
-  pub order : low ≤ℤ high
-  pub to : high ≤ℤ pos farthest
+use Rattle.boxes.specs.Ranges.{Interval}
+use Rattle.boxes.specs.Records.{recordLength}
 
 -- A sound record: curve, node, and for each break point a box. `number p` is the number at place p, from 0.
 pub record SoundRecord (most : ℕ) (number : ℕ → ℤ) : Type 0 where

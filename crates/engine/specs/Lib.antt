@@ -1,2 +1,3 @@
--- What a reader must believe of the C interface: the numbers of an answer.
+-- What a reader must believe of the engine: demand 3 as one claim, and the numbers of an answer for the C interface.
+pub mod Demand3
 pub mod Answers

@@ -7,5 +7,8 @@ pub mod Ranges
 pub mod Linear
 pub mod Rounding
 pub mod Table
+pub mod Between
+pub mod Clash
+pub mod First
 pub mod Size
 pub mod Machine

@@ -14,7 +14,7 @@ use Rattle.bezier.specs.Bounds.{Sized}
 use Rattle.outline.specs.declared.Checked.the-variants.{Curves, Refused}
 use Rattle.outline.specs.Curves.{nextAt, curveAt}
 use Rattle.outline.specs.Checks.{Outlined, curves, faulty, faultAt, outlineFrom, outlined, checkedOf}
-use Rattle.outline.proofs.Clash.{clash}
+use Rattle.integers.proofs.Clash.{clash}
 use Rattle.outline.proofs.Faultless.{Padded, faultless, curve-sized, curve-padded}
 use Rattle.outline.proofs.Steps.{outline-begins, outline-ends}
 

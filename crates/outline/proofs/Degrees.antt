@@ -10,8 +10,8 @@ use lib.Signed.{_≤ℤ_}
 use Rattle.integers.specs.Entry.{entry}
 use Rattle.integers.proofs.Order.{NonNeg, nonneg, ≤ℤ-trans, pos-le, le-pos}
 use Rattle.outline.specs.Curves.{degreeAt}
-use Rattle.outline.specs.Checks.{between}
-use Rattle.outline.proofs.Between.{between-low, between-high}
+use Rattle.integers.specs.Between.{between}
+use Rattle.integers.proofs.Between.{between-low, between-high}
 
 least : (z : ℤ) → pos 1 ≤ℤ z → 1 ≤ natAbs z
 least (pos n) h = le-pos h

@@ -7,7 +7,8 @@ use lib.ListN.{length}
 use lib.IntN.{ℤ, pos, negsuc, negℤ}
 use Rattle.refusals.specs.Refusals.{numberOf, spotOf}
 use Rattle.outline.specs.Curves.{curveAt}
-use Rattle.outline.specs.Checks.{Outlined, curves, faulty, toleranceFine, firstBeyond, faultAt, outlineFrom, outlined}
+use Rattle.integers.specs.First.{firstBad}
+use Rattle.outline.specs.Checks.{Outlined, curves, faulty, toleranceFine, faultAt, outlineFrom, outlined}
 
 -- the number and the spot of a refusal, or 0 and how many curves there are
 abbrev answer : Outlined → ℕ × ℕ
@@ -59,33 +60,33 @@ unfolding outlined outlineFrom faultAt
 cut-short = refl
 
 pub second-cut-short : check (line ++ (pos 1 ∷ pos 0 ∷ [])) ≡ (3, 7)
-unfolding outlined outlineFrom faultAt firstBeyond
+unfolding outlined outlineFrom faultAt firstBad
 second-cut-short = refl
 
 -- ---- 4: a coordinate, before the next curve's degree
 pub farthest : check (pos 1 ∷ pos 1048576 ∷ negℤ (pos 1048576) ∷ pos 0 ∷ pos 0 ∷ []) ≡ (0, 1)
-unfolding outlined outlineFrom faultAt firstBeyond
+unfolding outlined outlineFrom faultAt firstBad
 farthest = refl
 
 pub beyond : check (pos 1 ∷ pos 1048577 ∷ pos 0 ∷ pos 0 ∷ pos 0 ∷ pos 7 ∷ []) ≡ (4, 1)
-unfolding outlined outlineFrom faultAt firstBeyond
+unfolding outlined outlineFrom faultAt firstBad
 beyond = refl
 
 pub beyond-below : check (line ++ (pos 1 ∷ pos 0 ∷ pos 0 ∷ pos 0 ∷ negℤ (pos 1048577) ∷ [])) ≡ (4, 9)
-unfolding outlined outlineFrom faultAt firstBeyond
+unfolding outlined outlineFrom faultAt firstBad
 beyond-below = refl
 
 pub next-degree : check (line ++ (pos 7 ∷ [])) ≡ (2, 5)
-unfolding outlined outlineFrom faultAt firstBeyond
+unfolding outlined outlineFrom faultAt firstBad
 next-degree = refl
 
 -- ---- 5: a curve too many begins, whatever its degree
 pub most-curves : check (lines 64) ≡ (0, 64)
-unfolding outlined outlineFrom faultAt firstBeyond
+unfolding outlined outlineFrom faultAt firstBad
 most-curves = refl
 
 pub one-more : check (lines 64 ++ (pos 9 ∷ [])) ≡ (5, 320)
-unfolding outlined outlineFrom faultAt firstBeyond
+unfolding outlined outlineFrom faultAt firstBad
 one-more = refl
 
 pub none-allowed : answer (outlined 0 (pos 9 ∷ [])) ≡ (5, 0)
@@ -103,5 +104,5 @@ pub read : outlined 64 (curve-a ++ arch) ≡ curves (
     record { degree = 3; x = pos 0 ∷ pos 10 ∷ pos 20 ∷ pos 30 ∷ []; y = pos 0 ∷ pos 30 ∷ pos 30 ∷ pos 0 ∷ [] }
     ∷ record { degree = 2; x = pos 1 ∷ pos 2 ∷ pos 3 ∷ pos 0 ∷ []; y = pos 0 ∷ pos 18 ∷ pos 0 ∷ pos 0 ∷ [] }
     ∷ [])
-unfolding outlined outlineFrom faultAt firstBeyond curveAt
+unfolding outlined outlineFrom faultAt firstBad curveAt
 read = refl

@@ -24,10 +24,11 @@ use Rattle.outline.specs.declared.faults.Found.{Found}
 use Rattle.outline.specs.declared.faults.Found.the-variants.{At, Nothing as NotFound}
 use Rattle.outline.specs.declared.faults.Fault.{Fault}
 use Rattle.outline.specs.declared.faults.Fault.the-variants.{Is, Nothing as NoFault}
-use Rattle.outline.specs.Checks.{between, coordinateFine, firstBeyond, faultAt, foundOf, faultOf}
-use Rattle.outline.proofs.Clash.{clash}
-use Rattle.outline.proofs.Between.{between-low, between-high}
-use Rattle.outline.proofs.Beyond.{none-beyond}
+use Rattle.integers.specs.Between.{between}
+use Rattle.outline.specs.Checks.{coordinateFine, firstBeyond, faultAt, foundOf, faultOf}
+use Rattle.integers.proofs.Clash.{clash}
+use Rattle.integers.proofs.Between.{between-low, between-high}
+use Rattle.integers.proofs.First.{none-bad}
 use Rattle.outline.proofs.Degrees.{degree-least, degree-most}
 
 -- ---- the checks one after the other; the last as the code has its answer
@@ -77,7 +78,7 @@ unfolding faultAt
 faultless ns at e =
     let d = degreeAt ns at in
     let s = clear (between (pos 1) (pos 3) (entry ns at)) (ltb (length ns) (nextAt ns at)) (firstBeyond ns (coordinates d) (at + 1)) at (length ns) e in
-    record { degree = s .0; ends = ltb-false (length ns) (nextAt ns at) (s .1); fine = none-beyond ns (coordinates d) (at + 1) (s .2) }
+    record { degree = s .0; ends = ltb-false (length ns) (nextAt ns at) (s .1); fine = none-bad (λ k. coordinateFine (entry ns k)) (coordinates d) (at + 1) (s .2) }
 
 -- ---- its control values
 -- number k of a coordinate, as `values` lists it

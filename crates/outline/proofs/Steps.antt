@@ -16,7 +16,7 @@ use Rattle.refusals.specs.declared.Refusal.the-variants.{TooManyCurves}
 use Rattle.bezier.specs.declared.Curve.{Curve}
 use Rattle.outline.specs.Curves.{nextAt, curveAt}
 use Rattle.outline.specs.Checks.{Outlined, curves, faulty, withCurve, faultAt, outlineFrom}
-use Rattle.outline.proofs.Clash.{clash}
+use Rattle.integers.proofs.Clash.{clash}
 use Rattle.outline.proofs.Degrees.{degree-inside}
 use Rattle.outline.proofs.Faultless.{faultless}
 

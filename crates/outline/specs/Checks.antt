@@ -1,13 +1,14 @@
 -- The checks of a tolerance and of an outline, in document 01's order ("Place of each check"). The most curves that an outline may have is a parameter.
-use mathlib.Core.Bool.{Bool, true, false, _&&_}
+use mathlib.Core.Bool.{Bool, true, false}
 use mathlib.Core.List.{List, [], _∷_}
 use mathlib.Core.Option.{Option, none, some}
 use Prim.Native.Nat.{ℕ, zero, suc, _+_}
 use lib.Dec.{ltb}
 use lib.ListN.{length}
 use lib.IntN.{ℤ, pos, negℤ}
-use lib.Signed.{leZ}
 use Rattle.integers.specs.Entry.{entry}
+use Rattle.integers.specs.Between.{between}
+use Rattle.integers.specs.First.{firstBad}
 use Rattle.refusals.specs.declared.Refusal.{Refusal}
 use Rattle.refusals.specs.declared.Refusal.the-variants.{Degree, CutShort, Coordinate, TooManyCurves, EmptyOutline}
 use Rattle.bezier.specs.declared.Curve.{Curve}
@@ -19,10 +20,6 @@ use Rattle.outline.specs.declared.faults.Fault.{Fault}
 use Rattle.outline.specs.declared.faults.Fault.the-variants.{Is, Nothing as NoFault}
 use Rattle.outline.specs.Curves.{coordinates, degreeAt, nextAt, curveAt}
 
--- from low to high
-abbrev pub between : ℤ → ℤ → ℤ → Bool
-between low high z = leZ low z && leZ z high
-
 -- ---- 1: the tolerance is 2 to 1,048,576
 abbrev pub toleranceFine : ℤ → Bool
 toleranceFine T = between (pos 2) (pos 1048576) T
@@ -31,9 +28,8 @@ toleranceFine T = between (pos 2) (pos 1048576) T
 abbrev pub coordinateFine : ℤ → Bool
 coordinateFine z = between (negℤ (pos 1048576)) (pos 1048576) z
 
-unfoldable pub firstBeyond : List ℤ → ℕ → ℕ → Option ℕ
-firstBeyond ns zero i = none
-firstBeyond ns (suc n) i = elim (coordinateFine (entry ns i)) [ true ↦ firstBeyond ns n (i + 1) | false ↦ some i ]
+abbrev pub firstBeyond : List ℤ → ℕ → ℕ → Option ℕ
+firstBeyond ns n i = firstBad (λ k. coordinateFine (entry ns k)) n i
 
 -- ---- the curves, or the first fault
 pub data Outlined : Type 0 where

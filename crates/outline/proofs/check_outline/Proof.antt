@@ -17,7 +17,7 @@ use Rattle.outline.specs.declared.Checked.the-variants.{Curves, Refused}
 use Rattle.outline.specs.declared.faults.Fault.the-variants.{Is, Nothing}
 use Rattle.outline.specs.Curves.{nextAt, curveAt}
 use Rattle.outline.specs.Checks.{Outlined, curves, faulty, withCurve, faultAt, faultOf, outlineFrom, outlined, checkedOf}
-use Rattle.outline.proofs.Clash.{clash}
+use Rattle.integers.proofs.Clash.{clash}
 use Rattle.outline.proofs.Faultless.{faultless}
 use Rattle.outline.proofs.Steps.{outline-ended, outline-full, outline-faulty, outline-step}
 use Rattle.outline.proofs.check_outline.Statement.{statement}

@@ -1,7 +1,7 @@
 -- `outline::tolerance_fine` meets its contract: what is below 2 is out of range, and the rest is tested with the other end.
 use mathlib.Core.Path.{sym}
 use lib.IntN.{pos}
-use Rattle.outline.proofs.Between.{found-below, found-last}
+use Rattle.integers.proofs.Between.{found-below, found-last}
 use Rattle.outline.proofs.tolerance_fine.Statement.{statement}
 use Rattle.outline.proofs.tolerance_fine.Tie as tie
 

@@ -4,8 +4,9 @@ use mathlib.Core.Bool.{true}
 use lib.IntN.{pos}
 use borrow.Author.Needs.{needs}
 use Rattle.integers.specs.Entry.{entry}
-use Rattle.outline.specs.Checks.{between, faultAt, faultOf}
-use Rattle.outline.proofs.Between.{element-fits, found-below, found-above, found-within}
+use Rattle.integers.specs.Between.{between}
+use Rattle.outline.specs.Checks.{faultAt, faultOf}
+use Rattle.integers.proofs.Between.{element-fits, found-below, found-above, found-within}
 use Rattle.outline.proofs.Faultless.{fault-degree, fault-cut-short, fault-coordinate, coordinateFault}
 use Rattle.outline.proofs.faults.fault_at.Statement.{statement}
 use Rattle.outline.proofs.faults.fault_at.Tie as tie

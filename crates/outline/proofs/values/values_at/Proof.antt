@@ -15,7 +15,7 @@ use Rattle.integers.proofs.Ranges.{stored}
 use Rattle.integers.proofs.Machine.{machine, fits!, is! }
 use Rattle.bezier.specs.Halves.{listed}
 use Rattle.outline.specs.Curves.{values}
-use Rattle.outline.proofs.Between.{element-fits}
+use Rattle.integers.proofs.Between.{element-fits}
 use Rattle.outline.proofs.values.values_at.Statement.{statement}
 use Rattle.outline.proofs.values.values_at.Tie as tie
 

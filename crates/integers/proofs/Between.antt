@@ -9,10 +9,10 @@ use lib.Signed.{mag, leZ, ltZ, _≤ℤ_, leZ-yes}
 use mir.Syntax.{Width, w32}
 use mir.Val.{SFits}
 use mir.Facts.{toZ-ofZ}
 use Rattle.integers.specs.Entry.{entry}
 use Rattle.integers.proofs.Ranges.{stored, lt-yes, lt-no, yes-le, no-le}
 use Rattle.integers.proofs.Table.{and-left, and-right}
-use Rattle.outline.specs.Checks.{between}
+use Rattle.integers.specs.Between.{between}
 
 module _ (low high z : ℤ) where
   pub between-low : between low high z ≡ true → low ≤ℤ z
@@ -50,6 +50,9 @@ module _ {w : Width} {z : ℤ} (fits : SFits w z) (low high : ℤ) where
   pub found-last : ltZ (stored w z) low ≡ false → leZ (stored w z) high ≡ between low high z
   found-last e = rw (toZ-ofZ fits, from-low false e)
 
--- what a read of a list of i32 tells of its element
+-- what a struct of i32 tells of its fields, and a read of a list of i32 of its element
+pub number-fits : (z : ℤ) → mag z < 2 ^ 31 → SFits w32 z
+number-fits z h = record { sfits = h }
+
 pub element-fits : (ns : List ℤ) (i : ℕ) → mag (entry ns i) < 2 ^ 31 → SFits w32 (entry ns i)
-element-fits ns i h = record { sfits = h }
+element-fits ns i h = number-fits (entry ns i) h

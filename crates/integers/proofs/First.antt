@@ -1,0 +1,90 @@
+-- The search for the first bad place, up to an end: one place at a time, in two parts, and what it says where it finds none.
+use mathlib.Core.Path.{_≡_, refl, subst}
+use mathlib.Core.Bool.{Bool, true, false}
+use mathlib.Core.Option.{Option, none, some}
+use Prim.Native.Nat.{ℕ, zero, suc, _+_, _-_, _≤_, _<_}
+use native.Mathlib.Nat.{add-zero, zero-add}
+use native.Mathlib.Omega.{arith}
+use Rattle.integers.specs.First.{firstBad}
+use Rattle.integers.proofs.Clash.{clash}
+
+-- where one search found nothing, the next begins
+abbrev pub orElse : Option ℕ → Option ℕ → Option ℕ
+orElse (some i) o = some i
+orElse none o = o
+
+module _ (fine : ℕ → Bool) where
+  module _ (end i : ℕ) where
+    pub bad-ended : end ≤ i → firstBad fine (end - i) i ≡ none
+    unfolding firstBad
+    bad-ended h = let n : end - i ≡ 0 = omega arith in rw n
+
+    pub bad-here : i < end → fine i ≡ false → firstBad fine (end - i) i ≡ some i
+    unfolding firstBad
+    bad-here h e = let n : end - i ≡ suc (end - (i + 1)) = omega arith in rw (n, firstBad, e)
+
+    pub bad-on : i < end → fine i ≡ true → firstBad fine (end - i) i ≡ firstBad fine (end - (i + 1)) (i + 1)
+    unfolding firstBad
+    bad-on h e = let n : end - i ≡ suc (end - (i + 1)) = omega arith in rw (n, firstBad, e)
+
+  -- a + b places in two parts
+  pub bad-parts : (a b i : ℕ) → firstBad fine (a + b) i ≡ orElse (firstBad fine a i) (firstBad fine b (i + a))
+  unfolding firstBad
+  bad-parts zero b i = rw (zero-add, add-zero)
+  bad-parts (suc a) b i =
+      let n : suc a + b ≡ suc (a + b) = omega arith in
+      let m : i + suc a ≡ i + 1 + a = omega arith in
+      rw (n, m) (first-then (fine i) (firstBad fine (a + b) (i + 1)) (firstBad fine a (i + 1)) (firstBad fine b (i + 1 + a)) (bad-parts a b (i + 1)))
+    where
+      first-then : (t : Bool) (o p q : Option ℕ) → o ≡ orElse p q
+          → _≡_ {A = Option ℕ} (elim t [ true ↦ o | false ↦ some i ]) (orElse (elim t [ true ↦ p | false ↦ some i ]) q)
+      first-then true o p q e = e
+      first-then false o p q e = refl
+
+  -- ---- none of n places from i on is bad
+  passed : (b : Bool) (i : ℕ) (o : Option ℕ) → _≡_ {A = Option ℕ} (elim b [ true ↦ o | false ↦ some i ]) none → (b ≡ true) × (o ≡ none)
+  passed true i o e = (refl, e)
+  passed false i o e = clash (cc)
+
+  pub none-bad : (n i : ℕ) → firstBad fine n i ≡ none → (k : ℕ) → k < n → fine (i + k) ≡ true
+  unfolding firstBad
+  none-bad zero i e k h = absurd (omega arith)
+  none-bad (suc n) i e zero h = rw add-zero (passed (fine i) i (firstBad fine n (i + 1)) e .0)
+  none-bad (suc n) i e (suc k) h =
+      let m : i + suc k ≡ i + 1 + k = omega arith in
+      rw m (none-bad n (i + 1) (passed (fine i) i (firstBad fine n (i + 1)) e .1) k (omega arith))
+
+  pub bad-none : (n i : ℕ) → ((k : ℕ) → k < n → fine (i + k) ≡ true) → firstBad fine n i ≡ none
+  unfolding firstBad
+  bad-none zero i h = refl
+  bad-none (suc n) i h =
+      let e : fine i ≡ true = subst (λ j. fine j ≡ true) (add-zero i) (h 0 (omega arith)) in
+      rw (firstBad, e) (bad-none n (i + 1) (λ k l. let m : i + 1 + k ≡ i + suc k = omega arith in rw m (h (suc k) (omega arith))))
+
+-- ---- the same search from another place on
+abbrev pub moved : ℕ → Option ℕ → Option ℕ
+moved i none = none
+moved i (some k) = some (i + k)
+
+module _ (fine : ℕ → Bool) (i : ℕ) (other : ℕ → Bool) where
+  moved-by : (n j : ℕ) → ((k : ℕ) → k < n → fine (i + (j + k)) ≡ other (j + k)) → firstBad fine n (i + j) ≡ moved i (firstBad other n j)
+  unfolding firstBad
+  moved-by zero j h = refl
+  moved-by (suc n) j h =
+      let a : fine (i + j) ≡ other j = let z = h 0 (omega arith) in rw add-zero at z in
+      let s : i + (j + 1) ≡ i + j + 1 = omega arith in
+      both (fine (i + j)) (other j) a (firstBad fine n (i + j + 1)) (firstBad other n (j + 1))
+      (subst (λ m. firstBad fine n m ≡ moved i (firstBad other n (j + 1))) s (moved-by n (j + 1) (λ k l. next k (h (suc k) (omega arith)))))
+    where
+      next : (k : ℕ) → fine (i + (j + suc k)) ≡ other (j + suc k) → fine (i + (j + 1 + k)) ≡ other (j + 1 + k)
+      next k e = let m : j + 1 + k ≡ j + suc k = omega arith in rw m e
+
+      both : (s t : Bool) → s ≡ t → (o p : Option ℕ) → o ≡ moved i p
+          → _≡_ {A = Option ℕ} (elim s [ true ↦ o | false ↦ some (i + j) ]) (moved i (elim t [ true ↦ p | false ↦ some j ]))
+      both true true d o p e = e
+      both false false d o p e = refl
+      both true false d o p e = clash (cc)
+      both false true d o p e = clash (cc)
+
+  pub bad-moved : (n : ℕ) → ((k : ℕ) → k < n → fine (i + k) ≡ other k) → firstBad fine n i ≡ moved i (firstBad other n 0)
+  bad-moved n h = let z = moved-by n 0 (λ k l. rw zero-add (h k l)) in rw add-zero at z

@@ -1,0 +1,1 @@
+-- Laws of judging. Each file opens with what it holds.
