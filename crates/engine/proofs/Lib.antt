@@ -1,0 +1,2 @@
+-- Laws of the engine. Each file opens with what it holds.
+pub mod Starred
