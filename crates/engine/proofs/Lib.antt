@@ -1,0 +1,2 @@
+-- Demand 3 and the laws behind it. Each file opens with what it holds.
+pub mod Passing
