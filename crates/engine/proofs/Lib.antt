@@ -1,2 +1,3 @@
 -- Demand 3 and the laws behind it. Each file opens with what it holds.
 pub mod Passing
+pub mod Mixtures
