@@ -1,3 +1,4 @@
 -- Demand 3 and the laws behind it. Each file opens with what it holds.
 pub mod Passing
 pub mod Mixtures
+pub mod Covers

@@ -107,6 +107,10 @@ unfolding pow one
 pow-times a b zero = refl
 pow-times a b (suc d) = ap (λ x. x *ℤ (a *ℤ b)) (pow-times a b d) ∙ ring (a ∷ b ∷ pow a d ∷ pow b d ∷ []) (search sides depth 20) refl
 
+-- weights at node 1 and at node n have the same sum
+pub down-sum : (n p r P R : ℕ) → pos P ≡ pAt n (pos p) (pos r) → pos R ≡ rAt n (pos p) (pos r) → P + R ≡ p + r
+down-sum n p r P R eP eR = ap natAbs (ap₂ _+ℤ_ eP eR ∙ same-sum n (pos p) (pos r))
+
 module _ (d : ℕ) (least : 1 ≤ d) (most : d ≤ 3) (cs : List ℤ) (n : ℕ) (hn : 0 < n) where
   abbrev D : ℕ
   D = 2 ^ (d * depth n)
@@ -130,7 +134,7 @@ module _ (d : ℕ) (least : 1 ≤ d) (most : d ≤ 3) (cs : List ℤ) (n : ℕ) 
       ∙ ap (λ x. pos 16 *ℤ x) (sym down))
     where
       sum : P + R ≡ p + r
-      sum = ap natAbs (ap₂ _+ℤ_ eP eR ∙ same-sum n (pos p) (pos r))
+      sum = down-sum n p r P R eP eR
 
       down : value (pos P) (pos R) d (nodeValues d cs n) ≡ pos D *ℤ value (pos p) (pos r) d cs
       down = ap₂ (λ x y. value x y d (nodeValues d cs n)) eP eR ∙ values-down d most cs n hn (pos p) (pos r)
