@@ -2,3 +2,4 @@
 pub mod Passing
 pub mod Mixtures
 pub mod Covers
+pub mod Demand3

@@ -55,7 +55,7 @@ no-bad-number {most} {n} {rs} l = bad-none (λ i. numberFine most (i % recordLen
     (omega arith) (omega arith) (each-fine (l .each k (omega (arith, l .whole))) p (omega arith))))
 
 -- ---- 11: a coordinate of a point that equals a curve is within 16 · 2^20
-coordinate-fine : (d : ℕ) (cs : List ℤ) → Each 1048576 cs → (p r : ℕ) → 0 < p + r → (z : ℤ) → scaled d p r z ≡ sixteenths d p r cs → inRange z ≡ true
+pub coordinate-fine : (d : ℕ) (cs : List ℤ) → Each 1048576 cs → (p r : ℕ) → 0 < p + r → (z : ℤ) → scaled d p r z ≡ sixteenths d p r cs → inRange z ≡ true
 coordinate-fine d cs each p r some z e =
     let w = pow (pos (p + r)) d in
     let v = value (pos p) (pos r) d cs in
