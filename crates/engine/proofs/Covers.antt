@@ -3,10 +3,10 @@
 use mathlib.Core.Path.{_≡_, sym, _∙_, ap, subst}
 use mathlib.Core.Bool.{true}
 use mathlib.Core.List.{List}
-use Prim.Native.Nat.{ℕ, suc, _+_, _*_, _-_, _^_, _≤_, _<_}
+use Prim.Native.Nat.{ℕ, suc, _+_, _*_, _^_, _≤_, _<_}
 use native.Mathlib.Nat.{zero-lt-suc}
 use native.Mathlib.Omega.{arith}
-use lib.IntN.{ℤ, pos}
+use lib.IntN.{ℤ}
 use Rattle.integers.specs.Entry.{entry}
 use Rattle.integers.proofs.Order.{gap, nonneg-natural, pos-le}
 use Rattle.bezier.specs.declared.Curve.{Curve}
@@ -16,7 +16,7 @@ use Rattle.bezier.specs.Points.{Equals, Within}
 use Rattle.bezier.proofs.Coordinates.{nodeValues, node-curve}
 use Rattle.enclosure.specs.Rows.{pieces}
 use Rattle.enclosure.specs.Boxes.{lowOf, highOf, boxAt}
-use Rattle.enclosure.proofs.Places.{Located, located}
+use Rattle.enclosure.proofs.Places.{located}
 use Rattle.enclosure.proofs.Narrow.{Narrow, meets-narrow}
 use Rattle.tree.specs.Leaves.{Covers}
 use Rattle.tree.specs.Walked.{nodeMeets}
@@ -25,7 +25,7 @@ use Rattle.boxes.specs.Records.{recordLength, boxIndex, boxAtIndex}
 use Rattle.band.specs.Records.{boxNumbers, recordOf}
 use Rattle.band.proofs.Sound.{record-box}
 use Rattle.band.proofs.Standing.{Stands}
-use Rattle.judge.specs.Covers.{Holds, CoverHolds}
+use Rattle.judge.specs.Covers.{Holds}
 use Rattle.engine.proofs.Mixtures.{upP, upR, down-sum, point-mixed, mixed-near}
 
 -- one of the covers between these boxes holds the point

@@ -1,11 +1,10 @@
 -- Demand 3, as one theorem from the outline and the tolerance given to banding to the answer of judging. Judging is known here by what it promises of its answer
 -- alone. That it refuses no point of the outline's curves is proved, not assumed.
 use mathlib.Core.Path.{_≡_, refl, sym, _∙_, ap, subst}
-use mathlib.Core.Bool.{true}
 use mathlib.Core.List.{List, [], _∷_, _++_, List·Memᴰ, List·Memᴰ·head, Memᴰ·append-right}
 use mathlib.Core.Option.{Option, none, some}
-use Prim.Native.Nat.{ℕ, zero, suc, _+_, _*_, _^_, _≤_, _<_}
-use native.Mathlib.Nat.{le-of-suc-le-suc, le-of-eq, zero-add, add-zero, mul-zero}
+use Prim.Native.Nat.{ℕ, suc, _+_, _*_, _^_, _≤_, _<_}
+use native.Mathlib.Nat.{le-of-eq, mul-zero}
 use native.Mathlib.Omega.{arith}
 use lib.ListN.{length, take}
 use lib.IntN.{ℤ, pos}
@@ -16,7 +15,6 @@ use Rattle.bezier.specs.declared.Curve.{Curve}
 use Rattle.bezier.specs.Bounds.{Each, Sized}
 use Rattle.bezier.specs.Points.{Equals}
 use Rattle.bezier.proofs.Sizes.{each-wider}
-use Rattle.boxes.specs.Ranges.{inRange}
 use Rattle.boxes.specs.Records.{covers, recordLength}
 use Rattle.outline.specs.Checks.{Outlined, curves}
 use Rattle.outline.proofs.Accepted.{outlined-from, accepted-all}
@@ -28,7 +26,7 @@ use Rattle.band.specs.Banding.{banded, written}
 use Rattle.band.specs.Ranges.{SoundList}
 use Rattle.band.specs.Outcomes.{AllMeet, Faultless, Flat}
 use Rattle.band.proofs.Sound.{record-curve, record-node}
-use Rattle.band.proofs.Standing.{OfCurve, Found, every-end-stands, every-record-stands}
+use Rattle.band.proofs.Standing.{Found, every-end-stands, every-record-stands}
 use Rattle.band.proofs.Theorems.{done-exactly, records-written, written-some, written-sound, leaves-exactly, every-parameter, leaf-at-most}
 use Rattle.judge.specs.declared.Judgement.{Judgement}
 use Rattle.judge.specs.declared.Judgement.the-variants.{On, Off, Refused}

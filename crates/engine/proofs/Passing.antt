@@ -1,14 +1,14 @@
 -- Judging refuses nothing where demand 3 speaks of it: the records that banding wrote pass checks 9 and 10, and a point of a curve passes check 11.
-use mathlib.Core.Path.{_≡_, refl, _∙_, ap, subst, subst₂}
+use mathlib.Core.Path.{_≡_, refl, subst, subst₂}
 use mathlib.Core.Bool.{true}
 use mathlib.Core.List.{List, [], _∷_}
 use mathlib.Core.Option.{none}
-use Prim.Native.Nat.{ℕ, zero, suc, _+_, _*_, _/_, _%_, _≤_, _<_}
+use Prim.Native.Nat.{ℕ, zero, suc, _+_, _*_, _/_, _%_, _<_}
 use native.Mathlib.Nat.{zero-add}
 use native.Mathlib.Omega.{arith}
 use lib.Dec.{eqb·suc-zero}
 use lib.ListN.{length}
-use lib.IntN.{ℤ, pos, negℤ, _*ℤ_, pow}
+use lib.IntN.{ℤ, pos, negℤ, pow}
 use lib.Signed.{_≤ℤ_}
 use Rattle.integers.specs.Entry.{entry}
 use Rattle.integers.proofs.Ring.{sides}
