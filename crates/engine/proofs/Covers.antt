@@ -34,44 +34,41 @@ pub record Held (box : ℕ → Box) (x y : ℤ) : Type 0 where
   pub inside : cover < pieces
   pub holds : Holds (box cover) (box (suc cover)) x y
 
+-- the box at break point i of node n
+abbrev pub nodeBox : Curve → ℕ → ℕ → Box
+nodeBox c n i =
+    let xs = nodeValues (c .degree) (c .x) n in
+    let ys = nodeValues (c .degree) (c .y) n in
+    record {
+      «x_low» = lowOf (c .degree) (depth n) xs i;
+      «x_high» = highOf (c .degree) (depth n) xs i;
+      «y_low» = lowOf (c .degree) (depth n) ys i;
+      «y_high» = highOf (c .degree) (depth n) ys i;
+    }
+
+-- ---- in a list where the record of node n stands
+module _ (c : Curve) (n : ℕ) (hn : 0 < n) {rs : List ℤ} {j : ℕ} (k : ℕ) (there : Stands rs j (recordOf k c n)) (i : ℕ) (hi : i ≤ pieces) where
+  number-there : (q at : ℕ) → q < 4 → at ≡ boxIndex j i + q
+      → entry rs at ≡ entry (boxNumbers (boxAt (depth n) (record { degree = c .degree; x = nodeValues (c .degree) (c .x) n; y = nodeValues (c .degree) (c .y) n }) i)) q
+  number-there q at hq e =
+      ap (entry rs) {x = at} {y = recordLength * j + (4 * i + (2 + q))} (omega arith)
+      ∙ there .number (4 * i + (2 + q)) (omega arith)
+      ∙ record-box k c n i q hi hq
+      ∙ ap (λ a. entry (boxNumbers (boxAt (depth n) a i)) q) (node-curve c n hn)
+
+  pub box-there : boxAtIndex rs (boxIndex j i) ≡ nodeBox c n i
+  unfolding boxAt
+  box-there =
+      let at = boxIndex j i in
+      let e0 = number-there 0 at (omega arith) (omega arith) in
+      let e1 = number-there 1 (at + 1) (omega arith) (omega arith) in
+      let e2 = number-there 2 (at + 2) (omega arith) (omega arith) in
+      let e3 = number-there 3 (at + 3) (omega arith) (omega arith) in
+      rw (e0, e1, e2, e3)
+
 module _ (c : Curve) (s : Sized 0 c) (n : ℕ) (hn : 0 < n) where
-  abbrev xs : List ℤ
-  xs = nodeValues (c .degree) (c .x) n
-
-  abbrev ys : List ℤ
-  ys = nodeValues (c .degree) (c .y) n
-
-  -- the box at break point i
-  abbrev pub nodeBox : ℕ → Box
-  nodeBox i = record {
-    «x_low» = lowOf (c .degree) (depth n) xs i;
-    «x_high» = highOf (c .degree) (depth n) xs i;
-    «y_low» = lowOf (c .degree) (depth n) ys i;
-    «y_high» = highOf (c .degree) (depth n) ys i;
-  }
-
-  -- ---- in a list where the leaf's record stands
-  module _ {rs : List ℤ} {j : ℕ} (k : ℕ) (there : Stands rs j (recordOf k c n)) (i : ℕ) (hi : i ≤ pieces) where
-    number-there : (q at : ℕ) → q < 4 → at ≡ boxIndex j i + q
-        → entry rs at ≡ entry (boxNumbers (boxAt (depth n) (record { degree = c .degree; x = xs; y = ys }) i)) q
-    number-there q at hq e =
-        ap (entry rs) {x = at} {y = recordLength * j + (4 * i + (2 + q))} (omega arith)
-        ∙ there .number (4 * i + (2 + q)) (omega arith)
-        ∙ record-box k c n i q hi hq
-        ∙ ap (λ a. entry (boxNumbers (boxAt (depth n) a i)) q) (node-curve c n hn)
-
-    pub box-there : boxAtIndex rs (boxIndex j i) ≡ nodeBox i
-    unfolding boxAt
-    box-there =
-        let at = boxIndex j i in
-        let e0 = number-there 0 at (omega arith) (omega arith) in
-        let e1 = number-there 1 (at + 1) (omega arith) (omega arith) in
-        let e2 = number-there 2 (at + 2) (omega arith) (omega arith) in
-        let e3 = number-there 3 (at + 3) (omega arith) (omega arith) in
-        rw (e0, e1, e2, e3)
-
   -- ---- a point of the curve
-  pub point-held : (p r : ℕ) → 0 < p + r → Covers n p r → (x y : ℤ) → Equals c p r x y → Held nodeBox x y
+  pub point-held : (p r : ℕ) → 0 < p + r → Covers n p r → (x y : ℤ) → Equals c p r x y → Held (nodeBox c n) x y
   point-held p r some covers x y equals =
       let P = nonneg-natural (gap (pos-le (covers .from))) in
       let to = subst (λ m. 2 ^ depth n * p ≤ m * (p + r)) {x = start n + 1} {y = suc (start n)} (omega arith) (covers .to) in
@@ -91,7 +88,7 @@ module _ (c : Curve) (s : Sized 0 c) (n : ℕ) (hn : 0 < n) where
       }
 
   -- ---- a point that a cover of a leaf holds
-  pub held-near : (T : ℤ) → nodeMeets T c n ≡ true → (i : ℕ) → i < pieces → (x y : ℤ) (h : Holds (nodeBox i) (nodeBox (suc i)) x y)
+  pub held-near : (T : ℤ) → nodeMeets T c n ≡ true → (i : ℕ) → i < pieces → (x y : ℤ) (h : Holds (nodeBox c n i) (nodeBox c n (suc i)) x y)
       → Within T c (upP n i (h .a) (h .b)) (upR n i (h .a) (h .b)) x y
   held-near T meet i hi x y h =
       let narrow = subst (Narrow T (depth n)) (node-curve c n hn) (meets-narrow T (depth n) (nodeCurve c n) meet) in

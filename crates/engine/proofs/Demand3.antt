@@ -90,7 +90,7 @@ module _ (most : ℕ) (T : ℤ) (ns : List ℤ) (cs : List Curve) (faultless : F
         let found = subst (λ l. Found (allRecords T 0 l) (recordOf (0 + length (of .before)) c (leaf .0))) (sym (split of))
         (every-end-stands T 0 (of .before) c (of .after) (leaf .0) (leaves-exactly T cs meet c i (leaf .0) .1 (leaf .1))) in
         let held = point-held c s (leaf .0) (leaf .1 .node) p r positive (leaf .2) x y equals in
-        let there = box-there c s (leaf .0) (leaf .1 .node) (0 + length (of .before)) (found .stands) in
+        let there = box-there c (leaf .0) (leaf .1 .node) (0 + length (of .before)) (found .stands) in
         let passes = none-refused some sound x y
         (coordinate-fine (c .degree) (c .x) (small s .0) p r positive x (equals .in-x)) (coordinate-fine (c .degree) (c .y) (small s .1) p r positive y (equals .in-y)) in
         held-on rs x y answer (subst (λ f. Verdict f rs x y answer) passes judged) (found .place) (held .cover) (found .stands .inside) (held .inside)
@@ -104,8 +104,8 @@ module _ (most : ℕ) (T : ℤ) (ns : List ℤ) (cs : List Curve) (faultless : F
         let i = member (w .before) c (w .after) (w .split) in
         let s = sized c i in
         let hn = end-facts (nodeMeets T c) deepest (w .node) (w .end) .node in
-        let there = box-there c s (w .node) hn (0 + length (w .before)) (w .stands) in
-        let h : Holds (nodeBox c s (w .node) hn (on .cover)) (nodeBox c s (w .node) hn (suc (on .cover))) x y =
+        let there = box-there c (w .node) hn (0 + length (w .before)) (w .stands) in
+        let h : Holds (nodeBox c (w .node) (on .cover)) (nodeBox c (w .node) (suc (on .cover))) x y =
         rw (← there (on .cover) (omega (arith, v .1)), ← there (suc (on .cover)) (v .1)) (v .2) in
         record {
           number = length (w .before);
