@@ -23,6 +23,12 @@ use Rattle.enclosure.proofs.Places.{Located, place-at}
 use Rattle.enclosure.proofs.Enclosure.{enclosure, enclosure-between}
 use Rattle.judge.specs.Covers.{Mixed}
 
+-- ---- a power of a product
+pow-times : (a b : ℤ) (d : ℕ) → pow (a *ℤ b) d ≡ pow a d *ℤ pow b d
+unfolding pow one
+pow-times a b zero = refl
+pow-times a b (suc d) = ap (λ x. x *ℤ (a *ℤ b)) (pow-times a b d) ∙ ring (a ∷ b ∷ pow a d ∷ pow b d ∷ []) (search sides depth 20) refl
+
 -- ---- the parameter of the weights a and b on piece i: at a node, and at node 1 where the node is n
 abbrev pub atP : ℕ → ℕ → ℕ → ℕ
 atP i a b = a * i + b * suc i
@@ -40,7 +46,7 @@ pub up-some : (n i a b : ℕ) → i < pieces → 0 < a + b → 0 < upP n i a b +
 up-some n i a b hi some = let e = place-at pieces i a b hi .whole in omega (arith, e, some)
 
 -- w · z is within w · T of 16 · v
-record Apart (T w v z : ℤ) : Type 0 where
+record Close (T w v z : ℤ) : Type 0 where
   above : (w *ℤ z -ℤ pos 16 *ℤ v) ≤ℤ (w *ℤ T)
   below : (pos 16 *ℤ v -ℤ w *ℤ z) ≤ℤ (w *ℤ T)
 
@@ -84,9 +90,9 @@ module _ (m d D : ℕ) (ρs : List Row) (cs : List ℤ) (hd : 0 < d) (hD : 0 < D
             (search sides depth 40 fits 9999) refl);
       }
 
-  mixed-apart : Place m i (m * a) (m * b) p r → Encloses m ρs (pos D) d cs i (m * a) (m * b) p r → (T z : ℤ) → (h₀ -ℤ l₀) ≤ℤ T → (h₁ -ℤ l₁) ≤ℤ T
-      → Mixed a b l₀ h₀ l₁ h₁ z → Apart T (pos D *ℤ whole) here z
-  mixed-apart w e T z narrow₀ narrow₁ mixed =
+  mixed-close : Place m i (m * a) (m * b) p r → Encloses m ρs (pos D) d cs i (m * a) (m * b) p r → (T z : ℤ) → (h₀ -ℤ l₀) ≤ℤ T → (h₁ -ℤ l₁) ≤ℤ T
+      → Mixed a b l₀ h₀ l₁ h₁ z → Close T (pos D *ℤ whole) here z
+  mixed-close w e T z narrow₀ narrow₁ mixed =
       let ρ = pos D ∷ factor ∷ whole ∷ here ∷ pos m ∷ pos a ∷ pos b ∷ pos p ∷ pos r ∷ l₀ ∷ h₀ ∷ l₁ ∷ h₁ ∷ T ∷ z ∷ [] in
       let k = natural D ×₀ pow-nonneg (p + r) (d - 1) ×₀ natural m in
       let narrow = natural a ×₀ gap narrow₀ +₀ natural b ×₀ gap narrow₁ in
@@ -102,11 +108,6 @@ module _ (m d D : ℕ) (ρs : List Row) (cs : List ℤ) (hd : 0 < d) (hD : 0 < D
       }
 
 -- ---- a node of a curve, one coordinate
-pow-times : (a b : ℤ) (d : ℕ) → pow (a *ℤ b) d ≡ pow a d *ℤ pow b d
-unfolding pow one
-pow-times a b zero = refl
-pow-times a b (suc d) = ap (λ x. x *ℤ (a *ℤ b)) (pow-times a b d) ∙ ring (a ∷ b ∷ pow a d ∷ pow b d ∷ []) (search sides depth 20) refl
-
 -- weights at node 1 and at node n have the same sum
 pub down-sum : (n p r P R : ℕ) → pos P ≡ pAt n (pos p) (pos r) → pos R ≡ rAt n (pos p) (pos r) → P + R ≡ p + r
 down-sum n p r P R eP eR = ap natAbs (ap₂ _+ℤ_ eP eR ∙ same-sum n (pos p) (pos r))
@@ -146,8 +147,8 @@ module _ (d : ℕ) (least : 1 ≤ d) (most : d ≤ 3) (cs : List ℤ) (n : ℕ) 
   mixed-near i a b hi T z narrow₀ narrow₁ mixed =
       let P = atP i a b in
       let R = atR i a b in
-      let s = subst₂ (λ w v. Apart T w v z) (sym power) (sym (values-up d most cs n hn (pos P) (pos R)))
-      (mixed-apart pieces d D (thirds d) (nodeValues d cs n) least some-D i a b P R (place-at pieces i a b hi)
+      let s = subst₂ (λ w v. Close T w v z) (sym power) (sym (values-up d most cs n hn (pos P) (pos R)))
+      (mixed-close pieces d D (thirds d) (nodeValues d cs n) least some-D i a b P R (place-at pieces i a b hi)
       (enclosure-between d least most (pos D) (pos-lt some-D) (nodeValues d cs n) i a b hi) T z narrow₀ narrow₁ mixed) in
       record { above = s .above; below = s .below }
     where
