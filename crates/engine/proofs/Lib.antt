@@ -3,3 +3,4 @@ pub mod Passing
 pub mod Mixtures
 pub mod Covers
 pub mod Demand3
+pub mod Outcomes
