@@ -27,9 +27,12 @@ module _ (most : ℕ) (T : ℤ) (ns old : List ℤ) {list : List ℤ} (left : li
 
   pub banded-judged : {a b c : ℕ} → banded most T ns (length old) ≡ Done a b c → (j : Judgement) → Judged most (take (recordLength * b) list) x y j
       → (list ≡ written most T ns old) × Answered most T ns (banded most T ns (length old)) list x y (WithJudgement a b c j)
-  banded-judged {a} {b} {c} e j judged = (left, rw e (record {
-    judgement = j;
-    is = refl;
-    judged = judged;
-    demand-3 = rw left (demand-3 most T ns old a b c e x y j (rw left at judged));
-  }))
+  banded-judged {a} {b} {c} e j judged = (
+    left,
+    rw e (record {
+      judgement = j;
+      is = refl;
+      judged = judged;
+      demand-3 = rw left (demand-3 most T ns old a b c e x y j (rw left at judged));
+    }),
+  )

@@ -20,7 +20,13 @@ pub enum Outcome {
 }
 
 // Puts a band round an outline, writes the leaves' records to the front of the list, and judges the point (x, y) against exactly these records.
-pub fn band_and_judge(outline: &[i32], tolerance: i32, records: &mut [i32], x: i32, y: i32) -> Outcome
+pub fn band_and_judge(
+    outline: &[i32],
+    tolerance: i32,
+    records: &mut [i32],
+    x: i32,
+    y: i32,
+) -> Outcome
     ensures { λ r. ⌜ (now (records .exit) ≡ written 64 tolerance (now (outline .entry)) (now (records .entry))) × (Answered 64 tolerance (now (outline .entry)) (banded 64 tolerance (now (outline .entry)) (length (now (records .entry)))) (now (records .exit)) x y r) ⌝ }
 {
     let banded = band::band(outline, tolerance, records);
