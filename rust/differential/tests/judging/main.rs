@@ -1,0 +1,9 @@
+//! The proved engine against the plain one: judging.
+
+mod bands;
+mod damaged;
+mod examples;
+mod largest;
+mod random;
+mod small;
+mod together;
