@@ -3,6 +3,7 @@
 mod bands;
 mod damaged;
 mod examples;
+mod finest;
 mod largest;
 mod random;
 mod small;
