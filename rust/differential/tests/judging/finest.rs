@@ -1,6 +1,7 @@
 //! Points on a slanted side of a large cover, and those next to it: no whole point is nearer to the side
 //! without being on it.
 
+use differential::curves::gcd;
 use differential::judging::Comparison;
 use differential::leaf_lists::FARTHEST;
 use differential::random::Random;
@@ -28,14 +29,6 @@ fn next_to(a: i64, b: i64) -> (i64, i64) {
     // The remainder is 0 only where b is 1.
     let v = if v == 0 { b } else { v };
     ((a * v - 1) / b, v)
-}
-
-fn gcd(a: i64, b: i64) -> i64 {
-    if b == 0 {
-        a
-    } else {
-        gcd(b, a % b)
-    }
 }
 
 /// A number up to 2^30, mostly a large one.
@@ -86,7 +79,7 @@ fn the_nearest_points_of_a_slanted_side() {
         // At times with whole points between the corners.
         let parts = if random.one_in(2) { 1 } else { i64::from(random.between(1, 1_000)) };
         let [across, up] = [across, up].map(|n| (n / parts).max(1) * parts);
-        let parts = gcd(across, up);
+        let parts = gcd(across.into(), up.into()) as i64;
         let (a, b) = (across / parts, up / parts);
         let (u, v) = next_to(a, b);
         assert_eq!(a * v - b * u, 1);
