@@ -54,12 +54,18 @@ impl Interval {
 
 /// Whether the cover between two boxes holds a point, edges included. A box is x low, x high, y low,
 /// y high.
-pub fn holds(first: &[i32], second: &[i32], x: i32, y: i32) -> bool {
-    let outside = |at: usize, z: i32| z < first[at].min(second[at]) || z > first[at + 1].max(second[at + 1]);
-    if outside(0, x) || outside(2, y) {
-        return false;
-    }
-    // Each of the four sides now holds at one of the boxes.
+#[inline]
+pub fn holds(first: &[i32; 4], second: &[i32; 4], x: i32, y: i32) -> bool {
+    // Most points lie beyond both boxes on one side.
+    x >= first[0].min(second[0])
+        && x <= first[1].max(second[1])
+        && y >= first[2].min(second[2])
+        && y <= first[3].max(second[3])
+        && mixture_holds(first, second, x, y)
+}
+
+/// Whether some mixture of the boxes holds a point that is not beyond both of them on any side.
+fn mixture_holds(first: &[i32; 4], second: &[i32; 4], x: i32, y: i32) -> bool {
     let mut s = Interval { from: Fraction::ZERO, to: Fraction::ONE };
     for (at, z) in [(0, x), (2, y)] {
         let [low, high] = [first[at], first[at + 1]].map(i64::from);

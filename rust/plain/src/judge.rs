@@ -24,14 +24,18 @@ pub enum Judgement {
 pub fn judge(leaves: &[i32], x: i32, y: i32) -> Result<Judgement, Refusal> {
     leaf_list::check_leaves(leaves)?;
     leaf_list::check_point(x, y)?;
-    for (leaf, record) in leaves.chunks_exact(RECORD).enumerate() {
-        // Boxes 0 and 1, then 1 and 2, then 2 and 3.
-        let mut pairs = record[2..].windows(8).step_by(4);
-        if let Some(cover) = pairs.position(|pair| cover::holds(&pair[..4], &pair[4..], x, y)) {
+    for (leaf, record) in leaf_list::records(leaves).enumerate() {
+        let held = |&i: &usize| cover::holds(box_at(record, i), box_at(record, i + 1), x, y);
+        if let Some(cover) = (0..3).find(held) {
             return Ok(Judgement::On { leaf, cover });
         }
     }
     Ok(Judgement::Off)
+}
+
+/// The box of a record at break point `i`.
+fn box_at(record: &[i32; RECORD], i: usize) -> &[i32; 4] {
+    record[2 + 4 * i..][..4].try_into().expect("a box has four numbers")
 }
 
 #[cfg(test)]

@@ -13,13 +13,18 @@ const NODES: RangeInclusive<i32> = 1..=511;
 /// Box numbers and point coordinates that are taken, in sixteenths of a stage unit.
 const SIXTEENTHS: RangeInclusive<i32> = -536_870_912..=536_870_912;
 
+/// The records of a leaf list.
+pub fn records(leaves: &[i32]) -> impl Iterator<Item = &[i32; RECORD]> {
+    leaves.chunks_exact(RECORD).map(|record| record.try_into().expect("a chunk has the length of a record"))
+}
+
 /// Check 9, then check 10.
 pub fn check_leaves(leaves: &[i32]) -> Result<(), Refusal> {
     let length = leaves.len();
     if length == 0 || length % RECORD != 0 {
         return Err(Refusal::LeafListLength { length });
     }
-    for (leaf, record) in leaves.chunks_exact(RECORD).enumerate() {
+    for (leaf, record) in records(leaves).enumerate() {
         if let Some(bad) = first_bad(record) {
             return Err(Refusal::LeafListNumber { index: RECORD * leaf + bad });
         }
@@ -39,7 +44,7 @@ pub fn check_point(x: i32, y: i32) -> Result<(), Refusal> {
 }
 
 /// The place of a record's first bad number.
-fn first_bad(record: &[i32]) -> Option<usize> {
+fn first_bad(record: &[i32; RECORD]) -> Option<usize> {
     if !CURVES.contains(&record[0]) {
         return Some(0);
     }
