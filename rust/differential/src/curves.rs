@@ -64,7 +64,7 @@ impl Curve<'_> {
 pub fn parameter(node: i32, cover: usize, s: Fraction) -> (i128, i128) {
     let depth = node.ilog2();
     let thirds = 3 * (i128::from(node) - (1 << depth)) + cover as i128;
-    let (p, q) = (thirds * s.below + s.above, 3 * s.below << depth);
+    let (p, q) = (thirds * s.below + s.above, (3 * s.below) << depth);
     let common = gcd(p, q);
     (p / common, q / common)
 }
