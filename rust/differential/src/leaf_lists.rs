@@ -24,8 +24,8 @@ enum Width {
 
 const WIDTHS: [Width; 4] = [Width::None, Width::Thin, Width::Any, Width::Extreme];
 
-/// A leaf list and a number that divides the differences of most of its bounds: at s a fraction with that number
-/// below the line, the mixture of two boxes has whole sides.
+/// A leaf list and a number that divides the differences of most of its bounds: where s has that
+/// number below the line, the mixture of two boxes has whole sides.
 #[derive(Debug, Clone)]
 pub struct LeafList {
     /// The records.
