@@ -3,7 +3,12 @@
 #![forbid(unsafe_code)]
 
 mod banding;
+mod judging;
+mod outlines;
+mod times;
 
 fn main() {
     banding::run();
+    println!();
+    judging::run();
 }

@@ -4,5 +4,10 @@
 #![forbid(unsafe_code)]
 
 pub mod banding;
+pub mod covers;
+pub mod curves;
+pub mod judging;
+pub mod leaf_lists;
 pub mod outlines;
 pub mod random;
+pub mod together;

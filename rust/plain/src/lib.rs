@@ -1,18 +1,23 @@
 //! A plain engine for contour bands, written from document 01 alone. It shares nothing with the
 //! proved engine, and the two are compared with each other, number by number.
 //!
-//! [`band`] encloses an outline of Bézier curves in boxes. The modules follow the document's
-//! sections: the checks of an outline, halving, the enclosure, the walk.
+//! [`band`] encloses an outline of Bézier curves in boxes, and [`judge`] says whether a point lies on
+//! what they cover. The modules follow the document's sections: the checks of an outline, halving,
+//! the enclosure, the walk; the checks of a leaf list and a point, covers, judging.
 
 #![forbid(unsafe_code)]
 
 mod band;
+mod cover;
 mod curve;
 mod enclosure;
 #[cfg(test)]
 mod examples;
+mod judge;
+mod leaf_list;
 mod outline;
 mod refusal;
 
 pub use band::{band, Report, RECORD};
+pub use judge::{judge, Judgement};
 pub use refusal::Refusal;
