@@ -1,0 +1,98 @@
+// The path round two boxes: along each side of their bounding box, the stretch that the boxes reaching that side cover.
+ghost use mathlib.Core.Path.{_≡_};
+ghost use Rattle.cover.specs.Polygon.{lower, higher, joined, reached, endsOf, pathPoint, same};
+
+// The numbers from low to high.
+pub struct Span {
+    pub low: i32,
+    pub high: i32,
+}
+
+pub struct Point {
+    pub x: i32,
+    pub y: i32,
+}
+
+// Of two boxes, in one direction: the lowest and the highest level that they reach, and the stretch across it that they cover at each.
+pub struct Ends {
+    pub levels: Span,
+    pub lowest: Span,
+    pub highest: Span,
+}
+
+fn lower(a: i32, b: i32) -> i32
+    ensures { λ r. ⌜ r ≡ lower a b ⌝ }
+{
+    if a < b { a } else { b }
+}
+
+fn higher(a: i32, b: i32) -> i32
+    ensures { λ r. ⌜ r ≡ higher a b ⌝ }
+{
+    if a < b { b } else { a }
+}
+
+// The span from the lower low to the higher high.
+fn joined(first: Span, second: Span) -> Span
+    ensures { λ r. ⌜ r ≡ joined first second ⌝ }
+{
+    let low = lower(first.low, second.low);
+    let high = higher(first.high, second.high);
+    Span { low, high }
+}
+
+// The first span where a is less, the second where b is, and where they are equal both, joined.
+fn reached(a: i32, b: i32, first: Span, second: Span) -> Span
+    ensures { λ r. ⌜ r ≡ reached a b first second ⌝ }
+{
+    if a < b {
+        return first;
+    }
+    if b < a {
+        return second;
+    }
+    joined(first, second)
+}
+
+// The ends of two boxes whose levels and stretches are given.
+pub fn ends_of(first: Span, second: Span, across_first: Span, across_second: Span) -> Ends
+    ensures { λ r. ⌜ r ≡ endsOf first second «across_first» «across_second» ⌝ }
+{
+    let levels = joined(first, second);
+    let lowest = reached(first.low, second.low, across_first, across_second);
+    let highest = reached(second.high, first.high, across_first, across_second);
+    Ends {
+        levels,
+        lowest,
+        highest,
+    }
+}
+
+// Point k of the path, from 0 to 8, where the last is the first again. The levels of `upright` are y, those of `across` are x.
+pub fn path_point(upright: Ends, across: Ends, k: usize) -> Point
+    ensures { λ r. ⌜ r ≡ pathPoint upright across k ⌝ }
+{
+    let bottom = upright.lowest;
+    let top = upright.highest;
+    let left = across.lowest;
+    let right = across.highest;
+    let y = upright.levels;
+    let x = across.levels;
+    match k {
+        1 => Point { x: bottom.high, y: y.low },
+        2 => Point { x: x.high, y: right.low },
+        3 => Point { x: x.high, y: right.high },
+        4 => Point { x: top.high, y: y.high },
+        5 => Point { x: top.low, y: y.high },
+        6 => Point { x: x.low, y: left.high },
+        7 => Point { x: x.low, y: left.low },
+        _ => Point { x: bottom.low, y: y.low },
+    }
+}
+
+// Whether two points are the same.
+pub fn is_same(p: Point, q: Point) -> bool
+    ensures { λ r. ⌜ r ≡ same p q ⌝ }
+{
+    p.x == q.x && p.y == q.y
+}
