@@ -1,3 +1,6 @@
 -- Laws of drawing. Each file opens with what it holds.
 pub mod Examples
 pub mod Spans
+pub mod Writing
+pub mod Faults
+pub mod Answers

@@ -11,10 +11,11 @@ use mir.Val.{SFits, ofZ}
 use mir.Facts.{toZ-ofZ}
 use Rattle.integers.proofs.Ranges.{stored, equal as same-number, yes-le, le-yes}
 use Rattle.integers.proofs.Order.{≤ℤ-antisymm}
+use Rattle.boxes.specs.declared.Box.{Box}
 use Rattle.cover.specs.declared.path.Span.{Span}
 use Rattle.cover.specs.declared.path.Point.{Point}
 use Rattle.cover.specs.declared.path.Ends.{Ends}
-use Rattle.cover.specs.Polygon.{lower, higher, joined, reached, endsOf, pathPoint, equal, same}
+use Rattle.cover.specs.Polygon.{lower, higher, joined, reached, endsOf, acrossOf, uprightOf, pathPoint, equal, same, verticesOf, pathOf, vertices}
 
 module _ {a b : ℤ} (fa : SFits w32 a) (fb : SFits w32 b) where
   pub less : (t : Bool) → ltZ (stored w32 a) (stored w32 b) ≡ t → ltZ a b ≡ t
@@ -108,3 +109,12 @@ same-by-y p q px qx py qy e = bits-test py qy ∙ rw (bits-equal px qx e)
 pub same-by-x : (p q : Point) → SFits w32 (p .x) → SFits w32 (q .x) → (ofZ w32 (p .x) ≡ ofZ w32 (q .x) → ⊥)
     → eqb (ofZ w32 (p .x)) (ofZ w32 (q .x)) ≡ same p q
 same-by-x p q px qx f = bits-test px qx ∙ rw (bits-differ px qx f)
+
+-- ---- the path of two boxes, from what the code called
+pub vertices-are : (a b : Box) {x u y v : Span} {p q : Ends} → x ≡ acrossOf a → u ≡ acrossOf b → y ≡ uprightOf a → v ≡ uprightOf b
+    → p ≡ endsOf y v x u → q ≡ endsOf x u y v → verticesOf (pathPoint p q) ≡ vertices a b
+unfolding pathOf vertices
+vertices-are a b {p} {q} ex eu ey ev ep eq =
+    let e : p ≡ endsOf (uprightOf a) (uprightOf b) (acrossOf a) (acrossOf b) = cc in
+    let f : q ≡ endsOf (acrossOf a) (acrossOf b) (uprightOf a) (uprightOf b) = cc in
+    ap₂ (λ m n. verticesOf (pathPoint m n)) e f

@@ -1,6 +1,7 @@
 // The path round two boxes: along each side of their bounding box, the stretch that the boxes reaching that side cover.
 ghost use mathlib.Core.Path.{_≡_};
-ghost use Rattle.cover.specs.Polygon.{lower, higher, joined, reached, endsOf, pathPoint, same};
+ghost use Rattle.cover.specs.Polygon.{lower, higher, joined, reached, endsOf, acrossOf, uprightOf, pathPoint, same};
+use boxes::Box;
 
 // The numbers from low to high.
 pub struct Span {
@@ -52,6 +53,24 @@ fn reached(a: i32, b: i32, first: Span, second: Span) -> Span
         return second;
     }
     joined(first, second)
+}
+
+// The x that a box covers.
+pub fn across(b: Box) -> Span
+    ensures { λ r. ⌜ r ≡ acrossOf b ⌝ }
+{
+    let low = b.x_low;
+    let high = b.x_high;
+    Span { low, high }
+}
+
+// The y that a box covers.
+pub fn upright(b: Box) -> Span
+    ensures { λ r. ⌜ r ≡ uprightOf b ⌝ }
+{
+    let low = b.y_low;
+    let high = b.y_high;
+    Span { low, high }
 }
 
 // The ends of two boxes whose levels and stretches are given.
