@@ -4,3 +4,5 @@ pub mod Spans
 pub mod Writing
 pub mod Faults
 pub mod Answers
+pub mod Edges
+pub mod Reach
