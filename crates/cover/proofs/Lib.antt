@@ -6,3 +6,4 @@ pub mod Faults
 pub mod Answers
 pub mod Edges
 pub mod Reach
+pub mod Quarter

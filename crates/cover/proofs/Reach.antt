@@ -20,38 +20,38 @@ abbrev pt : ℤ → ℤ → Point
 pt a b = record { x = a; y = b }
 
 -- ---- lower and higher
-lower-first : {a b : ℤ} → a ≤ℤ b → lower a b ≡ a
+pub lower-first : {a b : ℤ} → a ≤ℤ b → lower a b ≡ a
 lower-first {a} {b} h = go (ltZ a b) refl
   where
     go : (c : Bool) → ltZ a b ≡ c → _≡_ {A = ℤ} (elim c [ true ↦ a | false ↦ b ]) a
     go true e = refl
     go false e = sym (≤ℤ-antisymm h (lt-no {a = a} {b = b} e))
 
-lower-second : {a b : ℤ} → b ≤ℤ a → lower a b ≡ b
+pub lower-second : {a b : ℤ} → b ≤ℤ a → lower a b ≡ b
 lower-second {a} {b} h = go (ltZ a b) refl
   where
     go : (c : Bool) → ltZ a b ≡ c → _≡_ {A = ℤ} (elim c [ true ↦ a | false ↦ b ]) b
     go true e = clashℤ (lt-yes {a = a} {b = b} e) h
     go false e = refl
 
-higher-first : {a b : ℤ} → b ≤ℤ a → higher a b ≡ a
+pub higher-first : {a b : ℤ} → b ≤ℤ a → higher a b ≡ a
 higher-first {a} {b} h = go (ltZ a b) refl
   where
     go : (c : Bool) → ltZ a b ≡ c → _≡_ {A = ℤ} (elim c [ true ↦ b | false ↦ a ]) a
     go true e = clashℤ (lt-yes {a = a} {b = b} e) h
     go false e = refl
 
-higher-second : {a b : ℤ} → a ≤ℤ b → higher a b ≡ b
+pub higher-second : {a b : ℤ} → a ≤ℤ b → higher a b ≡ b
 higher-second {a} {b} h = go (ltZ a b) refl
   where
     go : (c : Bool) → ltZ a b ≡ c → _≡_ {A = ℤ} (elim c [ true ↦ b | false ↦ a ]) b
     go true e = refl
     go false e = ≤ℤ-antisymm h (lt-no {a = a} {b = b} e)
 
-≡-≤ : {a b : ℤ} → a ≡ b → a ≤ℤ b
+pub ≡-≤ : {a b : ℤ} → a ≡ b → a ≤ℤ b
 ≡-≤ {a} e = subst (λ z. a ≤ℤ z) e (≤ℤ-refl a)
 
-≥-total : (a b : ℤ) → (a ≤ℤ b) ⊎ (b ≤ℤ a)
+pub ≥-total : (a b : ℤ) → (a ≤ℤ b) ⊎ (b ≤ℤ a)
 ≥-total a b = ⊎-elim inl (λ l. inr (lt-le l)) (le-or-lt a b)
 
 module _ (a b : ℤ) where
@@ -97,9 +97,6 @@ top l m s t = go (ltZ l m) refl (ltZ m l) refl
 pub record East (u v : Point) : Type 0 where
   pub right : u .x <ℤ v .x
   pub up : u .y ≤ℤ v .y
-
-same-refl : (u v : Point) → u ≡ v → same u v ≡ true
-same-refl u v e = subst (λ w. same w v ≡ true) (sym e) (rw (yes-le (≤ℤ-refl (v .x)), yes-le (≤ℤ-refl (v .y))))
 
 -- a product of two numbers that are not negative is 0 only if one of them is
 zero-factor : {d g : ℤ} → pos 0 <ℤ d → pos 0 ≤ℤ g → (d *ℤ g) ≤ℤ pos 0 → g ≡ pos 0
@@ -150,9 +147,9 @@ module _ {a b : Box} (oa : Ordered a) (ob : Ordered b) where
         right-corner = ⊎-elim (λ h. inr (record { x = inr (higher-second h); y = inl refl })) (λ h. inl (record { x = inr (higher-first h); y = inl (sym e) })) (≥-total (a .«x_high») (b .«x_high»));
       }
 
-  module _ {level : ℤ} {span : Span} (f : Floor level span) (moves : same (pt (span .low) level) (pt (span .high) level) ≡ false) where
+  module _ {level : ℤ} {span : Span} (f : Floor level span) (moves : pt (span .low) level ≡ pt (span .high) level → ⊥) where
     longer : span .low <ℤ span .high
-    longer = ⊎-elim (λ h. let z = sym moves ∙ same-refl (pt (span .low) level) (pt (span .high) level) (point-≡ (≤ℤ-antisymm (f .order) h) refl) in clash (cc)) (λ h. h) (le-or-lt (span .high) (span .low))
+    longer = ⊎-elim (λ h. absurd (moves (point-≡ (≤ℤ-antisymm (f .order) h) refl))) (λ h. h) (le-or-lt (span .high) (span .low))
 
     floor-east : East (pt (span .low) level) (pt (span .high) level)
     floor-east = record { right = longer; up = ≤ℤ-refl level }
@@ -230,16 +227,16 @@ module _ (a b : Box) (oa : Ordered a) (ob : Ordered b) where
   unfolding pathOf pathPoint endsOf
   floor = floor-of oa ob (bottom (a .«y_low») (b .«y_low») (acrossOf a) (acrossOf b))
 
-  pub step-0 : same (pathOf a b 0) (pathOf a b 1) ≡ false → East (pathOf a b 0) (pathOf a b 1) × Edge (OfBoxes a b) (pathOf a b 0) (pathOf a b 1)
+  pub step-0 : (pathOf a b 0 ≡ pathOf a b 1 → ⊥) → East (pathOf a b 0) (pathOf a b 1) × Edge (OfBoxes a b) (pathOf a b 0) (pathOf a b 1)
   unfolding pathOf pathPoint endsOf
   step-0 e = (floor-east oa ob floor e, floor-edge oa ob floor e)
 
-  pub step-1 : same (pathOf a b 1) (pathOf a b 2) ≡ false → East (pathOf a b 1) (pathOf a b 2) × Edge (OfBoxes a b) (pathOf a b 1) (pathOf a b 2)
+  pub step-1 : (pathOf a b 1 ≡ pathOf a b 2 → ⊥) → East (pathOf a b 1) (pathOf a b 2) × Edge (OfBoxes a b) (pathOf a b 1) (pathOf a b 2)
   unfolding pathOf pathPoint endsOf
   step-1 e = go (slope-of (bottom (a .«y_low») (b .«y_low») (acrossOf a) (acrossOf b)) (top (a .«x_high») (b .«x_high») (uprightOf a) (uprightOf b)))
     where
       go : Slope (OfBoxes a b) (pathOf a b 1) (pathOf a b 2) → East (pathOf a b 1) (pathOf a b 2) × Edge (OfBoxes a b) (pathOf a b 1) (pathOf a b 2)
-      go (stays f) = let z = sym e ∙ same-refl (pathOf a b 1) (pathOf a b 2) f in clash (cc)
+      go (stays f) = absurd (e f)
       go (slopes r u lies) = (record { right = r; up = lt-le u }, slope-edge (pathOf a b 1) (pathOf a b 2) r u lies)
 
   pub corner-0 : ACorner a b (pathOf a b 0)
