@@ -35,11 +35,15 @@ module _ (u v w : Point) where
   unfolding turn
   turn-back = ring (u .x ∷ u .y ∷ v .x ∷ v .y ∷ w .x ∷ w .y ∷ []) (search sides depth 40 fits 9999) refl
 
+  pub turn-swap : turn v u w ≡ negℤ (turn u v w)
+  unfolding turn
+  turn-swap = ring (u .x ∷ u .y ∷ v .x ∷ v .y ∷ w .x ∷ w .y ∷ []) (search sides depth 40 fits 9999) refl
+
 pub turn-stay : (u p : Point) → turn u u p ≡ pos 0
 unfolding turn
 turn-stay u p = ring (u .x ∷ u .y ∷ p .x ∷ p .y ∷ []) (search sides depth 40 fits 9999) refl
 
-opposite-zero : {a b : ℤ} → a ≡ negℤ b → pos 0 ≤ℤ a → pos 0 ≤ℤ b → a ≡ pos 0
+pub opposite-zero : {a b : ℤ} → a ≡ negℤ b → pos 0 ≤ℤ a → pos 0 ≤ℤ b → a ≡ pos 0
 opposite-zero {a} {b} e h k = ≤ℤ-antisymm (le-by (a ∷ b ∷ []) (gap k +₀ balance (pos 1) (sym e)) (search sides depth 20) refl) h
 
 zero-or-more : {a : ℤ} → pos 0 ≤ℤ a → (a ≡ pos 0) ⊎ (pos 0 <ℤ a)

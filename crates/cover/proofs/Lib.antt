@@ -7,3 +7,6 @@ pub mod Answers
 pub mod Edges
 pub mod Reach
 pub mod Quarter
+pub mod Walk
+pub mod Hulls
+pub mod Theorems

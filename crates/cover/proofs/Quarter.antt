@@ -33,7 +33,7 @@ negSpan s = record { low = negℤ (s .high); high = negℤ (s .low) }
 neg-le : {a b : ℤ} → a ≤ℤ b → negℤ b ≤ℤ negℤ a
 neg-le {a} {b} h = le-by (a ∷ b ∷ []) (gap h) (search sides depth 20) refl
 
-le-neg : {a b : ℤ} → negℤ a ≤ℤ negℤ b → b ≤ℤ a
+pub le-neg : {a b : ℤ} → negℤ a ≤ℤ negℤ b → b ≤ℤ a
 le-neg {a} {b} h = le-by (a ∷ b ∷ []) (gap h) (search sides depth 20) refl
 
 neg-lt : {a b : ℤ} → a <ℤ b → negℤ b <ℤ negℤ a

@@ -34,10 +34,10 @@ two-sets l at ea eb = ap₂ (λ x y. set (set l at x) (at + 1) y) ea eb ∙ rw a
 
 -- ---- one point, unless the next is the same
 module _ (p q : Point) where
-  unless-none : same p q ≡ true → unless p q ≡ []
+  pub unless-none : same p q ≡ true → unless p q ≡ []
   unless-none e = rw (e, unless)
 
-  unless-one : same p q ≡ false → unless p q ≡ p ∷ []
+  pub unless-one : same p q ≡ false → unless p q ≡ p ∷ []
   unless-one e = rw (e, unless)
 
   unless-few : length (unless p q) ≤ 1

@@ -3,7 +3,7 @@
 use mathlib.Core.Path.{_≡_}
 use mathlib.Core.Logic.{_⊎_}
 use mathlib.Core.List.{List, _++_}
-use Prim.Native.Nat.{ℕ, _+_, _<_}
+use Prim.Native.Nat.{ℕ, suc, _<_}
 use lib.ListN.{length, getD}
 use lib.IntN.{ℤ, pos, _-ℤ_, _*ℤ_}
 use lib.Signed.{_≤ℤ_}
@@ -60,7 +60,7 @@ pub record Lowest (X : Point → Type 0) (u : Point) : Type 0 where
 pub record Hull (X : Point → Type 0) (vs : List Point) : Type 0 where
   pub some : 0 < length vs
   pub each : (k : ℕ) → k < length vs → X (round vs k)
-  pub edge : (k : ℕ) → k < length vs → Edge X (round vs k) (round vs (k + 1))
+  pub edge : (k : ℕ) → k < length vs → Edge X (round vs k) (round vs (suc k))
   pub once : (i k : ℕ) → i < k → k < length vs → round vs i ≡ round vs k → ⊥
   pub first : Lowest X (round vs 0)
 
