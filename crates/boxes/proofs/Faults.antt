@@ -2,7 +2,7 @@
 use mathlib.Core.Path.{_≡_, refl, sym, _∙_, ap}
 use mathlib.Core.Bool.{Bool, true, false, _&&_}
 use mathlib.Core.Option.{Option, none, some}
-use Prim.Native.Nat.{ℕ, zero, suc, _+_, _<_}
+use Prim.Native.Nat.{ℕ, suc, _+_, _≤_, _<_}
 use native.Mathlib.Omega.{arith}
 use lib.IntN.{ℤ, pos, negℤ}
 use lib.Signed.{leZ, _≤ℤ_}
@@ -12,7 +12,7 @@ use Rattle.integers.proofs.Ranges.{le-yes, yes-le}
 use Rattle.integers.proofs.Clash.{clash}
 use Rattle.integers.proofs.Order.{≤ℤ-trans}
 use Rattle.integers.proofs.Between.{between-low, between-high}
-use Rattle.integers.proofs.First.{orElse, moved, none-bad, bad-moved}
+use Rattle.integers.proofs.First.{moved, bad-moved, bad-below}
 use Rattle.boxes.specs.declared.Box.{Box}
 use Rattle.boxes.specs.Ranges.{farthest, inRange, lowFine, boxNumberFine, numbersOf, boxFault, placeOr, Interval}
 
@@ -85,3 +85,26 @@ module _ {low high : ℤ} where
   interval-high i =
       let f : negℤ (pos farthest) ≤ℤ high = ≤ℤ-trans (i .from) (i .order) in
       rw (yes-le f, yes-le (i .to))
+
+-- ---- a place that is below the end is one that was found, and one at the end says that there is none
+pub place-some : (n : ℕ) (o : Option ℕ) → placeOr n o < n → o ≡ some (placeOr n o)
+place-some n (some p) h = refl
+place-some n none h = absurd (omega arith)
+
+pub place-none : (fine : ℕ → Bool) (n : ℕ) → n ≤ placeOr n (firstBad fine n 0) → firstBad fine n 0 ≡ none
+place-none fine n h = go (firstBad fine n 0) refl h
+  where
+    go : (o : Option ℕ) → firstBad fine n 0 ≡ o → n ≤ placeOr n o → o ≡ none
+    go none e l = refl
+    go (some p) e l = let b = bad-below fine n 0 p e in absurd (omega arith)
+
+pub box-none : (b : Box) → 4 ≤ placeOr 4 (boxFault b) → boxFault b ≡ none
+unfolding boxFault
+box-none b h = place-none (λ p. boxNumberFine p (entry (numbersOf b) p) (entry (numbersOf b) (suc p))) 4 h
+
+pub place-most : (fine : ℕ → Bool) (n : ℕ) → placeOr n (firstBad fine n 0) ≤ n
+place-most fine n = go (firstBad fine n 0) refl
+  where
+    go : (o : Option ℕ) → firstBad fine n 0 ≡ o → placeOr n o ≤ n
+    go none e = omega arith
+    go (some p) e = let b = bad-below fine n 0 p e in omega arith

@@ -99,3 +99,22 @@ module _ (fine : ℕ → Bool) (i : ℕ) (other : ℕ → Bool) where
 
   pub bad-moved : (n : ℕ) → ((k : ℕ) → k < n → fine (i + k) ≡ other k) → firstBad fine n i ≡ moved i (firstBad other n 0)
   bad-moved n h = let z = moved-by n 0 (λ k l. rw zero-add (h k l)) in rw add-zero at z
+
+-- ---- what is found is among the places looked at
+pub bad-below : (fine : ℕ → Bool) (n i j : ℕ) → firstBad fine n i ≡ some j → j < i + n
+unfolding firstBad
+bad-below fine zero i j e = clash (cc)
+bad-below fine (suc n) i j e = go (fine i) (firstBad fine n (i + 1)) (λ f. bad-below fine n (i + 1) j f) e
+  where
+    go : (t : Bool) (o : Option ℕ) → (o ≡ some j → j < i + 1 + n) → _≡_ {A = Option ℕ} (elim t [ true ↦ o | false ↦ some i ]) (some j) → j < i + suc n
+    go true o h f = let l = h f in omega arith
+    go false o h f = let l : i ≡ j = cc in omega arith
+
+pub bad-is : (fine : ℕ → Bool) (n i j : ℕ) → firstBad fine n i ≡ some j → fine j ≡ false
+unfolding firstBad
+bad-is fine zero i j e = clash (cc)
+bad-is fine (suc n) i j e = go (fine i) refl (firstBad fine n (i + 1)) (λ f. bad-is fine n (i + 1) j f) e
+  where
+    go : (t : Bool) → fine i ≡ t → (o : Option ℕ) → (o ≡ some j → fine j ≡ false) → _≡_ {A = Option ℕ} (elim t [ true ↦ o | false ↦ some i ]) (some j) → fine j ≡ false
+    go true g o h f = h f
+    go false g o h f = let l : i ≡ j = cc in subst (λ k. fine k ≡ false) l g

@@ -2,9 +2,10 @@
 -- four sides cuts it by a cross product.
 use mathlib.Core.Bool.{Bool, true, false, not, _&&_, _||_}
 use Prim.Native.Nat.{ℕ, _^_, _≤_}
-use lib.IntN.{ℤ, pos, negℤ, natAbs, _-ℤ_, _*ℤ_}
+use lib.IntN.{ℤ, pos, natAbs, _-ℤ_, _*ℤ_}
 use lib.Signed.{leZ, ltZ}
 use Rattle.boxes.specs.declared.Box.{Box}
+use Rattle.boxes.specs.Ranges.{farthest}
 use Rattle.judge.specs.declared.covers.Weights.{Weights}
 use Rattle.judge.specs.declared.covers.Range.{Range}
 use Rattle.judge.specs.declared.covers.Sides.{Sides}
@@ -28,16 +29,19 @@ sidesOf low₀ high₀ low₁ high₁ z = record {
   «high_second» = high₁ -ℤ z;
 }
 
--- beyond both boxes on one side
+-- outside of a side at both boxes, and so of what lies between them
+abbrev pub outside : ℤ → ℤ → Bool
+outside a b = ltZ a (pos 0) && ltZ b (pos 0)
+
 abbrev pub apart : Sides → Bool
-apart s = (ltZ (s .«low_first») (pos 0) && ltZ (s .«low_second») (pos 0)) || (ltZ (s .«high_first») (pos 0) && ltZ (s .«high_second») (pos 0))
+apart s = outside (s .«low_first») (s .«low_second») || outside (s .«high_first») (s .«high_second»)
 
 -- the weights of r with u · a + v · b not negative, where a and b are not both negative
 abbrev pub cut : Range → ℤ → ℤ → Range
 cut r a b = elim (ltZ a (pos 0)) [
-  | true ↦ record { low = later (r .low) (record { first = b; second = negℤ a }); high = r .high }
+  | true ↦ record { low = later (r .low) (record { first = b; second = pos 0 -ℤ a }); high = r .high }
   | false ↦ elim (ltZ b (pos 0)) [
-    | true ↦ record { low = r .low; high = earlier (r .high) (record { first = negℤ b; second = a }) }
+    | true ↦ record { low = r .low; high = earlier (r .high) (record { first = pos 0 -ℤ b; second = a }) }
     | false ↦ r
   ]
 ]
@@ -59,3 +63,25 @@ sidesY p q y = sidesOf (p .«y_low») (p .«y_high») (q .«y_low») (q .«y_hig
 
 unfoldable pub held : Box → Box → ℤ → ℤ → Bool
 held p q x y = not (apart (sidesX p q x)) && not (apart (sidesY p q y)) && heldBy (sidesX p q x) (sidesY p q y)
+
+-- ---- sizes: no product is above 2^60
+pub record SmallWeights (w : Weights) : Type 0 where
+  pub first : natAbs (w .first) ≤ 2 ^ 30
+  pub second : natAbs (w .second) ≤ 2 ^ 30
+
+pub record SmallRange (r : Range) : Type 0 where
+  pub low : SmallWeights (r .low)
+  pub high : SmallWeights (r .high)
+
+pub record SmallSides (s : Sides) : Type 0 where
+  pub low-first : natAbs (s .«low_first») ≤ 2 ^ 30
+  pub low-second : natAbs (s .«low_second») ≤ 2 ^ 30
+  pub high-first : natAbs (s .«high_first») ≤ 2 ^ 30
+  pub high-second : natAbs (s .«high_second») ≤ 2 ^ 30
+
+-- a box whose numbers are in range
+pub record Sized (b : Box) : Type 0 where
+  pub x-low : natAbs (b .«x_low») ≤ farthest
+  pub x-high : natAbs (b .«x_high») ≤ farthest
+  pub y-low : natAbs (b .«y_low») ≤ farthest
+  pub y-high : natAbs (b .«y_high») ≤ farthest

@@ -3,3 +3,4 @@
 pub mod Covers
 pub mod Judging
 pub mod Deciding
+pub mod Searching

@@ -1,0 +1,119 @@
+-- `judge::judge` meets its contract: each return is one of the checks 9, 10 and 11, or what the search finds.
+use mathlib.Core.Path.{_≡_, sym, _∙_, ap}
+use mathlib.Core.Bool.{true}
+use mir.Syntax.{w32, w64}
+use mir.Val.{SFits}
+use mir.Facts.{toZ-ofZ, sfits-widen}
+use borrow.Author.Needs.{needs}
+use borrow.Author.Tests.{not-true, not-false}
+use lib.IntN.{ℤ}
+use Rattle.integers.proofs.Ranges.{stored}
+use Rattle.integers.proofs.Machine.{machine, fits! }
+use Rattle.boxes.specs.Ranges.{inRange}
+use Rattle.judge.specs.Searching.{InRange}
+use Rattle.judge.proofs.Holders.{range-size}
+use Rattle.judge.proofs.Answers.{list-empty, list-cut, number-bad, passed, x-bad, y-bad, none-bad, judged-refused, judged-found}
+use Rattle.judge.proofs.judge.Statement.{statement}
+use Rattle.judge.proofs.judge.Tie as tie
+
+returns : tie.Need-returns
+returns c =
+    let a = c .before .args in
+    judged-refused 64 (a .leaves .now) (a .x) (a .y) _ (list-empty 64 (a .leaves .now) (a .x) (a .y) (c .if1 .taken))
+
+returns-2 : tie.Need-returns-2
+returns-2 c =
+    let a = c .before .before .args in
+    judged-refused 64 (a .leaves .now) (a .x) (a .y) _ (list-cut 64 (a .leaves .now) (a .x) (a .y) (c .if2 .taken))
+
+number-fault-requires : tie.Need-number-fault-requires
+number-fault-requires c κs = search needs
+
+returns-3 : tie.Need-returns-3
+returns-3 c =
+    let e = c .before .before in
+    let a = e .before .before .args in
+    judged-refused 64 (a .leaves .now) (a .x) (a .y) _
+    (number-bad 64 (a .leaves .now) (a .x) (a .y) (e .before .if1 .left) (e .if2 .left) (c .before .number-fault .result) (c .before .number-fault .ensures) (c .if3 .taken))
+
+in-range-requires : tie.Need-in-range-requires
+in-range-requires c κs = search needs
+
+returns-4 : tie.Need-returns-4
+returns-4 c =
+    let e = c .before .before in
+    let n = e .before .before in
+    let a = n .before .before .args in
+    let f = rw (toZ-ofZ (n .before .before .fits .x)) at (sym (c .before .in-range .ensures) ∙ not-true (c .before .in-range .result) (c .if4 .taken)) in
+    judged-refused 64 (a .leaves .now) (a .x) (a .y) _
+    (x-bad 64 (a .leaves .now) (a .x) (a .y) (n .before .if1 .left) (n .if2 .left) (rw (e .before .number-fault .ensures) at (e .if3 .left)) f)
+
+-- past the test of x
+x-fine : (c : tie.Else4) → inRange (c .before .before .before .before .before .before .args .x) ≡ true
+x-fine c = rw (toZ-ofZ (c .before .before .before .before .before .before .fits .x)) at (sym (c .before .in-range .ensures) ∙ not-false (c .before .in-range .result) (c .if4 .left))
+
+in-range-requires-2 : tie.Need-in-range-requires-2
+in-range-requires-2 c κs = search needs
+
+returns-5 : tie.Need-returns-5
+returns-5 c =
+    let d = c .before .before in
+    let e = d .before .before in
+    let n = e .before .before in
+    let a = n .before .before .args in
+    let f = rw (toZ-ofZ (n .before .before .fits .y)) at (sym (c .before .in-range2 .ensures) ∙ not-true (c .before .in-range2 .result) (c .if5 .taken)) in
+    judged-refused 64 (a .leaves .now) (a .x) (a .y) _
+    (y-bad 64 (a .leaves .now) (a .x) (a .y) (n .before .if1 .left) (n .if2 .left) (rw (e .before .number-fault .ensures) at (e .if3 .left)) (x-fine d) f)
+
+-- past the test of y
+y-fine : (c : tie.Else5) → inRange (c .before .before .before .before .before .before .before .before .args .y) ≡ true
+y-fine c = rw (toZ-ofZ (c .before .before .before .before .before .before .before .before .fits .y)) at (sym (c .before .in-range2 .ensures) ∙ not-false (c .before .in-range2 .result) (c .if5 .left))
+
+-- a number of 32 bits, read as one of 64
+widened : {z : ℤ} → SFits w32 z → stored w64 (stored w32 z) ≡ z
+widened fits = ap (stored w64) (toZ-ofZ fits) ∙ toZ-ofZ (sfits-widen {w′ = w64} tt fits)
+
+cast-find : tie.Need-cast-find
+cast-find c = fits! (search (machine, c .before .before .before .before .before .before .before .before .fits .x) depth 40) tt
+
+cast-find-2 : tie.Need-cast-find-2
+cast-find-2 c = fits! (search (machine, c .before .before .before .before .before .before .before .before .fits .y) depth 40) tt
+
+find-requires : tie.Need-find-requires
+find-requires c κs =
+    let d = c .before .before in
+    let e = d .before .before in
+    let n = e .before .before in
+    let s = n .before .before in
+    let a = s .args in (
+      passed 64 (a .leaves .now) (a .x) (a .y) (n .before .if1 .left) (n .if2 .left) (rw (e .before .number-fault .ensures) at (e .if3 .left)),
+      rw (widened (s .fits .x), widened (s .fits .y)) (record { in-x = range-size (a .x) (x-fine d); in-y = range-size (a .y) (y-fine c) }),
+    )
+
+returns-6 : tie.Need-returns-6
+returns-6 c =
+    let d = c .before .before .before in
+    let e = d .before .before in
+    let n = e .before .before in
+    let s = n .before .before in
+    let a = s .args in
+    judged-found 64 (a .leaves .now) (a .x) (a .y) (c .find .result)
+    (none-bad 64 (a .leaves .now) (a .x) (a .y) (n .before .if1 .left) (n .if2 .left) (rw (e .before .number-fault .ensures) at (e .if3 .left)) (x-fine d) (y-fine (c .before)))
+    (rw (widened (s .fits .x), widened (s .fits .y)) at (c .find .ensures))
+
+pub judge-spec : {M : Type 1} → statement M
+judge-spec =
+    tie.close
+    (tie.spec
+    returns
+    returns-2
+    number-fault-requires
+    returns-3
+    in-range-requires
+    returns-4
+    in-range-requires-2
+    returns-5
+    cast-find
+    cast-find-2
+    find-requires
+    returns-6)
