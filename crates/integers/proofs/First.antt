@@ -61,17 +61,6 @@ module _ (fine : ℕ → Bool) where
       let e : fine i ≡ true = subst (λ j. fine j ≡ true) (add-zero i) (h 0 (omega arith)) in
       rw (firstBad, e) (bad-none n (i + 1) (λ k l. let m : i + 1 + k ≡ i + suc k = omega arith in rw m (h (suc k) (omega arith))))
 
-  -- ---- what is found lies among the places
-  pub bad-below : (n i p : ℕ) → firstBad fine n i ≡ some p → p < i + n
-  unfolding firstBad
-  bad-below zero i p e = clash (cc)
-  bad-below (suc n) i p e = go (fine i) (λ h. bad-below n (i + 1) p h) e
-    where
-      go : (t : Bool) → (firstBad fine n (i + 1) ≡ some p → p < i + 1 + n) → _≡_ {A = Option ℕ} (elim t [ true ↦ firstBad fine n (i + 1) | false ↦ some i ]) (some p)
-          → p < i + suc n
-      go true f h = let b = f h in omega arith
-      go false f h = let b : i ≡ p = cc in omega arith
-
 -- ---- the same search from another place on
 abbrev pub moved : ℕ → Option ℕ → Option ℕ
 moved i none = none
