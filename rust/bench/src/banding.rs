@@ -1,14 +1,9 @@
 //! Banding: the inputs, the timing and the table.
 
+use crate::times::{Times, RUNS, TIME};
 use std::f64::consts::TAU;
 use std::hint::black_box;
-use std::time::{Duration, Instant};
-
-/// How long each engine is timed on each input, at least.
-const TIME: Duration = Duration::from_millis(400);
-
-/// How often each engine is timed on each input, at least.
-const RUNS: usize = 15;
+use std::time::Instant;
 
 /// Prints the table of proved time over plain time.
 pub fn run() {
@@ -83,7 +78,7 @@ fn row(name: &str, outline: &[i32], tolerance: i32) {
     let (mut plain, mut proved) = (Times::default(), Times::default());
     let started = Instant::now();
     let mut answers = (None, None);
-    while plain.0.len() < RUNS || started.elapsed() < 2 * TIME {
+    while plain.count() < RUNS || started.elapsed() < 2 * TIME {
         let answer = plain.time(|| plain::band(black_box(outline), tolerance, black_box(&mut by_plain)));
         answers.0 = answer.ok().map(|r| (r.curves, r.leaves, r.nodes));
         let answer =
@@ -110,33 +105,4 @@ fn row(name: &str, outline: &[i32], tolerance: i32) {
         if untouched { "untouched" } else { "TOUCHED" },
     );
     assert!(same && untouched, "{name}: the engines differ");
-}
-
-/// Times of one engine on one input, in microseconds.
-#[derive(Default)]
-struct Times(Vec<f64>);
-
-impl Times {
-    fn time<T>(&mut self, work: impl FnOnce() -> T) -> T {
-        let start = Instant::now();
-        let result = black_box(work());
-        self.0.push(start.elapsed().as_secs_f64() * 1e6);
-        result
-    }
-
-    fn median(&self) -> f64 {
-        let mut sorted = self.0.clone();
-        sorted.sort_by(f64::total_cmp);
-        sorted[sorted.len() / 2]
-    }
-
-    fn least(&self) -> f64 {
-        self.0.iter().copied().fold(f64::INFINITY, f64::min)
-    }
-}
-
-impl std::fmt::Display for Times {
-    fn fmt(&self, f: &mut std::fmt::Formatter<'_>) -> std::fmt::Result {
-        write!(f, "{:.1} ({:.1})", self.median(), self.least())
-    }
 }

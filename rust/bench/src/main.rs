@@ -3,7 +3,10 @@
 #![forbid(unsafe_code)]
 
 mod banding;
+mod covers;
+mod times;
 
 fn main() {
     banding::run();
+    covers::run();
 }

@@ -2,7 +2,8 @@
 //!
 //! An outline is a list of numbers: for each curve its degree d (1, 2 or 3), then x and y of its
 //! d + 1 control points in stage units. [`band`] encloses it in boxes that are nowhere wider than
-//! a tolerance, and writes them to a list that the caller lends. [`leaves`] reads them.
+//! a tolerance, and writes them to a list that the caller lends. [`leaves`] reads them. [`draw`]
+//! draws the convex hull of two boxes.
 //!
 //! ```
 //! use contour_band::{band, leaves, Refusal};
@@ -23,10 +24,12 @@
 //! ```
 
 mod band;
+mod cover;
 mod leaf;
 mod library;
 mod refusal;
 
 pub use band::{band, Report};
+pub use cover::{draw, VERTEX_ROOM};
 pub use leaf::{leaves, Bounds, BoxBounds, Leaf, BREAK_POINTS, RECORD};
 pub use refusal::Refusal;

@@ -1,5 +1,7 @@
 //! The archive's functions, as include/contour_band.h declares them, behind safe ones.
 
+use crate::leaf::BoxBounds;
+
 /// `struct contour_band_answer`.
 #[repr(C)]
 #[derive(Debug, Clone, Copy, PartialEq, Eq)]
@@ -12,6 +14,25 @@ pub struct Answer {
     pub nodes: u64,
 }
 
+/// `struct contour_band_box`.
+#[repr(C)]
+struct Box {
+    x_low: i32,
+    x_high: i32,
+    y_low: i32,
+    y_high: i32,
+}
+
+/// `struct contour_band_drawing`.
+#[repr(C)]
+#[derive(Debug, Clone, Copy, PartialEq, Eq)]
+pub struct Drawing {
+    /// 0 where the boxes are accepted.
+    pub refusal: u32,
+    pub spot: u64,
+    pub vertices: u64,
+}
+
 extern "C" {
     fn contour_band(
         outline: *const i32,
@@ -20,6 +41,8 @@ extern "C" {
         records: *mut i32,
         records_length: usize,
     ) -> Answer;
+
+    fn contour_draw(first: Box, second: Box, vertices: *mut i32, vertices_length: usize) -> Drawing;
 }
 
 /// The answer for an outline. Writes to `records` as the header says.
@@ -27,6 +50,14 @@ pub fn band(outline: &[i32], tolerance: i32, records: &mut [i32]) -> Answer {
     // Safety: the slices give valid, aligned, separate parts of memory, and the function is
     // proved to stay inside them for all contents and lengths.
     unsafe { contour_band(outline.as_ptr(), outline.len(), tolerance, records.as_mut_ptr(), records.len()) }
+}
+
+/// The answer for two boxes. Writes to `vertices` as the header says.
+pub fn draw(first: BoxBounds, second: BoxBounds, vertices: &mut [i32]) -> Drawing {
+    let numbers =
+        |b: BoxBounds| Box { x_low: b.x.low, x_high: b.x.high, y_low: b.y.low, y_high: b.y.high };
+    // Safety: as above.
+    unsafe { contour_draw(numbers(first), numbers(second), vertices.as_mut_ptr(), vertices.len()) }
 }
 
 #[cfg(test)]

@@ -43,6 +43,17 @@ pub enum Refusal {
         /// How many leaves the outline has; each needs [`RECORD`](crate::RECORD) numbers.
         leaves: usize,
     },
+    /// 12: a number of two boxes is not −536,870,912 to 536,870,912, or a low is above its high.
+    BoxNumber {
+        /// The place of the first such number: x low, x high, y low, y high of the first box are 0 to
+        /// 3, those of the second 4 to 7. A low above its high is named by the low.
+        place: usize,
+    },
+    /// 13: the lent list has fewer than [`VERTEX_ROOM`](crate::VERTEX_ROOM) numbers.
+    TooFewVertices {
+        /// How many it has.
+        length: usize,
+    },
 }
 
 impl Refusal {
@@ -57,6 +68,8 @@ impl Refusal {
             Refusal::EmptyOutline => 6,
             Refusal::TooWide { .. } => 7,
             Refusal::TooFewRecords { .. } => 8,
+            Refusal::BoxNumber { .. } => 12,
+            Refusal::TooFewVertices { .. } => 13,
         }
     }
 
@@ -70,6 +83,8 @@ impl Refusal {
             Refusal::CutShort { length } => length as u64,
             Refusal::TooWide { curve, node } => 512 * curve as u64 + u64::from(node),
             Refusal::TooFewRecords { leaves } => leaves as u64,
+            Refusal::BoxNumber { place } => place as u64,
+            Refusal::TooFewVertices { length } => length as u64,
         }
     }
 
@@ -89,6 +104,8 @@ impl Refusal {
             6 => Refusal::EmptyOutline,
             7 => Refusal::TooWide { curve: place / 512, node: (spot % 512) as u32 },
             8 => Refusal::TooFewRecords { leaves: place },
+            12 => Refusal::BoxNumber { place },
+            13 => Refusal::TooFewVertices { length: place },
             _ => panic!("the library answered refusal {number} at {spot}, which does not exist"),
         }
     }
@@ -110,6 +127,12 @@ impl fmt::Display for Refusal {
             Refusal::TooFewRecords { leaves } => {
                 write!(f, "the list has no room for {leaves} leaves")
             }
+            Refusal::BoxNumber { place } => {
+                write!(f, "number {place} of the boxes is outside its range or above its high")
+            }
+            Refusal::TooFewVertices { length } => {
+                write!(f, "a list of {length} numbers has no room for eight vertices")
+            }
         }
     }
 }
@@ -123,7 +146,7 @@ mod tests {
     #[test]
     fn number_and_spot_are_what_the_library_answered() {
         let places = [0, 1, 17, 575, 32_767];
-        for number in 2..=8 {
+        for number in (2..=8).chain(12..=13) {
             for place in places {
                 // 6 has the spot 0 only.
                 let spot = if number == 6 { 0 } else { place };

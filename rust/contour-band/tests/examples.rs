@@ -1,6 +1,6 @@
-//! The measured examples of document 01 that banding reaches, through the public functions.
+//! The measured examples of document 01 that banding and drawing reach, through the public functions.
 
-use contour_band::{band, leaves, Refusal, Report, RECORD};
+use contour_band::{band, draw, leaves, Bounds, BoxBounds, Refusal, Report, RECORD};
 
 const CURVE_A: [i32; 9] = [3, 0, 0, 10, 30, 20, 30, 30, 0];
 
@@ -60,4 +60,23 @@ fn limits_and_refusals() {
     assert_eq!(refused(&steep, 2), Refusal::TooWide { curve: 0, node: 256 });
     assert_eq!(refused(&CURVE_A, 43), Refusal::TooFewRecords { leaves: 2 });
     written(&[1, 0, 0, 0, 1_048_576], 2);
+}
+
+/// The numbers drawn for two boxes, x low, x high, y low, y high each.
+fn drawn(first: [i32; 4], second: [i32; 4]) -> Vec<i32> {
+    let bounds = |b: [i32; 4]| BoxBounds {
+        x: Bounds { low: b[0], high: b[1] },
+        y: Bounds { low: b[2], high: b[3] },
+    };
+    let mut vertices = [-5; 20];
+    let count = draw(bounds(first), bounds(second), &mut vertices).expect("the boxes are accepted");
+    assert!(vertices[2 * count..].iter().all(|&n| n == -5));
+    vertices[..2 * count].to_vec()
+}
+
+#[test]
+fn covers() {
+    assert_eq!(drawn([0, 1, 0, 1], [3, 4, 3, 4]), [0, 0, 1, 0, 4, 3, 4, 4, 3, 4, 0, 1]);
+    assert_eq!(drawn([-10, 10, -1, 1], [-1, 1, -10, 10]).len(), 16);
+    assert_eq!(drawn([7, 7, -3, -3], [7, 7, -3, -3]), [7, -3]);
 }

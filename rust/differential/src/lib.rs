@@ -4,5 +4,6 @@
 #![forbid(unsafe_code)]
 
 pub mod banding;
+pub mod covers;
 pub mod outlines;
 pub mod random;

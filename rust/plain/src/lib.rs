@@ -1,12 +1,13 @@
 //! A plain engine for contour bands, written from document 01 alone. It shares nothing with the
 //! proved engine, and the two are compared with each other, number by number.
 //!
-//! [`band`] encloses an outline of Bézier curves in boxes. The modules follow the document's
+//! [`band`] encloses an outline of Bézier curves in boxes, and [`draw`] draws the hull of two boxes. The modules follow the document's
 //! sections: the checks of an outline, halving, the enclosure, the walk.
 
 #![forbid(unsafe_code)]
 
 mod band;
+mod cover;
 mod curve;
 mod enclosure;
 #[cfg(test)]
@@ -15,4 +16,5 @@ mod outline;
 mod refusal;
 
 pub use band::{band, Report, RECORD};
+pub use cover::draw;
 pub use refusal::Refusal;

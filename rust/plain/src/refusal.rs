@@ -40,6 +40,16 @@ pub enum Refusal {
         /// How many leaves the outline has.
         leaves: usize,
     },
+    /// 12: a number of two boxes is beyond its range, or a low above its high.
+    BoxNumber {
+        /// The place of the first such number, 0 to 7.
+        place: usize,
+    },
+    /// 13: fewer than 16 numbers are lent for vertices.
+    TooFewVertices {
+        /// How many are lent.
+        length: usize,
+    },
 }
 
 impl Refusal {
@@ -54,6 +64,8 @@ impl Refusal {
             Refusal::EmptyOutline => 6,
             Refusal::TooWide { .. } => 7,
             Refusal::TooFewRecords { .. } => 8,
+            Refusal::BoxNumber { .. } => 12,
+            Refusal::TooFewVertices { .. } => 13,
         }
     }
 
@@ -67,6 +79,8 @@ impl Refusal {
             Refusal::CutShort { length } => length,
             Refusal::TooWide { curve, node } => 512 * curve + node,
             Refusal::TooFewRecords { leaves } => leaves,
+            Refusal::BoxNumber { place } => place,
+            Refusal::TooFewVertices { length } => length,
         };
         spot as u64
     }
