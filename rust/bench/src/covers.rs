@@ -12,12 +12,15 @@ type Pair = [[i32; 4]; 2];
 
 /// Prints the table of proved time over plain time.
 pub fn run() {
-    println!("Drawing, {PAIRS} pairs of boxes. Times are medians in microseconds, with the least in brackets.");
+    println!(
+        "Drawing, {PAIRS} pairs of boxes. Times are medians in microseconds, with the least in brackets."
+    );
     println!(
         "{:<28} {:>21} {:>21} {:>12} {:>7}  buffers",
         "input", "plain", "proved", "proved/plain", "(least)"
     );
-    let pairs = |shape: fn(i32, i32) -> Pair| (0..PAIRS as i32).map(|i| shape(i % 64, i / 64)).collect::<Vec<_>>();
+    let pairs =
+        |shape: fn(i32, i32) -> Pair| (0..PAIRS as i32).map(|i| shape(i % 64, i / 64)).collect::<Vec<_>>();
     row("neighbours on a curve", &pairs(|i, j| [[i, i + 9, j, j + 7], [i + 80, i + 89, j + 40, j + 47]]));
     row("crossing, eight vertices", &pairs(|i, j| [[-90 - i, 90, -5, 5 + j], [-5, 5 + i, -90, 90 + j]]));
     row("nested", &pairs(|i, j| [[-90 - i, 90, -90, 90 + j], [-5, 5, -5, 5]]));
@@ -37,7 +40,11 @@ fn row(name: &str, pairs: &[Pair]) {
     while plain.count() < RUNS || started.elapsed() < 2 * TIME {
         counts.0 = plain.time(|| {
             let lists = by_plain.chunks_exact_mut(16);
-            black_box(pairs).iter().zip(lists).map(|(p, list)| plain::draw(p[0], p[1], list).unwrap()).sum::<usize>()
+            black_box(pairs)
+                .iter()
+                .zip(lists)
+                .map(|(p, list)| plain::draw(p[0], p[1], list).unwrap())
+                .sum::<usize>()
         });
         counts.1 = proved.time(|| {
             let lists = by_proved.chunks_exact_mut(16);

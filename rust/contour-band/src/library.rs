@@ -54,8 +54,7 @@ pub fn band(outline: &[i32], tolerance: i32, records: &mut [i32]) -> Answer {
 
 /// The answer for two boxes. Writes to `vertices` as the header says.
 pub fn draw(first: BoxBounds, second: BoxBounds, vertices: &mut [i32]) -> Drawing {
-    let numbers =
-        |b: BoxBounds| Box { x_low: b.x.low, x_high: b.x.high, y_low: b.y.low, y_high: b.y.high };
+    let numbers = |b: BoxBounds| Box { x_low: b.x.low, x_high: b.x.high, y_low: b.y.low, y_high: b.y.high };
     // Safety: as above.
     unsafe { contour_draw(numbers(first), numbers(second), vertices.as_mut_ptr(), vertices.len()) }
 }

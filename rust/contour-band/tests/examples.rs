@@ -64,10 +64,8 @@ fn limits_and_refusals() {
 
 /// The numbers drawn for two boxes, x low, x high, y low, y high each.
 fn drawn(first: [i32; 4], second: [i32; 4]) -> Vec<i32> {
-    let bounds = |b: [i32; 4]| BoxBounds {
-        x: Bounds { low: b[0], high: b[1] },
-        y: Bounds { low: b[2], high: b[3] },
-    };
+    let bounds =
+        |b: [i32; 4]| BoxBounds { x: Bounds { low: b[0], high: b[1] }, y: Bounds { low: b[2], high: b[3] } };
     let mut vertices = [-5; 20];
     let count = draw(bounds(first), bounds(second), &mut vertices).expect("the boxes are accepted");
     assert!(vertices[2 * count..].iter().all(|&n| n == -5));

@@ -51,8 +51,8 @@ impl Comparison {
         let plain = plain::draw(first, second, &mut by_plain[lent])
             .map_err(|refusal| (refusal.number(), refusal.spot()));
         let written = MARGIN..MARGIN + 2 * plain.unwrap_or(0);
-        let stays =
-            by_proved[..written.start] == before[..written.start] && by_proved[written.end..] == before[written.end..];
+        let stays = by_proved[..written.start] == before[..written.start]
+            && by_proved[written.end..] == before[written.end..];
         assert!(
             proved == plain && by_proved == by_plain && stays,
             "{}: the engines differ, or a number changed\nboxes {first:?} {second:?}, lent numbers {length}\n\
