@@ -2,6 +2,7 @@
 pub mod Counting
 pub mod Writing
 pub mod Recording
+pub mod Standing
 pub mod Outlines
 pub mod Passes
 pub mod Filling

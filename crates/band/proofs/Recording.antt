@@ -23,7 +23,7 @@ use Rattle.tree.proofs.Walking.{Walking, walking-start, walking-half, walking-h
 use Rattle.band.proofs.Writing.{boxes-length}
 
 -- ---- lengths
-record-length : (k : ℕ) (c : Curve) (n : ℕ) → length (recordOf k c n) ≡ 18
+pub record-length : (k : ℕ) (c : Curve) (n : ℕ) → length (recordOf k c n) ≡ 18
 unfolding recordOf
 record-length k c n = ap (λ m. suc (suc m)) (boxes-length 4 (depth n) (nodeCurve c n))
 

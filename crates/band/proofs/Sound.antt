@@ -36,6 +36,7 @@ use Rattle.tree.proofs.Counting.{some-end}
 use Rattle.tree.proofs.Leaves.{end-facts}
 use Rattle.band.proofs.Wide.{meet-head, meet-rest, none-wide}
 use Rattle.band.proofs.Writing.{boxes-length}
+use Rattle.band.proofs.Recording.{record-length}
 
 -- ---- one record: a leaf's
 -- the four numbers of box i
@@ -49,11 +50,15 @@ box-at (suc n) k c i s hi hs = ⊎-elim
     (eq-or-lt-of-le (le-of-suc-le-suc hi))
 
 module _ (k : ℕ) (c : Curve) (n : ℕ) where
-  record-length : length (recordOf k c n) ≡ recordLength
+  pub record-curve : entry (recordOf k c n) 0 ≡ pos k
   unfolding recordOf
-  record-length = ap (λ m. suc (suc m)) (boxes-length (suc pieces) (depth n) (nodeCurve c n))
+  record-curve = refl
 
-  record-box : (i s : ℕ) → i ≤ pieces → s < 4 → entry (recordOf k c n) (4 * i + (2 + s)) ≡ entry (boxNumbers (boxAt (depth n) (nodeCurve c n) i)) s
+  pub record-node : entry (recordOf k c n) 1 ≡ pos n
+  unfolding recordOf
+  record-node = refl
+
+  pub record-box : (i s : ℕ) → i ≤ pieces → s < 4 → entry (recordOf k c n) (4 * i + (2 + s)) ≡ entry (boxNumbers (boxAt (depth n) (nodeCurve c n) i)) s
   unfolding recordOf
   record-box i s hi hs =
       ap (entry (recordOf k c n)) {x = 4 * i + (2 + s)} {y = suc (suc (4 * i + s))} (omega arith)

@@ -1,9 +1,53 @@
--- What banding answers, in numbers: 0 and 0 and the report, or a refusal's number and spot and no report.
+-- Answers in numbers, for the C interface: 0 and 0 and what was found, or a refusal's number and spot and nothing else.
+use mathlib.Core.Path.{_≡_}
+use mathlib.Core.List.{List}
+use lib.IntN.{ℤ}
 use Rattle.refusals.specs.Refusals.{numberOf, spotOf}
 use Rattle.band.specs.declared.Banded.{Banded}
 use Rattle.band.specs.declared.Banded.the-variants.{Done, Refused}
+use Rattle.judge.specs.declared.Judgement.{Judgement}
+use Rattle.judge.specs.declared.Judgement.the-variants.{On, Off, Refused as PointRefused}
+use Rattle.judge.specs.Judging.{Judged}
+use Rattle.engine.specs.declared.Outcome.{Outcome}
+use Rattle.engine.specs.declared.Outcome.the-variants.{NotBanded, Judged as WithJudgement}
 use Rattle.engine.specs.declared.Answer.{Answer}
+use Rattle.engine.specs.declared.JudgingAnswer.{JudgingAnswer}
+use Rattle.engine.specs.declared.OutcomeAnswer.{OutcomeAnswer}
+use Rattle.engine.specs.Outcomes.{Answered}
 
 abbrev pub answerOf : Banded → Answer
 answerOf (Done curves leaves nodes) = record { refusal = 0; spot = 0; curves = curves; leaves = leaves; nodes = nodes }
 answerOf (Refused r) = record { refusal = numberOf r; spot = spotOf r; curves = 0; leaves = 0; nodes = 0 }
+
+abbrev pub judgingAnswerOf : Judgement → JudgingAnswer
+judgingAnswerOf (On k i) = record { refusal = 0; spot = 0; on = 1; leaf = k; cover = i }
+judgingAnswerOf Off = record { refusal = 0; spot = 0; on = 0; leaf = 0; cover = 0 }
+judgingAnswerOf (PointRefused r) = record { refusal = numberOf r; spot = spotOf r; on = 0; leaf = 0; cover = 0 }
+
+-- the report beside the numbers of the judgement
+abbrev pub outcomeAnswerOf : Outcome → OutcomeAnswer
+outcomeAnswerOf (NotBanded r) = record { refusal = numberOf r; spot = spotOf r; curves = 0; leaves = 0; nodes = 0; on = 0; leaf = 0; cover = 0 }
+outcomeAnswerOf (WithJudgement curves leaves nodes j) =
+    let n = judgingAnswerOf j in
+    record {
+      refusal = n .refusal;
+      spot = n .spot;
+      curves = curves;
+      leaves = leaves;
+      nodes = nodes;
+      on = n .on;
+      leaf = n .leaf;
+      cover = n .cover;
+    }
+
+-- the numbers are those of an answer that judging may give
+pub record JudgedInNumbers (ns : List ℤ) (x y : ℤ) (numbers : JudgingAnswer) : Type 0 where
+  pub judgement : Judgement
+  pub judged : Judged 64 ns x y judgement
+  pub are : numbers ≡ judgingAnswerOf judgement
+
+-- and those of an outcome that banding and judging together may give
+pub record AnsweredInNumbers (T : ℤ) (ns : List ℤ) (banded : Banded) (list : List ℤ) (x y : ℤ) (numbers : OutcomeAnswer) : Type 0 where
+  pub outcome : Outcome
+  pub answered : Answered 64 T ns banded list x y outcome
+  pub are : numbers ≡ outcomeAnswerOf outcome

@@ -1,13 +1,56 @@
-// The C interface: what a program in another language calls. include/contour_band.h says the same for C.
+// Banding and judging together, and the C interface: what a program in another language calls. include/contour_band.h says the same for C.
 ghost use mathlib.Core.Path.{_≡_};
 ghost use lib.ListN.{length};
 ghost use Rattle.band.specs.Banding.{banded, written};
 ghost use Rattle.cover.specs.Drawing.{drawn, drawnInto};
-ghost use Rattle.engine.specs.Answers.{answerOf};
 ghost use Rattle.engine.specs.Drawings.{drawingOf};
+ghost use Rattle.engine.specs.Outcomes.{Answered};
+ghost use Rattle.engine.specs.Answers.{answerOf, judgingAnswerOf, outcomeAnswerOf, JudgedInNumbers, AnsweredInNumbers};
 use band::Banded;
 use boxes::Box;
 use cover::Drawn;
+use judge::Judgement;
+use refusals::Refusal;
+
+// What banding an outline and judging a point answers: banding's refusal, or its report and the judgement.
+pub enum Outcome {
+    NotBanded(Refusal),
+    Judged {
+        curves: usize,
+        leaves: usize,
+        nodes: usize,
+        judgement: Judgement,
+    },
+}
+
+// Puts a band round an outline, writes the leaves' records to the front of the list, and judges the point (x, y) against exactly these records.
+pub fn band_and_judge(
+    outline: &[i32],
+    tolerance: i32,
+    records: &mut [i32],
+    x: i32,
+    y: i32,
+) -> Outcome
+    ensures { λ r. ⌜ (now (records .exit) ≡ written 64 tolerance (now (outline .entry)) (now (records .entry))) × (Answered 64 tolerance (now (outline .entry)) (banded 64 tolerance (now (outline .entry)) (length (now (records .entry)))) (now (records .exit)) x y r) ⌝ }
+{
+    let banded = band::band(outline, tolerance, records);
+    match banded {
+        Banded::Refused(refusal) => Outcome::NotBanded(refusal),
+        Banded::Done {
+            curves,
+            leaves,
+            nodes,
+        } => {
+            let judgement = judge::judge(&records[..18 * leaves], x, y);
+            Outcome::Judged {
+                curves,
+                leaves,
+                nodes,
+                judgement,
+            }
+        }
+    }
+}
 
 // What banding answers, in numbers: a refusal's number and spot, or 0 and 0 and the report.
 #[repr(C)]
@@ -26,6 +69,118 @@ pub extern "C" fn contour_band(outline: &[i32], tolerance: i32, records: &mut [i
 {
     let banded = band::band(outline, tolerance, records);
     in_numbers(banded)
+}
+
+// What judging answers, in numbers: a refusal's number and spot, or 0 and 0 and whether the point is on, with the record and the cover that hold it.
+#[repr(C)]
+pub struct JudgingAnswer {
+    pub refusal: u32,
+    pub spot: u64,
+    pub on: u32,
+    pub leaf: u64,
+    pub cover: u64,
+}
+
+// Judges the point (x, y), in sixteenths, against a list of leaf records.
+#[no_mangle]
+pub extern "C" fn contour_judge(leaves: &[i32], x: i32, y: i32) -> JudgingAnswer
+    ensures { λ r. ⌜ JudgedInNumbers (now (leaves .entry)) x y r ⌝ }
+{
+    let judgement = judge::judge(leaves, x, y);
+    judgement_in_numbers(judgement)
+}
+
+// What banding and judging together answer, in numbers: banding's refusal, or its report and the judgement.
+#[repr(C)]
+pub struct OutcomeAnswer {
+    pub refusal: u32,
+    pub spot: u64,
+    pub curves: u64,
+    pub leaves: u64,
+    pub nodes: u64,
+    pub on: u32,
+    pub leaf: u64,
+    pub cover: u64,
+}
+
+// Bands an outline, and judges the point (x, y) against exactly the records written.
+#[no_mangle]
+pub extern "C" fn contour_band_and_judge(
+    outline: &[i32],
+    tolerance: i32,
+    records: &mut [i32],
+    x: i32,
+    y: i32,
+) -> OutcomeAnswer
+    ensures { λ r. ⌜ (now (records .exit) ≡ written 64 tolerance (now (outline .entry)) (now (records .entry))) × (AnsweredInNumbers tolerance (now (outline .entry)) (banded 64 tolerance (now (outline .entry)) (length (now (records .entry)))) (now (records .exit)) x y r) ⌝ }
+{
+    let outcome = band_and_judge(outline, tolerance, records, x, y);
+    outcome_in_numbers(outcome)
+}
+
+// The numbers of a judgement.
+fn judgement_in_numbers(judgement: Judgement) -> JudgingAnswer
+    ensures { λ r. ⌜ r ≡ judgingAnswerOf judgement ⌝ }
+{
+    match judgement {
+        Judgement::On { leaf, cover } => JudgingAnswer {
+            refusal: 0,
+            spot: 0,
+            on: 1,
+            leaf: leaf as u64,
+            cover: cover as u64,
+        },
+        Judgement::Off => JudgingAnswer {
+            refusal: 0,
+            spot: 0,
+            on: 0,
+            leaf: 0,
+            cover: 0,
+        },
+        Judgement::Refused(refusal) => JudgingAnswer {
+            refusal: refusal.number(),
+            spot: refusal.spot() as u64,
+            on: 0,
+            leaf: 0,
+            cover: 0,
+        },
+    }
+}
+
+// The numbers of an outcome.
+fn outcome_in_numbers(outcome: Outcome) -> OutcomeAnswer
+    ensures { λ r. ⌜ r ≡ outcomeAnswerOf outcome ⌝ }
+{
+    match outcome {
+        Outcome::NotBanded(refusal) => OutcomeAnswer {
+            refusal: refusal.number(),
+            spot: refusal.spot() as u64,
+            curves: 0,
+            leaves: 0,
+            nodes: 0,
+            on: 0,
+            leaf: 0,
+            cover: 0,
+        },
+        Outcome::Judged {
+            curves,
+            leaves,
+            nodes,
+            judgement,
+        } => {
+            let judged = judgement_in_numbers(judgement);
+            OutcomeAnswer {
+                refusal: judged.refusal,
+                spot: judged.spot,
+                curves: curves as u64,
+                leaves: leaves as u64,
+                nodes: nodes as u64,
+                on: judged.on,
+                leaf: judged.leaf,
+                cover: judged.cover,
+            }
+        }
+    }
 }
 
 // The numbers of an answer.

@@ -1,0 +1,98 @@
+-- The covers of a leaf: a point of the curve at a parameter of the leaf is held by one of them, and what one of them holds is near the curve. Both coordinates
+-- take the same parameter, since the place of a parameter on a piece does not depend on the control values.
+use mathlib.Core.Path.{_≡_, sym, _∙_, ap, subst}
+use mathlib.Core.Bool.{true}
+use mathlib.Core.List.{List}
+use Prim.Native.Nat.{ℕ, suc, _+_, _*_, _^_, _≤_, _<_}
+use native.Mathlib.Nat.{zero-lt-suc}
+use native.Mathlib.Omega.{arith}
+use lib.IntN.{ℤ}
+use Rattle.integers.specs.Entry.{entry}
+use Rattle.integers.proofs.Order.{gap, nonneg-natural, pos-le}
+use Rattle.bezier.specs.declared.Curve.{Curve}
+use Rattle.bezier.specs.Bounds.{Sized}
+use Rattle.bezier.specs.Nodes.{depth, start, nodeCurve}
+use Rattle.bezier.specs.Points.{Equals, Within}
+use Rattle.bezier.proofs.Coordinates.{nodeValues, node-curve}
+use Rattle.enclosure.specs.Rows.{pieces}
+use Rattle.enclosure.specs.Boxes.{lowOf, highOf, boxAt}
+use Rattle.enclosure.proofs.Places.{located}
+use Rattle.enclosure.proofs.Narrow.{Narrow, meets-narrow}
+use Rattle.tree.specs.Leaves.{Covers}
+use Rattle.tree.specs.Walked.{nodeMeets}
+use Rattle.boxes.specs.declared.Box.{Box}
+use Rattle.boxes.specs.Records.{recordLength, boxIndex, boxAtIndex}
+use Rattle.band.specs.Records.{boxNumbers, recordOf}
+use Rattle.band.proofs.Sound.{record-box}
+use Rattle.band.proofs.Standing.{Stands}
+use Rattle.judge.specs.Covers.{Holds}
+use Rattle.engine.proofs.Mixtures.{upP, upR, down-sum, point-mixed, mixed-near}
+
+-- one of the covers between these boxes holds the point
+pub record Held (box : ℕ → Box) (x y : ℤ) : Type 0 where
+  pub cover : ℕ
+  pub inside : cover < pieces
+  pub holds : Holds (box cover) (box (suc cover)) x y
+
+-- the box at break point i of node n
+abbrev pub nodeBox : Curve → ℕ → ℕ → Box
+nodeBox c n i =
+    let xs = nodeValues (c .degree) (c .x) n in
+    let ys = nodeValues (c .degree) (c .y) n in
+    record {
+      «x_low» = lowOf (c .degree) (depth n) xs i;
+      «x_high» = highOf (c .degree) (depth n) xs i;
+      «y_low» = lowOf (c .degree) (depth n) ys i;
+      «y_high» = highOf (c .degree) (depth n) ys i;
+    }
+
+-- ---- in a list where the record of node n stands
+module _ (c : Curve) (n : ℕ) (hn : 0 < n) {rs : List ℤ} {j : ℕ} (k : ℕ) (there : Stands rs j (recordOf k c n)) (i : ℕ) (hi : i ≤ pieces) where
+  number-there : (q at : ℕ) → q < 4 → at ≡ boxIndex j i + q
+      → entry rs at ≡ entry (boxNumbers (boxAt (depth n) (record { degree = c .degree; x = nodeValues (c .degree) (c .x) n; y = nodeValues (c .degree) (c .y) n }) i)) q
+  number-there q at hq e =
+      ap (entry rs) {x = at} {y = recordLength * j + (4 * i + (2 + q))} (omega arith)
+      ∙ there .number (4 * i + (2 + q)) (omega arith)
+      ∙ record-box k c n i q hi hq
+      ∙ ap (λ a. entry (boxNumbers (boxAt (depth n) a i)) q) (node-curve c n hn)
+
+  pub box-there : boxAtIndex rs (boxIndex j i) ≡ nodeBox c n i
+  unfolding boxAt
+  box-there =
+      let at = boxIndex j i in
+      let e0 = number-there 0 at (omega arith) (omega arith) in
+      let e1 = number-there 1 (at + 1) (omega arith) (omega arith) in
+      let e2 = number-there 2 (at + 2) (omega arith) (omega arith) in
+      let e3 = number-there 3 (at + 3) (omega arith) (omega arith) in
+      rw (e0, e1, e2, e3)
+
+module _ (c : Curve) (s : Sized 0 c) (n : ℕ) (hn : 0 < n) where
+  -- ---- a point of the curve
+  pub point-held : (p r : ℕ) → 0 < p + r → Covers n p r → (x y : ℤ) → Equals c p r x y → Held (nodeBox c n) x y
+  point-held p r some covers x y equals =
+      let P = nonneg-natural (gap (pos-le (covers .from))) in
+      let to = subst (λ m. 2 ^ depth n * p ≤ m * (p + r)) {x = start n + 1} {y = suc (start n)} (omega arith) (covers .to) in
+      let R = nonneg-natural (gap (pos-le to)) in
+      let l = located pieces (P .0) (R .0) (zero-lt-suc 2) in
+      let sum = down-sum n p r (P .0) (R .0) (sym (P .1)) (sym (R .1)) in
+      record {
+        cover = l .piece;
+        inside = l .inside;
+        holds = record {
+          a = l .near;
+          b = l .far;
+          some = omega (arith, l .place .whole, sum);
+          in-x = point-mixed (c .degree) (s .least) (s .most) (c .x) n hn p r (P .0) (R .0) some (sym (P .1)) (sym (R .1)) l x (equals .in-x);
+          in-y = point-mixed (c .degree) (s .least) (s .most) (c .y) n hn p r (P .0) (R .0) some (sym (P .1)) (sym (R .1)) l y (equals .in-y);
+        };
+      }
+
+  -- ---- a point that a cover of a leaf holds
+  pub held-near : (T : ℤ) → nodeMeets T c n ≡ true → (i : ℕ) → i < pieces → (x y : ℤ) (h : Holds (nodeBox c n i) (nodeBox c n (suc i)) x y)
+      → Within T c (upP n i (h .a) (h .b)) (upR n i (h .a) (h .b)) x y
+  held-near T meet i hi x y h =
+      let narrow = subst (Narrow T (depth n)) (node-curve c n hn) (meets-narrow T (depth n) (nodeCurve c n) meet) in
+      record {
+        in-x = mixed-near (c .degree) (s .least) (s .most) (c .x) n hn i (h .a) (h .b) hi T x (narrow .x i (omega arith)) (narrow .x (suc i) hi) (h .in-x);
+        in-y = mixed-near (c .degree) (s .least) (s .most) (c .y) n hn i (h .a) (h .b) hi T y (narrow .y i (omega arith)) (narrow .y (suc i) hi) (h .in-y);
+      }

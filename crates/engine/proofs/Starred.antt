@@ -1,0 +1,111 @@
+-- The starred examples hold: banding's by computation, and judging's for every answer that its promise allows.
+use mathlib.Core.Path.{_≡_, refl, subst}
+use mathlib.Core.Bool.{Bool, true, false}
+use mathlib.Core.List.{List, [], _∷_, _++_}
+use mathlib.Core.Option.{none}
+use Prim.Native.Nat.{ℕ, zero, suc, _*_, _<_}
+use native.Mathlib.Omega.{arith}
+use lib.Dec.{lit<}
+use lib.ListN.{replicate}
+use lib.IntN.{ℤ, pos, pow, one}
+use Rattle.integers.specs.First.{firstBad}
+use Rattle.integers.specs.Rounding.{floor, ceiling}
+use Rattle.integers.proofs.Clash.{clash}
+use Rattle.bezier.specs.Halves.{triangle, left, right, leftHalf, rightHalf}
+use Rattle.bezier.specs.Nodes.{descendIn, descend, depth, nodeCurve}
+use Rattle.boxes.specs.Records.{boxIndex, boxAtIndex}
+use Rattle.enclosure.specs.Bounds.{rowSum, high, low}
+use Rattle.enclosure.specs.Boxes.{boxAt, meets}
+use Rattle.outline.specs.Curves.{curveAt}
+use Rattle.outline.specs.Checks.{faultAt, outlineFrom, outlined}
+use Rattle.tree.specs.Tree.{ends, met, firstFailing}
+use Rattle.band.specs.Records.{recordOf, recordsOf, allRecords}
+use Rattle.band.specs.Banding.{firstTooWide, leavesOf, nodesOf, bandCurves, banded, written}
+use Rattle.judge.specs.declared.Judgement.{Judgement}
+use Rattle.judge.specs.declared.Judgement.the-variants.{On, Off, Refused}
+use Rattle.judge.specs.Covers.{CoverHolds}
+use Rattle.judge.specs.Judging.{numberFault, judgingFault, Verdict, Judged}
+use Rattle.judge.specs.Deciding.{held}
+use Rattle.judge.proofs.Deciding.{held-exactly}
+use Rattle.engine.specs.Demand3.{IsOn}
+use Rattle.engine.specs.Starred.{box, A, Starred}
+
+-- what the examples of banding compute through
+computing : ℤ → List ℤ → List ℤ → List ℤ
+unfolding written allRecords recordsOf recordOf banded bandCurves firstTooWide leavesOf nodesOf ends met firstFailing outlined outlineFrom faultAt firstBad curveAt descend descendIn depth nodeCurve meets boxAt high low rowSum floor ceiling leftHalf rightHalf left right triangle pow one
+computing T ns old = written 64 T ns old
+
+-- ---- the leaf of A at T 44, and a point against it
+abbrev leaf : List ℤ
+leaf = pos 0 ∷ pos 1 ∷ box 0 0 0 38 ++ box 160 160 319 363 ++ box 320 320 319 363 ++ box 480 480 0 38
+
+abbrev checked : ℤ → ℤ → Type 0
+checked x y = judgingFault 64 leaf x y ≡ none
+
+passes-363 : checked (pos 240) (pos 363)
+unfolding judgingFault numberFault firstBad
+passes-363 = refl
+
+passes-364 : checked (pos 240) (pos 364)
+unfolding judgingFault numberFault firstBad
+passes-364 = refl
+
+cover-1 : held (boxAtIndex leaf (boxIndex 0 1)) (boxAtIndex leaf (boxIndex 0 2)) (pos 240) (pos 363) ≡ true
+unfolding held
+cover-1 = refl
+
+on : (answer : Judgement) → Verdict none leaf (pos 240) (pos 363) answer → IsOn answer
+on (On k i) v = record { leaf = k; cover = i; is = refl }
+on Off v = absurd (v 0 1 (lit< tt) (lit< tt) (held-exactly (boxAtIndex leaf (boxIndex 0 1)) (boxAtIndex leaf (boxIndex 0 2)) (pos 240) (pos 363) .0 cover-1))
+on (Refused r) v = absurd v
+
+abbrev heldAt : ℕ → Bool
+heldAt i = held (boxAtIndex leaf (boxIndex 0 i)) (boxAtIndex leaf (boxIndex 0 (suc i))) (pos 240) (pos 364)
+
+no-cover : (i : ℕ) → i < 3 → heldAt i ≡ false
+unfolding held
+no-cover zero h = refl
+no-cover (suc zero) h = refl
+no-cover (suc (suc zero)) h = refl
+no-cover (suc (suc (suc i))) h = absurd (omega arith)
+
+not-both : {b : Bool} → b ≡ false → b ≡ true → ⊥
+not-both e f = clash (cc)
+
+off : (answer : Judgement) → Verdict none leaf (pos 240) (pos 364) answer → answer ≡ Off
+off Off v = refl
+off (Refused r) v = absurd v
+off (On k i) v = absurd (first k (v .0) (v .2))
+  where
+    first : (k : ℕ) → 18 * k < 18 → CoverHolds leaf k i (pos 240) (pos 364) → ⊥
+    first zero h c = not-both (no-cover i (v .1)) (held-exactly (boxAtIndex leaf (boxIndex 0 i)) (boxAtIndex leaf (boxIndex 0 (suc i))) (pos 240) (pos 364) .1 c)
+    first (suc k) h c = omega arith
+
+-- ---- judged against what banding wrote
+a-44-leaf : written 64 (pos 44) A (replicate 18 (pos 0)) ≡ leaf
+unfolding computing
+a-44-leaf = refl
+
+judged : (y : ℤ) → checked (pos 240) y → (answer : Judgement) → Judged 64 (written 64 (pos 44) A (replicate 18 (pos 0))) (pos 240) y answer → Verdict none leaf (pos 240) y answer
+judged y e answer j = subst (λ o. Verdict o leaf (pos 240) y answer) e (subst (λ rs. Judged 64 rs (pos 240) y answer) a-44-leaf j)
+
+pub starred : Starred
+unfolding computing
+starred = record {
+  a-44 = refl;
+  a-44-leaf = a-44-leaf;
+  a-43 = refl;
+  a-43-leaves = refl;
+  a-negated = refl;
+  y-18 = refl;
+  line-1 = refl;
+  tolerance-2 = refl;
+  tolerance-1 = refl;
+  coordinate-passes = refl;
+  coordinate-beyond = refl;
+  empty = refl;
+  too-wide = refl;
+  too-wide-spot = refl;
+  point-on = λ answer j. on answer (judged (pos 363) passes-363 answer j);
+  point-off = λ answer j. off answer (judged (pos 364) passes-364 answer j);
+}

@@ -1,0 +1,64 @@
+-- The starred examples of document 01 ("Measured examples"), in one statement. The lists that are lent hold zeros.
+use mathlib.Core.Path.{_≡_}
+use mathlib.Core.List.{List, [], _∷_, _++_}
+use Prim.Native.Nat.{ℕ}
+use lib.ListN.{replicate}
+use lib.IntN.{ℤ, pos, negℤ}
+use Rattle.refusals.specs.declared.Refusal.the-variants.{Tolerance, Coordinate, EmptyOutline, TooWide}
+use Rattle.refusals.specs.Refusals.{nodeSpot}
+use Rattle.band.specs.declared.Banded.the-variants.{Done, Refused}
+use Rattle.band.specs.Banding.{banded, written}
+use Rattle.judge.specs.declared.Judgement.{Judgement}
+use Rattle.judge.specs.declared.Judgement.the-variants.{Off}
+use Rattle.judge.specs.Judging.{Judged}
+use Rattle.engine.specs.Demand3.{IsOn}
+
+abbrev zeros : ℕ → List ℤ
+zeros n = replicate n (pos 0)
+
+-- the numbers of a box above the x axis, and of one below it
+abbrev pub box : (a b c d : ℕ) → List ℤ
+box a b c d = pos a ∷ pos b ∷ pos c ∷ pos d ∷ []
+
+abbrev pub below : (a b c d : ℕ) → List ℤ
+below a b c d = pos a ∷ pos b ∷ negℤ (pos c) ∷ negℤ (pos d) ∷ []
+
+-- curve A is (0 0) (10 30) (20 30) (30 0)
+abbrev pub A : List ℤ
+A = pos 3 ∷ pos 0 ∷ pos 0 ∷ pos 10 ∷ pos 30 ∷ pos 20 ∷ pos 30 ∷ pos 30 ∷ pos 0 ∷ []
+
+-- a line of x 0 to `x`, y 0 to 1
+abbrev pub line : ℕ → List ℤ
+line x = pos 1 ∷ pos 0 ∷ pos 0 ∷ pos x ∷ pos 1 ∷ []
+
+pub record Starred : Type 0 where
+  -- A, T 44: the leaf in the listing
+  pub a-44 : banded 64 (pos 44) A 18 ≡ Done 1 1 1
+  pub a-44-leaf : written 64 (pos 44) A (zeros 18) ≡ pos 0 ∷ pos 1 ∷ box 0 0 0 38 ++ box 160 160 319 363 ++ box 320 320 319 363 ++ box 480 480 0 38
+  -- A, T 43: nodes 2 and 3; the boxes of node 2, and of node 3
+  pub a-43 : banded 64 (pos 43) A 36 ≡ Done 1 2 3
+  pub a-43-leaves : written 64 (pos 43) A (zeros 36)
+      ≡ pos 0 ∷ pos 2 ∷ box 0 0 0 10 ++ box 80 80 199 211 ++ box 160 160 319 331 ++ box 240 240 360 370
+      ++ (pos 0 ∷ pos 3 ∷ box 240 240 360 370 ++ box 320 320 319 331 ++ box 400 400 199 211 ++ box 480 480 0 10)
+  -- A with y negated, T 44
+  pub a-negated : written 64 (pos 44) (pos 3 ∷ pos 0 ∷ pos 0 ∷ pos 10 ∷ negℤ (pos 30) ∷ pos 20 ∷ negℤ (pos 30) ∷ pos 30 ∷ pos 0 ∷ []) (zeros 18)
+      ≡ pos 0 ∷ pos 1 ∷ below 0 0 38 0 ++ below 160 160 363 319 ++ below 320 320 363 319 ++ below 480 480 38 0
+  -- y 0, 18, 0
+  pub y-18 : written 64 (pos 17) (pos 2 ∷ pos 0 ∷ pos 0 ∷ pos 0 ∷ pos 18 ∷ pos 0 ∷ pos 0 ∷ []) (zeros 18)
+      ≡ pos 0 ∷ pos 1 ∷ box 0 0 0 17 ++ box 0 0 127 144 ++ box 0 0 127 144 ++ box 0 0 0 17
+  -- the line 0, 1
+  pub line-1 : written 64 (pos 2) (line 0) (zeros 18) ≡ pos 0 ∷ pos 1 ∷ box 0 0 0 0 ++ box 0 0 5 6 ++ box 0 0 10 11 ++ box 0 0 16 16
+  -- T 2 passes, T 1 gives 1
+  pub tolerance-2 : banded 64 (pos 2) (line 0) 18 ≡ Done 1 1 1
+  pub tolerance-1 : banded 64 (pos 1) (line 0) 18 ≡ Refused Tolerance
+  -- coordinate 1,048,576 passes its check, 1,048,577 gives 4
+  pub coordinate-passes : banded 64 (pos 2) (line 1048576) 18 ≡ Done 1 1 1
+  pub coordinate-beyond : banded 64 (pos 2) (line 1048577) 18 ≡ Refused (Coordinate 3)
+  -- empty outline: 6
+  pub empty : banded 64 (pos 2) [] 18 ≡ Refused EmptyOutline
+  -- y 0, 1048576, 1048576, 0 as curve 0, x all 0, T 2: 7, spot 256
+  pub too-wide : banded 64 (pos 2) (pos 3 ∷ pos 0 ∷ pos 0 ∷ pos 0 ∷ pos 1048576 ∷ pos 0 ∷ pos 1048576 ∷ pos 0 ∷ pos 0 ∷ []) 18 ≡ Refused (TooWide 0 256)
+  pub too-wide-spot : nodeSpot 0 256 ≡ 256
+  -- (240 363) is on A's band at T 44, (240 364) off
+  pub point-on : (answer : Judgement) → Judged 64 (written 64 (pos 44) A (zeros 18)) (pos 240) (pos 363) answer → IsOn answer
+  pub point-off : (answer : Judgement) → Judged 64 (written 64 (pos 44) A (zeros 18)) (pos 240) (pos 364) answer → answer ≡ Off
