@@ -1,17 +1,16 @@
 -- The answer of drawing and the caller's list, for each way out.
-use mathlib.Core.Path.{_≡_, refl, sym, _∙_, ap, ap₂}
-use mathlib.Core.List.{List, _++_}
+use mathlib.Core.Path.{_≡_, sym, _∙_, ap}
+use mathlib.Core.List.{List}
 use mathlib.Core.Option.{none, some}
-use Prim.Native.Nat.{ℕ, _*_, _≤_, _<_}
+use Prim.Native.Nat.{ℕ, _≤_, _<_}
 use native.Mathlib.Omega.{arith}
 use borrow.Author.Tests.{lt-ltb, le-ltb}
-use lib.ListN.{length, drop}
+use lib.ListN.{length}
 use lib.Seq.{sets}
 use lib.IntN.{ℤ}
 use Rattle.refusals.specs.declared.Refusal.{Refusal}
 use Rattle.refusals.specs.declared.Refusal.the-variants.{BoxNumber, TooFewVertices}
 use Rattle.boxes.specs.declared.Box.{Box}
-use Rattle.cover.specs.declared.Drawn.{Drawn}
 use Rattle.cover.specs.declared.Drawn.the-variants.{Vertices, Refused}
 use Rattle.cover.specs.Polygon.{pathOf, vertices, numbers}
 use Rattle.cover.specs.Drawing.{twoBoxesFault, drawn, writtenBy, drawnInto}

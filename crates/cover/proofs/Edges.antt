@@ -1,11 +1,11 @@
 -- Laws of edges, for any points: the next vertex is the only one, and edges that follow one another turn left unless the second leads back.
-use mathlib.Core.Path.{_≡_, refl, sym, _∙_, ap, ap₂, subst}
+use mathlib.Core.Path.{_≡_, refl, sym, _∙_, ap₂}
 use mathlib.Core.Logic.{_⊎_, inl, inr, ⊎-elim}
 use mathlib.Core.List.{[], _∷_}
-use lib.IntN.{ℤ, pos, negℤ, _+ℤ_, _-ℤ_, _*ℤ_}
+use lib.IntN.{ℤ, pos, negℤ}
 use lib.Signed.{_≤ℤ_, _<ℤ_}
 use Rattle.integers.proofs.Ring.{ring, sides}
-use Rattle.integers.proofs.Order.{≤ℤ-trans, ≤ℤ-antisymm, le-or-lt, le-by, lt-by, gap, gap<, balance, _+₀_, lt-le}
+use Rattle.integers.proofs.Order.{≤ℤ-trans, ≤ℤ-antisymm, le-or-lt, le-by, gap, balance, _+₀_}
 use Rattle.cover.specs.declared.path.Point.{Point}
 use Rattle.cover.specs.Hull.{turn, Between, Edge}
 

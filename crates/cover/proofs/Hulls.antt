@@ -2,12 +2,12 @@
 use mathlib.Core.Path.{_≡_, refl, sym, _∙_, ap, subst}
 use mathlib.Core.Logic.{_⊎_, inl, inr, ⊎-elim}
 use mathlib.Core.List.{List, [], _∷_}
-use Prim.Native.Nat.{ℕ, zero, suc, _+_, _-_, _≤_, _<_}
+use Prim.Native.Nat.{ℕ, zero, suc, _+_, _≤_, _<_}
 use native.Mathlib.Omega.{arith}
 use lib.ListN.{length, getD, List·getD-append}
 use lib.Seq.{getD-append-add, ext-getD}
-use lib.IntN.{ℤ, pos, negsuc, negℤ, _+ℤ_, _-ℤ_, _*ℤ_}
-use lib.Signed.{_≤ℤ_, _<ℤ_, <ℤ-irrefl}
+use lib.IntN.{ℤ, pos, negsuc, _-ℤ_, _*ℤ_}
+use lib.Signed.{_<ℤ_, <ℤ-irrefl}
 use Rattle.integers.proofs.Ring.{ring, sides}
 use Rattle.integers.proofs.Order.{≤ℤ-antisymm, le-or-lt, lt-or-ge, clash-by, gap<, balance, _+₀_, _×₀_}
 use Rattle.cover.specs.declared.path.Point.{Point}
@@ -38,7 +38,7 @@ module _ {X : Point → Type 0} {vs : List Point} (h : Hull X vs) (three : 3 ≤
       (λ a. record { place = suc (suc k); within = a; is = refl; other = h .once k (suc (suc k)) (omega arith) a; edge = h .edge (suc k) (omega arith) })
       (λ a. ⊎-elim
       (λ b. let e = round-again vs (suc (suc k)) 0 (omega arith) (omega arith) in
-          record { place = 0; within = omega arith; is = e; other = λ z. h .once 0 k (omega arith) l (sym (z ∙ e)); edge = h .edge (suc k) b })
+      record { place = 0; within = omega arith; is = e; other = λ z. h .once 0 k (omega arith) l (sym (z ∙ e)); edge = h .edge (suc k) b })
       (λ b.
       let e = round-again vs (suc (suc k)) 1 (omega arith) (omega arith) in
       let f = round-again vs (suc k) 0 (omega arith) (omega arith) in
@@ -64,13 +64,13 @@ eq-or-not a b = ⊎-elim (λ l. ⊎-elim (λ g. inl (≤ℤ-antisymm l g)) (λ g
 no-factor : {d g : ℤ} → (d ≡ pos 0 → ⊥) → d *ℤ g ≡ pos 0 → g ≡ pos 0
 no-factor {d} {g} n e = ⊎-elim
     (λ a. ⊎-elim (λ b. ≤ℤ-antisymm a b) (λ b. absurd (⊎-elim
-        (λ c. ⊎-elim (λ z. n (≤ℤ-antisymm c z)) (λ z. clash-by (d ∷ g ∷ []) (gap< z ×₀ gap< b +₀ gap< z +₀ gap< b +₀ balance (negsuc 0) e) (search sides depth 40 fits 9999) refl) (le-or-lt (pos 0) d))
-        (λ c. clash-by (d ∷ g ∷ []) (gap< c ×₀ gap< b +₀ gap< c +₀ gap< b +₀ balance (pos 1) e) (search sides depth 40 fits 9999) refl)
-        (le-or-lt d (pos 0)))) (le-or-lt (pos 0) g))
+    (λ c. ⊎-elim (λ z. n (≤ℤ-antisymm c z)) (λ z. clash-by (d ∷ g ∷ []) (gap< z ×₀ gap< b +₀ gap< z +₀ gap< b +₀ balance (negsuc 0) e) (search sides depth 40 fits 9999) refl) (le-or-lt (pos 0) d))
+    (λ c. clash-by (d ∷ g ∷ []) (gap< c ×₀ gap< b +₀ gap< c +₀ gap< b +₀ balance (pos 1) e) (search sides depth 40 fits 9999) refl)
+    (le-or-lt d (pos 0)))) (le-or-lt (pos 0) g))
     (λ b. absurd (⊎-elim
-        (λ c. ⊎-elim (λ z. n (≤ℤ-antisymm c z)) (λ z. clash-by (d ∷ g ∷ []) (gap< z ×₀ gap< b +₀ gap< z +₀ gap< b +₀ balance (pos 1) e) (search sides depth 40 fits 9999) refl) (le-or-lt (pos 0) d))
-        (λ c. clash-by (d ∷ g ∷ []) (gap< c ×₀ gap< b +₀ gap< c +₀ gap< b +₀ balance (negsuc 0) e) (search sides depth 40 fits 9999) refl)
-        (le-or-lt d (pos 0))))
+    (λ c. ⊎-elim (λ z. n (≤ℤ-antisymm c z)) (λ z. clash-by (d ∷ g ∷ []) (gap< z ×₀ gap< b +₀ gap< z +₀ gap< b +₀ balance (pos 1) e) (search sides depth 40 fits 9999) refl) (le-or-lt (pos 0) d))
+    (λ c. clash-by (d ∷ g ∷ []) (gap< c ×₀ gap< b +₀ gap< c +₀ gap< b +₀ balance (negsuc 0) e) (search sides depth 40 fits 9999) refl)
+    (le-or-lt d (pos 0))))
     (le-or-lt g (pos 0))
 
 no-gap : {a b : ℤ} → a -ℤ b ≡ pos 0 → b ≡ a
@@ -114,14 +114,14 @@ module _ {X : Point → Type 0} {vs : List Point} (h : Hull X vs) where
   pub two-vertices : length vs ≤ 2 → InLine X
   two-vertices m p q r xp xq xr = let s = h .some in ⊎-elim
       (λ l. let e : length vs ≡ 2 = omega arith in
-          in-line (round vs 0) (round vs 1) p q r (h .once 0 1 (omega arith) (omega arith)) (on-it e p xp) (on-it e q xq) (on-it e r xr))
+      in-line (round vs 0) (round vs 1) p q r (h .once 0 1 (omega arith) (omega arith)) (on-it e p xp) (on-it e q xq) (on-it e r xr))
       (λ l. subst (λ o. turn p o r ≡ pos 0) (one-vertex (omega arith) p q xp xq) (turn-stay p r))
       (lt-or-ge 1 (length vs))
 
   pub vertices-two : InLine X → length vs ≤ 2
   vertices-two i = ⊎-elim
       (λ l. let e = i (round vs 0) (round vs 1) (round vs 2) (h .each 0 (omega arith)) (h .each 1 (omega arith)) (h .each 2 l) in
-          absurd (<ℤ-irrefl (subst (λ z. pos 0 <ℤ z) e (strictly-left h l 0 (omega arith)))))
+      absurd (<ℤ-irrefl (subst (λ z. pos 0 <ℤ z) e (strictly-left h l 0 (omega arith)))))
       (λ l. l)
       (lt-or-ge 2 (length vs))
 
@@ -146,7 +146,7 @@ module _ {X : Point → Type 0} {vs ws : List Point} (h : Hull X vs) (g : Hull X
           let s = h .some in
           let a = round-again vs (suc i) 0 s (omega arith) in
           let b = next-unique (subst (Edge X (round vs i)) a (h .edge i (omega arith)))
-              (subst (λ p. Edge X p (round ws (suc i))) (sym (agree i (omega arith) (omega arith))) (g .edge i (omega arith))) (h .each 0 s) (g .each (suc i) (omega arith)) in
+          (subst (λ p. Edge X p (round ws (suc i))) (sym (agree i (omega arith) (omega arith))) (g .edge i (omega arith))) (h .each 0 s) (g .each (suc i) (omega arith)) in
           g .once 0 (suc i) (omega arith) (omega arith) (sym (agree 0 s (omega arith)) ∙ b)
 
 pub one-hull : {X : Point → Type 0} {vs ws : List Point} → Hull X vs → Hull X ws → vs ≡ ws

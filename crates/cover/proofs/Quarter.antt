@@ -15,7 +15,7 @@ use Rattle.cover.specs.declared.path.Span.{Span}
 use Rattle.cover.specs.declared.path.Point.{Point}
 use Rattle.cover.specs.declared.path.Ends.{Ends}
 use Rattle.cover.specs.Polygon.{lower, higher, joined, reached, endsOf, acrossOf, uprightOf, pathPoint, pathOf}
-use Rattle.cover.specs.Hull.{Ordered, Within, Corner, OfBoxes, ACorner, turn, Between, Edge}
+use Rattle.cover.specs.Hull.{Ordered, OfBoxes, ACorner, turn, Between, Edge}
 use Rattle.cover.proofs.Edges.{point-≡}
 use Rattle.cover.proofs.Reach.{lower-first, lower-second, higher-first, higher-second, ≥-total, East, floor, step-0, step-1, corner-0, corner-1}
 

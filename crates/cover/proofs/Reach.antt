@@ -1,19 +1,18 @@
 -- The first two steps of the path, along the lowest side and on to the rightmost: each moves to the right and not down, and is an edge of the boxes' points.
-use mathlib.Core.Path.{_≡_, refl, sym, _∙_, ap, ap₂, subst}
+use mathlib.Core.Path.{_≡_, refl, sym, _∙_, ap, subst}
 use mathlib.Core.Bool.{Bool, true, false}
 use mathlib.Core.Logic.{_⊎_, inl, inr, ⊎-elim}
-use mathlib.Core.List.{List, [], _∷_}
-use lib.IntN.{ℤ, pos, negsuc, _+ℤ_, _-ℤ_, _*ℤ_}
+use mathlib.Core.List.{[], _∷_}
+use lib.IntN.{ℤ, pos, _+ℤ_, _-ℤ_, _*ℤ_}
 use lib.Signed.{ltZ, _≤ℤ_, _<ℤ_, ≤ℤ-refl, clashℤ}
 use Rattle.integers.proofs.Ring.{ring, sides}
-use Rattle.integers.proofs.Clash.{clash}
-use Rattle.integers.proofs.Order.{≤ℤ-trans, ≤ℤ-<ℤ-trans, ≤ℤ-antisymm, le-or-lt, le-by, lt-by, clash-by, gap, gap<, balance, _+₀_, _×₀_, natural, lt-le}
-use Rattle.integers.proofs.Ranges.{lt-yes, lt-no, yes-lt, no-lt, yes-le}
+use Rattle.integers.proofs.Order.{≤ℤ-trans, ≤ℤ-antisymm, le-or-lt, le-by, lt-by, clash-by, gap, gap<, balance, _+₀_, _×₀_, natural, lt-le}
+use Rattle.integers.proofs.Ranges.{lt-yes, lt-no}
 use Rattle.boxes.specs.declared.Box.{Box}
 use Rattle.cover.specs.declared.path.Span.{Span}
 use Rattle.cover.specs.declared.path.Point.{Point}
-use Rattle.cover.specs.Polygon.{lower, higher, joined, reached, endsOf, acrossOf, uprightOf, same, pathPoint, pathOf}
-use Rattle.cover.specs.Hull.{Ordered, Within, Corner, OfBoxes, ACorner, turn, Between, Edge, Lowest}
+use Rattle.cover.specs.Polygon.{lower, higher, joined, reached, endsOf, acrossOf, uprightOf, pathPoint, pathOf}
+use Rattle.cover.specs.Hull.{Ordered, OfBoxes, ACorner, turn, Between, Edge, Lowest}
 use Rattle.cover.proofs.Edges.{point-≡}
 
 abbrev pt : ℤ → ℤ → Point
@@ -160,7 +159,7 @@ module _ {a b : Box} (oa : Ordered a) (ob : Ordered b) where
       left = λ p h. le-by (span .low ∷ span .high ∷ level ∷ p .x ∷ p .y ∷ []) (gap (f .order) ×₀ gap (f .above p h)) (search sides depth 40 fits 9999) refl;
       on = λ p h z.
           let e : p .y ≡ level = no-difference (zero-factor (positive longer) (not-negative (f .above p h))
-              (le-by (span .low ∷ span .high ∷ level ∷ p .x ∷ p .y ∷ []) (balance (pos 1) (sym z)) (search sides depth 40 fits 9999) refl)) in
+          (le-by (span .low ∷ span .high ∷ level ∷ p .x ∷ p .y ∷ []) (balance (pos 1) (sym z)) (search sides depth 40 fits 9999) refl)) in
           (inl (f .among p h e), inl (≡-≤ (sym e), ≡-≤ e));
     }
 

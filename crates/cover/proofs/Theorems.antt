@@ -1,14 +1,14 @@
 -- The vertices that drawing writes are the hull of the two boxes, in the words of document 01, and no other list is.
 use mathlib.Core.Path.{_≡_, refl, sym, _∙_, ap, subst}
 use mathlib.Core.Bool.{Bool, true, false, _&&_}
-use mathlib.Core.Logic.{_⊎_, inl, inr, ⊎-elim}
+use mathlib.Core.Logic.{inl, inr, ⊎-elim}
 use mathlib.Core.List.{List, [], _∷_, _++_, append-assoc}
 use mathlib.Core.Option.{none}
 use Prim.Native.Nat.{ℕ, zero, suc, _+_, _≤_, _<_}
 use native.Mathlib.Omega.{arith}
 use lib.ListN.{length, getD, length-append, List·getD-append}
 use lib.IntN.{ℤ, pos}
-use lib.Signed.{leZ, _≤ℤ_, _<ℤ_, ≤ℤ-refl}
+use lib.Signed.{leZ, _≤ℤ_, _<ℤ_}
 use Rattle.integers.specs.Entry.{entry}
 use Rattle.integers.proofs.Clash.{clash}
 use Rattle.integers.proofs.First.{none-bad}
@@ -19,11 +19,11 @@ use Rattle.boxes.specs.Ranges.{inRange, boxNumberFine, numbersOf}
 use Rattle.cover.specs.declared.path.Point.{Point}
 use Rattle.cover.specs.Polygon.{moves, orFirst, verticesOf, pathPoint, pathOf, vertices}
 use Rattle.cover.specs.Drawing.{twoBoxesFault}
-use Rattle.cover.specs.Hull.{Ordered, Within, Corner, OfBoxes, ACorner, turn, Between, Edge, round, Lowest, Hull, AllEqual, InLine}
+use Rattle.cover.specs.Hull.{Ordered, Within, Corner, OfBoxes, ACorner, turn, Edge, round, Lowest, Hull, AllEqual, InLine}
 use Rattle.cover.proofs.Writing.{vertices-most}
 use Rattle.cover.proofs.Edges.{point-≡, turn-stay, next-unique}
 use Rattle.cover.proofs.Reach.{≡-≤, East, start-lowest}
-use Rattle.cover.proofs.Quarter.{half, quarters, Step, step, path-corner, above, same-heading, le-neg}
+use Rattle.cover.proofs.Quarter.{half, quarters, step, path-corner, above, same-heading, le-neg}
 use Rattle.cover.proofs.Walk.{origin, Moves, Chain, chain-at, path-chain, path-head, met, path-once, stays}
 use Rattle.cover.proofs.Hulls.{round-at, strictly-left, one-vertex, vertex-one, two-vertices, vertices-two, one-hull}
 
@@ -71,14 +71,14 @@ module _ (a b : Box) (oa : Ordered a) (ob : Ordered b) where
       let t = step k a b oa ob h mk in
       let n = next-unique (s .edge) (subst (λ p. Edge (OfBoxes a b) p (path (suc k))) (sym e) (t .edge)) (path-of (suc j) (omega arith)) (path-of (suc k) h) in
       let q = same-heading (path k) (path (suc k)) (half j) (half k) (omega (arith, half-less j)) (omega (arith, half-less k))
-          (subst (λ p. East (quarters (half j) p) (quarters (half j) (path (suc k)))) e (subst (λ p. East (quarters (half j) (path j)) (quarters (half j) p)) n (s .heading))) (t .heading) in
+      (subst (λ p. East (quarters (half j) p) (quarters (half j) (path (suc k)))) e (subst (λ p. East (quarters (half j) (path j)) (quarters (half j) p)) n (s .heading))) (t .heading) in
       mj (e ∙ ap path (half-next j k l q))
 
   -- ---- a path that never moves: there is one point
   only-point : moves path 8 ≡ [] → (p : Point) → OfBoxes a b p → p ≡ path 0
   only-point e p x =
       let at : (k : ℕ) → k < 8 → quarters (half k) (path 0) .y ≤ℤ quarters (half k) p .y =
-          λ k h. subst (λ q. quarters (half k) q .y ≤ℤ quarters (half k) p .y) (stays path 8 e k (omega arith)) (above k a b oa ob h p x) in
+      λ k h. subst (λ q. quarters (half k) q .y ≤ℤ quarters (half k) p .y) (stays path 8 e k (omega arith)) (above k a b oa ob h p x) in
       point-≡ (≤ℤ-antisymm (le-neg (at 2 (omega arith))) (le-neg (le-neg (at 6 (omega arith))))) (≤ℤ-antisymm (le-neg (at 4 (omega arith))) (at 0 (omega arith)))
 
   still : moves path 8 ≡ [] → Hull (OfBoxes a b) (path 0 ∷ [])
@@ -124,7 +124,6 @@ module _ (a b : Box) (oa : Ordered a) (ob : Ordered b) where
       chain : Chain (Edge (OfBoxes a b)) closed
       chain = subst (λ l. Chain (Edge (OfBoxes a b)) (l ++ q ∷ [])) e (subst (λ p. Chain (Edge (OfBoxes a b)) (moves path 8 ++ p ∷ [])) (path-closes ∙ sym head)
           (path-chain path 8 (λ k h m. step k a b oa ob h m .edge) 8 (omega arith)))
-
 
       round-closed : (k : ℕ) → k ≤ length vs → round vs k ≡ getD closed k origin
       round-closed k h = ap (λ l. getD l k origin) (sym (append-assoc vs (q ∷ []) qs)) ∙ List·getD-append closed qs origin k (omega (arith, length-append vs (q ∷ [])))

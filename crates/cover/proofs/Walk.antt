@@ -4,7 +4,7 @@ use mathlib.Core.Path.{_≡_, refl, sym, _∙_, ap, subst}
 use mathlib.Core.Bool.{Bool, true, false, _&&_}
 use mathlib.Core.Logic.{_⊎_, inl, inr, ⊎-elim}
 use mathlib.Core.List.{List, [], _∷_, _++_, append-assoc, append-nil}
-use Prim.Native.Nat.{ℕ, zero, suc, _+_, _≤_, _<_}
+use Prim.Native.Nat.{ℕ, zero, suc, _≤_, _<_}
 use native.Mathlib.Omega.{arith}
 use lib.ListN.{length, getD, length-append, List·getD-append}
 use lib.Seq.{getD-append-seam}
@@ -97,7 +97,7 @@ module _ (f : ℕ → Point) where
         ⊎-elim
         (λ d. subst (λ l. Chain R (l ++ f (suc n) ∷ [])) (sym (d .1)) (subst (λ p. Chain R (moves f n ++ p ∷ [])) (d .0) c))
         (λ d. subst (λ l. Chain R (l ++ f (suc n) ∷ [])) (sym (d .1))
-            (subst (Chain R) (sym (append-assoc (moves f n) (f n ∷ []) (f (suc n) ∷ []))) (chain-snoc (moves f n) c (steps n (omega arith) (d .0)))))
+        (subst (Chain R) (sym (append-assoc (moves f n) (f n ∷ []) (f (suc n) ∷ []))) (chain-snoc (moves f n) c (steps n (omega arith) (d .0)))))
         (step-more n)
 
   head-append : (xs : List Point) (p : Point) (ys : List Point) → getD (xs ++ p ∷ [] ++ ys) 0 origin ≡ getD (xs ++ p ∷ []) 0 origin
@@ -137,7 +137,7 @@ module _ (f : ℕ → Point) where
     path-once (suc n) h = let o = path-once n (omega arith) in ⊎-elim
         (λ d. subst Once (sym (d .1)) o)
         (λ d. subst Once (sym (d .1)) (once-snoc (moves f n) (f n) o
-            (λ i l e. let w = met n i l in apart (w .place) n (w .before) (omega arith) (w .moving) (d .0) (sym (w .is) ∙ e))))
+        (λ i l e. let w = met n i l in apart (w .place) n (w .before) (omega arith) (w .moving) (d .0) (sym (w .is) ∙ e))))
         (step-more n)
 
   -- a path that never moves

@@ -44,15 +44,15 @@ unfoldable pub pathPoint : Ends → Ends → ℕ → Point
 pathPoint v h k =
     let start : Point = record { x = v .lowest .low; y = v .levels .low } in
     getD (
-      start
-      ∷ record { x = v .lowest .high; y = v .levels .low }
-      ∷ record { x = h .levels .high; y = h .highest .low }
-      ∷ record { x = h .levels .high; y = h .highest .high }
-      ∷ record { x = v .highest .high; y = v .levels .high }
-      ∷ record { x = v .highest .low; y = v .levels .high }
-      ∷ record { x = h .levels .low; y = h .lowest .high }
-      ∷ record { x = h .levels .low; y = h .lowest .low }
-      ∷ []
+    start
+    ∷ record { x = v .lowest .high; y = v .levels .low }
+    ∷ record { x = h .levels .high; y = h .highest .low }
+    ∷ record { x = h .levels .high; y = h .highest .high }
+    ∷ record { x = v .highest .high; y = v .levels .high }
+    ∷ record { x = v .highest .low; y = v .levels .high }
+    ∷ record { x = h .levels .low; y = h .lowest .high }
+    ∷ record { x = h .levels .low; y = h .lowest .low }
+    ∷ []
     ) k start
 
 -- ---- its vertices: the points from which it moves on, or its first where it never does

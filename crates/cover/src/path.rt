@@ -91,21 +91,39 @@ pub fn ends_of(first: Span, second: Span, across_first: Span, across_second: Spa
 pub fn path_point(upright: Ends, across: Ends, k: usize) -> Point
     ensures { λ r. ⌜ r ≡ pathPoint upright across k ⌝ }
 {
-    let bottom = upright.lowest;
-    let top = upright.highest;
-    let left = across.lowest;
-    let right = across.highest;
-    let y = upright.levels;
-    let x = across.levels;
     match k {
-        1 => Point { x: bottom.high, y: y.low },
-        2 => Point { x: x.high, y: right.low },
-        3 => Point { x: x.high, y: right.high },
-        4 => Point { x: top.high, y: y.high },
-        5 => Point { x: top.low, y: y.high },
-        6 => Point { x: x.low, y: left.high },
-        7 => Point { x: x.low, y: left.low },
-        _ => Point { x: bottom.low, y: y.low },
+        1 => Point {
+            x: upright.lowest.high,
+            y: upright.levels.low,
+        },
+        2 => Point {
+            x: across.levels.high,
+            y: across.highest.low,
+        },
+        3 => Point {
+            x: across.levels.high,
+            y: across.highest.high,
+        },
+        4 => Point {
+            x: upright.highest.high,
+            y: upright.levels.high,
+        },
+        5 => Point {
+            x: upright.highest.low,
+            y: upright.levels.high,
+        },
+        6 => Point {
+            x: across.levels.low,
+            y: across.lowest.high,
+        },
+        7 => Point {
+            x: across.levels.low,
+            y: across.lowest.low,
+        },
+        _ => Point {
+            x: upright.lowest.low,
+            y: upright.levels.low,
+        },
     }
 }
 

@@ -4,10 +4,6 @@ use Rattle.cover.proofs.Answers.{at-fault, too-few, all-drawn}
 use borrow.Author.Needs.{needs}
 use Rattle.cover.proofs.draw.Statement.{statement}
 use Rattle.cover.proofs.draw.Tie as tie
-use Rattle.cover.proofs.draw.Reads as reads
-use Rattle.cover.proofs.draw.Lts as lts
-use Rattle.cover.proofs.first_fault.Reads as first-fault-reads
-use Rattle.cover.proofs.write.put_vertices.Reads as put-vertices-reads
 
 first-fault-requires : tie.Need-first-fault-requires
 first-fault-requires c κs = search needs

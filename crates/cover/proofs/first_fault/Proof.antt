@@ -4,9 +4,6 @@ use Rattle.cover.proofs.Faults.{second-at-most, fault-of-first, fault-o
 use borrow.Author.Needs.{needs}
 use Rattle.cover.proofs.first_fault.Statement.{statement}
 use Rattle.cover.proofs.first_fault.Tie as tie
-use Rattle.cover.proofs.first_fault.Reads as reads
-use Rattle.cover.proofs.first_fault.Lts as lts
-use Rattle.boxes.proofs.Box.fault.Reads as fault-reads
 
 fault-requires : tie.Need-fault-requires
 fault-requires c κs = search needs

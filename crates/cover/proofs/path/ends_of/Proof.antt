@@ -4,10 +4,6 @@ use Rattle.cover.proofs.Spans.{ends-are}
 use borrow.Author.Needs.{needs}
 use Rattle.cover.proofs.path.ends_of.Statement.{statement}
 use Rattle.cover.proofs.path.ends_of.Tie as tie
-use Rattle.cover.proofs.path.ends_of.Reads as reads
-use Rattle.cover.proofs.path.ends_of.Lts as lts
-use Rattle.cover.proofs.path.joined.Reads as joined-reads
-use Rattle.cover.proofs.path.reached.Reads as reached-reads
 
 joined-requires : tie.Need-joined-requires
 joined-requires c κs = search needs

@@ -2,8 +2,6 @@
 use Rattle.cover.proofs.Spans.{higher-then, higher-else}
 use Rattle.cover.proofs.path.higher.Statement.{statement}
 use Rattle.cover.proofs.path.higher.Tie as tie
-use Rattle.cover.proofs.path.higher.Reads as reads
-use Rattle.cover.proofs.path.higher.Lts as lts
 
 returns : tie.Need-returns
 returns c = higher-then (c .before .fits .a) (c .before .fits .b) (c .if1 .taken)

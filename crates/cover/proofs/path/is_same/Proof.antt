@@ -3,8 +3,6 @@ use Rattle.integers.proofs.Between.{number-fits}
 use Rattle.cover.proofs.Spans.{same-by-y, same-by-x}
 use Rattle.cover.proofs.path.is_same.Statement.{statement}
 use Rattle.cover.proofs.path.is_same.Tie as tie
-use Rattle.cover.proofs.path.is_same.Reads as reads
-use Rattle.cover.proofs.path.is_same.Lts as lts
 
 returns : tie.Need-returns
 returns c =

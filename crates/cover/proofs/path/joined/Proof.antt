@@ -4,10 +4,6 @@ use Rattle.cover.proofs.Spans.{joined-is}
 use borrow.Author.Needs.{needs}
 use Rattle.cover.proofs.path.joined.Statement.{statement}
 use Rattle.cover.proofs.path.joined.Tie as tie
-use Rattle.cover.proofs.path.joined.Reads as reads
-use Rattle.cover.proofs.path.joined.Lts as lts
-use Rattle.cover.proofs.path.higher.Reads as higher-reads
-use Rattle.cover.proofs.path.lower.Reads as lower-reads
 
 lower-requires : tie.Need-lower-requires
 lower-requires c κs = search needs

@@ -2,8 +2,6 @@
 use Rattle.cover.proofs.Spans.{lower-then, lower-else}
 use Rattle.cover.proofs.path.lower.Statement.{statement}
 use Rattle.cover.proofs.path.lower.Tie as tie
-use Rattle.cover.proofs.path.lower.Reads as reads
-use Rattle.cover.proofs.path.lower.Lts as lts
 
 returns : tie.Need-returns
 returns c = lower-then (c .before .fits .a) (c .before .fits .b) (c .if1 .taken)

@@ -4,9 +4,6 @@ use Rattle.cover.proofs.Spans.{reached-first, reached-second, reached-b
 use borrow.Author.Needs.{needs}
 use Rattle.cover.proofs.path.reached.Statement.{statement}
 use Rattle.cover.proofs.path.reached.Tie as tie
-use Rattle.cover.proofs.path.reached.Reads as reads
-use Rattle.cover.proofs.path.reached.Lts as lts
-use Rattle.cover.proofs.path.joined.Reads as joined-reads
 
 returns : tie.Need-returns
 returns c = reached-first (c .before .fits .a) (c .before .fits .b) _ _ (c .if1 .taken)

@@ -8,8 +8,6 @@ use Rattle.cover.proofs.Writing.{two-sets}
 use borrow.Author.Needs.{needs}
 use Rattle.cover.proofs.write.put_point.Statement.{statement}
 use Rattle.cover.proofs.write.put_point.Tie as tie
-use Rattle.cover.proofs.write.put_point.Reads as reads
-use Rattle.cover.proofs.write.put_point.Lts as lts
 
 mul-at : tie.Need-mul-at
 mul-at c = search needs

@@ -5,10 +5,6 @@ use Rattle.cover.proofs.Writing.{unless-same, unless-new}
 use borrow.Author.Needs.{needs}
 use Rattle.cover.proofs.write.put_unless.Statement.{statement}
 use Rattle.cover.proofs.write.put_unless.Tie as tie
-use Rattle.cover.proofs.write.put_unless.Reads as reads
-use Rattle.cover.proofs.write.put_unless.Lts as lts
-use Rattle.cover.proofs.path.is_same.Reads as is-same-reads
-use Rattle.cover.proofs.write.put_point.Reads as put-point-reads
 
 is-same-requires : tie.Need-is-same-requires
 is-same-requires c κs = search needs

@@ -7,12 +7,6 @@ use Rattle.cover.proofs.Spans.{vertices-are}
 use borrow.Author.Needs.{needs}
 use Rattle.cover.proofs.write.put_vertices.Statement.{statement}
 use Rattle.cover.proofs.write.put_vertices.Tie as tie
-use Rattle.cover.proofs.write.put_vertices.Reads as reads
-use Rattle.cover.proofs.write.put_vertices.Lts as lts
-use Rattle.cover.proofs.path.across.Reads as across-reads
-use Rattle.cover.proofs.path.ends_of.Reads as ends-of-reads
-use Rattle.cover.proofs.path.upright.Reads as upright-reads
-use Rattle.cover.proofs.write.put_path.Reads as put-path-reads
 
 across-requires : tie.Need-across-requires
 across-requires c κs = search needs
@@ -44,7 +38,7 @@ returns c =
     let v = p .before .before .before .before in
     let s = v .before .before .before .before in
     let e = vertices-are (s .args .first) (s .args .second) (v .before .before .before .across .ensures) (v .before .before .across2 .ensures) (v .before .upright .ensures) (v .upright2 .ensures)
-        (p .before .before .ends-of .ensures) (p .before .ends-of2 .ensures) in
+    (p .before .before .ends-of .ensures) (p .before .ends-of2 .ensures) in
     (p .put-path .ensures .0 ∙ ap length e, p .put-path .ensures .1 ∙ ap (λ ps. sets (s .args .list .now) 0 (numbers ps)) e)
 
 pub put-vertices-spec : {M : Type 1} → statement M
