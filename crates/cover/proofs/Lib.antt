@@ -10,3 +10,4 @@ pub mod Quarter
 pub mod Walk
 pub mod Hulls
 pub mod Theorems
+pub mod Mixtures
