@@ -22,8 +22,8 @@ extern "C" {
 /* The largest number of a box and of a point, in sixteenths of a stage unit; its negative is the least. */
 #define CONTOUR_BAND_FARTHEST 536870912
 
-/* The refusals, in the order in which they are tried: 1 to 8 by banding, 9 to 11 by judging. 5, 2, 3 and 4 are tried curve
- * by curve. The spot stands beside each. */
+/* The refusals, in the order in which they are tried: 1 to 8 by banding, 9 to 11 by judging, 12 and 13 by drawing. 5, 2, 3
+ * and 4 are tried curve by curve. The spot stands beside each. */
 enum contour_band_refusal {
     CONTOUR_BAND_ACCEPTED = 0,         /* nothing is refused; 0 */
     CONTOUR_BAND_TOLERANCE = 1,        /* the tolerance is outside its range; 0 */
@@ -36,7 +36,9 @@ enum contour_band_refusal {
     CONTOUR_BAND_TOO_FEW_RECORDS = 8,  /* records_length is less than 18 * leaves; the number of leaves */
     CONTOUR_BAND_LEAVES_LENGTH = 9,    /* leaves_length is 0 or no multiple of 18; leaves_length */
     CONTOUR_BAND_LEAVES_NUMBER = 10,   /* a number of the leaves is bad, see contour_judge; the index of the first such */
-    CONTOUR_BAND_POINT = 11            /* a coordinate of the point is beyond the farthest; 0 for x, else 1 */
+    CONTOUR_BAND_POINT = 11,           /* a coordinate of the point is beyond the farthest; 0 for x, else 1 */
+    CONTOUR_BAND_BOX_NUMBER = 12,      /* a number of two boxes is bad, see contour_draw; its place, 0 to 7 */
+    CONTOUR_BAND_TOO_FEW_VERTICES = 13 /* vertices_length is less than 16; vertices_length */
 };
 
 /* What banding answers. */
@@ -111,12 +113,6 @@ struct contour_band_outcome contour_band_and_judge(const int32_t *outline, size_
                                                    int32_t *records, size_t records_length, int32_t x, int32_t y);
 /* How many numbers drawing asks for: x and y of eight vertices. */
 #define CONTOUR_BAND_VERTEX_ROOM 16
-
-/* The refusals of drawing, in the order in which they are tried. The spot stands beside each. */
-enum contour_band_drawing_refusal {
-    CONTOUR_BAND_BOX_NUMBER = 12,        /* a number of a box beyond its range, or a low above its high; its place, 0 to 7 */
-    CONTOUR_BAND_TOO_FEW_VERTICES = 13   /* vertices_length is less than 16; vertices_length */
-};
 
 /* A box: what lies from the lows to the highs, edges included, in sixteenths of a stage unit. */
 struct contour_band_box {
