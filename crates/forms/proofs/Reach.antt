@@ -1,10 +1,10 @@
--- How far a line reaches: at least nine bytes past its start, and not past the text.
+-- How far a line reaches: at least nine bytes past its start, and not past the text. And a curve's degree is 1, 2 or 3.
 use mathlib.Core.Path.{_≡_, refl, sym, _∙_, subst}
 use mathlib.Core.Bool.{Bool, true, false, _&&_, cond}
 use mathlib.Core.List.{List}
 use Prim.Native.Nat.{ℕ, _+_, _≤_}
 use native.Mathlib.Omega.{arith}
-use lib.Dec.{leb, eqb}
+use lib.Dec.{leb, eqb, lit≤}
 use lib.ListN.{drop, length}
 use lib.IntN.{ℤ, pos}
 use Rattle.numerals.specs.declared.Natural.{Natural}
@@ -101,11 +101,20 @@ pub record Ended (i n j : ℕ) : Type 0 where
   pub past : i + 9 ≤ j
   pub inside : j ≤ n
 
+pub record OneToThree (d : ℤ) : Type 0 where
+  pub natural : ℕ
+  pub is : d ≡ pos natural
+  pub least : 1 ≤ natural
+  pub most : natural ≤ 3
+
 abbrev pub Reaches : ℕ → ℕ → Form → Type 0
 Reaches i n (Tolerance t j) = Ended i n j
-Reaches i n (Curve p j) = Ended i n j
+Reaches i n (Curve p j) = Ended i n j × OneToThree (p .degree)
 Reaches i n (Point x y j) = Ended i n j
 Reaches i n NoForm = Unit
+
+degree : (d : ℕ) → 1 ≤ d → d ≤ 3 → OneToThree (pos d)
+degree d l h = record { natural = d; is = refl; least = l; most = h }
 
 module _ (s : List ℕ) (i : ℕ) where
   closed : (f : ℕ → Form) (j : ℕ) → (Ended i (length s) (j + 2) → Reaches i (length s) (f (j + 2))) → i + 9 ≤ j + 2 → (t : Bool) → t ≡ wordAt closing s j
@@ -118,28 +127,28 @@ module _ (s : List ℕ) (i : ℕ) where
   with-pair j (IsPair x y k) h f g a b = a x y k h
   with-pair j NoPair h f g a b = b
 
-  end-reaches : (p : Points) (j : ℕ) → i + 9 ≤ j + 2 → Reaches i (length s) (curveEnd s j p)
+  end-reaches : (p : Points) (j : ℕ) → OneToThree (p .degree) → i + 9 ≤ j + 2 → Reaches i (length s) (curveEnd s j p)
   unfolding curveEnd
-  end-reaches p j h = closed (Curve p) j (λ b. b) h (wordAt closing s j) refl
+  end-reaches p j d h = closed (Curve p) j (λ b. (b, d)) h (wordAt closing s j) refl
 
-  fourth-reaches : (p : Points) (j : ℕ) → i + 9 ≤ j + 2 → Reaches i (length s) (curveFourth s j p)
+  fourth-reaches : (p : Points) (j : ℕ) → OneToThree (p .degree) → i + 9 ≤ j + 2 → Reaches i (length s) (curveFourth s j p)
   unfolding curveFourth
-  fourth-reaches p j h =
+  fourth-reaches p j d h =
       with-pair j (spacedPairAt s j) (spaced-from s j) _ (curveEnd s j p)
-      (λ x y k l. end-reaches (points (pos 3) (p .x0) (p .y0) (p .x1) (p .y1) (p .x2) (p .y2) x y) k (omega arith)) (end-reaches p j h)
+      (λ x y k l. end-reaches (points (pos 3) (p .x0) (p .y0) (p .x1) (p .y1) (p .x2) (p .y2) x y) k (degree 3 (lit≤ tt) (lit≤ tt)) (omega arith)) (end-reaches p j d h)
 
-  third-reaches : (p : Points) (j : ℕ) → i + 9 ≤ j + 2 → Reaches i (length s) (curveThird s j p)
+  third-reaches : (p : Points) (j : ℕ) → OneToThree (p .degree) → i + 9 ≤ j + 2 → Reaches i (length s) (curveThird s j p)
   unfolding curveThird
-  third-reaches p j h =
+  third-reaches p j d h =
       with-pair j (spacedPairAt s j) (spaced-from s j) _ (curveEnd s j p)
-      (λ x y k l. fourth-reaches (points (pos 2) (p .x0) (p .y0) (p .x1) (p .y1) x y (p .x3) (p .y3)) k (omega arith)) (end-reaches p j h)
+      (λ x y k l. fourth-reaches (points (pos 2) (p .x0) (p .y0) (p .x1) (p .y1) x y (p .x3) (p .y3)) k (degree 2 (lit≤ tt) (lit≤ tt)) (omega arith)) (end-reaches p j d h)
 
   curve-reaches : Reaches i (length s) (curveAt s (i + 6))
   unfolding curveAt
   curve-reaches =
       with-pair (i + 6) (spacedPairAt s (i + 6)) (spaced-from s (i + 6)) _ NoForm
       (λ x0 y0 j l. with-pair j (spacedPairAt s j) (spaced-from s j) _ NoForm
-      (λ x1 y1 k m. third-reaches (points (pos 1) x0 y0 x1 y1 (pos 0) (pos 0) (pos 0) (pos 0)) k (omega arith)) tt) tt
+      (λ x1 y1 k m. third-reaches (points (pos 1) x0 y0 x1 y1 (pos 0) (pos 0) (pos 0) (pos 0)) k (degree 1 (lit≤ tt) (lit≤ tt)) (omega arith)) tt) tt
 
   point-reaches : Reaches i (length s) (pointAt s (i + 6))
   unfolding pointAt
@@ -170,8 +179,14 @@ module _ (s : List ℕ) (i : ℕ) where
     pub tolerance-ended : (t : ℤ) (j : ℕ) → f ≡ Tolerance t j → Ended i (length s) j
     tolerance-ended t j g = subst (Reaches i (length s)) (sym e ∙ g) form-reaches
 
+    curve-reached : (p : Points) (j : ℕ) → f ≡ Curve p j → Ended i (length s) j × OneToThree (p .degree)
+    curve-reached p j g = subst (Reaches i (length s)) (sym e ∙ g) form-reaches
+
     pub curve-ended : (p : Points) (j : ℕ) → f ≡ Curve p j → Ended i (length s) j
-    curve-ended p j g = subst (Reaches i (length s)) (sym e ∙ g) form-reaches
+    curve-ended p j g = curve-reached p j g .0
+
+    pub curve-degree : (p : Points) (j : ℕ) → f ≡ Curve p j → OneToThree (p .degree)
+    curve-degree p j g = curve-reached p j g .1
 
     pub point-ended : (x y : ℤ) (j : ℕ) → f ≡ Point x y j → Ended i (length s) j
     point-ended x y j g = subst (Reaches i (length s)) (sym e ∙ g) form-reaches
