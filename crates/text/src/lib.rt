@@ -6,8 +6,13 @@ ghost use lib.ListN.{length};
 ghost use Rattle.text.specs.Lines.{linesFrom, linesOf};
 ghost use Rattle.text.specs.Meaning.{faultFrom, meaningOf, meaning, checkedOf};
 ghost use Rattle.text.specs.Orders.{orderOf};
+ghost use Rattle.text.specs.Outlines.{kept};
+ghost use Rattle.appends.specs.Appends.{Appended};
 use forms::Form;
+use keep::fill;
 use refusals::Refusal;
+
+mod keep;
 
 // What the checks of a text find: its tolerance, or the first fault.
 pub enum Checked {
@@ -29,6 +34,14 @@ pub fn check_text(text: &[u8]) -> Checked
         return Checked::Refused(Refusal::TextTooLong(16385));
     }
     check_lines(text)
+}
+
+// Puts the outline of a text at the front of a list, as far as the checks of an outline of 64 curves look at it, and answers how many numbers that are. Every
+// text may be asked about; of one that is refused, the lines up to the first that is no form.
+pub fn keep_outline(text: &[u8], numbers: &mut [i32; 577]) -> usize
+    ensures { λ r. ⌜ Appended (now (numbers .entry)) 0 (kept 64 (linesOf (now (text .entry)))) (now (numbers .exit)) r ⌝ }
+{
+    fill(text, numbers)
 }
 
 // Checks 14 and 15 of a text.
@@ -69,13 +82,14 @@ fn check_rest(text: &[u8], at: usize) -> Order
                     return Order::Refused(Refusal::OutOfOrder(line));
                 }
                 i = next;
+                line += 1;
             }
             Form::Point(_, _, next) => {
                 late = true;
                 i = next;
+                line += 1;
             }
         }
-        line += 1;
     }
     Order::Fine
 }

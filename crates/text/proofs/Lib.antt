@@ -1,0 +1,4 @@
+-- Laws of texts. Each file opens with what it holds.
+pub mod Lines
+pub mod Faults
+pub mod Filling
