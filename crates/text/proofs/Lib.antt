@@ -2,3 +2,7 @@
 pub mod Lines
 pub mod Faults
 pub mod Filling
+pub mod Gathering
+pub mod Accepted
+pub mod Kept
+pub mod Examples
