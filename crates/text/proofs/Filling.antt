@@ -75,7 +75,7 @@ pub record Keeping (s : List ℕ) (d o : List ℤ) (at i left : ℕ) : Type 0 wh
   pub size : length o ≡ length d
   pub room : at + 9 * left + 1 ≤ length d
 
-few-numbers : (p : Points) → length (numbersOf p) ≤ 9
+pub few-numbers : (p : Points) → length (numbersOf p) ≤ 9
 unfolding numbersOf
 few-numbers p = either (ltZ (p .degree) (pos 2)) (ltZ (p .degree) (pos 3))
   where

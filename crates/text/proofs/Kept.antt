@@ -29,6 +29,7 @@ use Rattle.forms.proofs.Reach.{OneToThree, Reaches, form-reaches}
 use Rattle.text.specs.Lines.{onward, linesFrom, linesOf, gather}
 use Rattle.text.specs.Meaning.{numbersOf, curveNumbers, Meaning, means, meaningOf, meaning}
 use Rattle.text.specs.Outlines.{kept}
+use Rattle.text.proofs.Filling.{few-numbers}
 use Rattle.text.proofs.Accepted.{accepted}
 
 -- ---- two lists with the same numbers before index e
@@ -212,3 +213,13 @@ kept-lines (CurveLine p j ∷ ls) d most =
 pub outline-kept : (most : ℕ) (s : List ℕ) (T : ℤ) (outline : List ℤ) (points : List (ℤ × ℤ)) → meaning s ≡ means T outline points → outlined most (kept most (linesOf s)) ≡ outlined most outline
 unfolding linesOf
 outline-kept most s T outline points e = kept-lines (linesOf s) (lines-degrees (length s) s 0) most ∙ ap (outlined most) (sym (accepted s T outline points e .outline))
+
+-- ---- and it is no more than nine numbers a curve, and one
+pub kept-few : (most : ℕ) (ls : List Form) → length (kept most ls) ≤ 9 * most + 1
+unfolding kept
+kept-few most [] = omega arith
+kept-few most (Tolerance t j ∷ ls) = kept-few most ls
+kept-few most (Point x y j ∷ ls) = kept-few most ls
+kept-few most (NoForm ∷ ls) = kept-few most ls
+kept-few zero (CurveLine p j ∷ ls) = omega arith
+kept-few (suc most) (CurveLine p j ∷ ls) = omega (arith, length-append (numbersOf p) (kept most ls), few-numbers p, kept-few most ls)
