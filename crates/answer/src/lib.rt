@@ -14,13 +14,7 @@ use text::Checked;
 pub fn band_text(text: &[u8], numbers: &mut [i32; 577], records: &mut [i32]) -> Banded
     ensures { λ r. ⌜ (r ≡ bandOf (meaning (now (text .entry))) (length (now (records .entry)))) × (now (records .exit) ≡ recordsOf (meaning (now (text .entry))) (now (records .entry))) ⌝ }
 {
-    match text::check_text(text) {
-        Checked::Refused(refusal) => Banded::Refused(refusal),
-        Checked::Tolerance(tolerance) => {
-            let n = text::keep_outline(text, numbers);
-            band::band(&numbers[..n], tolerance, records)
-        }
-    }
+    band_text_in(text, numbers, records)
 }
 
 // The lines of a band: the leaves and the report, or the refusal.
@@ -37,6 +31,20 @@ pub fn put_band(band: Banded, records: &[i32], out: &mut [u8], at: usize) -> usi
         } => {
             let i = render::put_leaves(records, leaves, out, at);
             render::put_done(out, i, curves, leaves, nodes)
+        }
+    }
+}
+
+// The same with room for the outline's numbers in a list.
+fn band_text_in(text: &[u8], numbers: &mut [i32], records: &mut [i32]) -> Banded
+    requires { ⌜ 577 ≤ length (now numbers) ⌝ }
+    ensures { λ r. ⌜ (r ≡ bandOf (meaning (now (text .entry))) (length (now (records .entry)))) × (now (records .exit) ≡ recordsOf (meaning (now (text .entry))) (now (records .entry))) ⌝ }
+{
+    match text::check_text(text) {
+        Checked::Refused(refusal) => Banded::Refused(refusal),
+        Checked::Tolerance(tolerance) => {
+            let n = text::keep_outline(text, numbers);
+            band::band(&numbers[..n], tolerance, records)
         }
     }
 }

@@ -1,5 +1,5 @@
 -- A text that is accepted: its size, and its outline and points over all of its lines.
-use mathlib.Core.Path.{_≡_, refl, sym, _∙_}
+use mathlib.Core.Path.{_≡_, refl}
 use mathlib.Core.Bool.{Bool, true, false, cond}
 use mathlib.Core.List.{List, [], _∷_}
 use mathlib.Core.Option.{Option, none, some}
@@ -14,7 +14,7 @@ use Rattle.refusals.specs.declared.Refusal.the-variants.{TextTooLong}
 use Rattle.forms.specs.declared.Form.{Form}
 use Rattle.forms.specs.declared.Form.the-variants.{Tolerance, Curve, Point, NoForm}
 use Rattle.text.specs.Lines.{linesOf, gather}
-use Rattle.text.specs.Meaning.{curveNumbers, pointOf, faultFrom, Meaning, refused, means, unless, meaningOf, mostBytes, meaning}
+use Rattle.text.specs.Meaning.{curveNumbers, pointOf, faultFrom, refused, means, unless, meaningOf, mostBytes, meaning}
 
 pub record AcceptedText (s : List ℕ) (ns : List ℤ) (ps : List (ℤ × ℤ)) : Type 0 where
   pub size : length s ≤ mostBytes

@@ -3,7 +3,7 @@ use mathlib.Core.Path.{_≡_, refl}
 use mathlib.Core.List.{List, [], _∷_, _++_}
 use Prim.Native.Nat.{ℕ}
 use lib.IntN.{pos}
-use lib.ListN.{length, replicate}
+use lib.ListN.{replicate}
 use Rattle.refusals.specs.declared.Refusal.the-variants.{NotAForm, OutOfOrder, TextTooLong}
 use Rattle.numerals.specs.Numerals.{valueFrom, digitCount, naturalAt, numberAt}
 use Rattle.forms.specs.Forms.{startsWith, numberThen, pairAt, spacedPairAt, toleranceAt, pointAt, curveEnd, curveFourth, curveThird, curveAt, formAt}

@@ -9,8 +9,7 @@ use borrow.Author.Tests.{lt-ltb, le-ltb}
 use lib.ListN.{length}
 use lib.IntN.{ℤ}
 use lib.Signed.{mag}
-use mir.Syntax.{w32, w64}
-use mir.Val.{Fits}
+use mir.Syntax.{w32}
 use Rattle.integers.proofs.Ranges.{stored, read-again}
 use Rattle.refusals.specs.declared.Refusal.{Refusal}
 use Rattle.refusals.specs.declared.Refusal.the-variants.{NotAForm, OutOfOrder, TextTooLong}
@@ -18,13 +17,13 @@ use Rattle.forms.specs.declared.Points.{Points}
 use Rattle.forms.specs.declared.Form.{Form}
 use Rattle.forms.specs.declared.Form.the-variants.{Tolerance, Curve, Point, NoForm}
 use Rattle.forms.specs.Forms.{formAt}
-use Rattle.forms.proofs.Reach.{Ended, curve-ended, point-ended}
+use Rattle.forms.proofs.Reach.{curve-ended, point-ended}
 use Rattle.text.specs.declared.Order.{Order}
 use Rattle.text.specs.declared.Order.the-variants.{Fine, Refused as Stopped}
 use Rattle.text.specs.declared.Checked.{Checked}
 use Rattle.text.specs.declared.Checked.the-variants.{Tolerance as Accepted, Refused}
 use Rattle.text.specs.Lines.{linesFrom, linesOf, gather}
-use Rattle.text.specs.Meaning.{curveNumbers, pointOf, faultFrom, meaningOf, meaning, Meaning, means, refused, unless, checkedOf}
+use Rattle.text.specs.Meaning.{curveNumbers, pointOf, faultFrom, meaningOf, meaning, means, unless, checkedOf}
 use Rattle.text.specs.Orders.{orderOf}
 use Rattle.text.proofs.Lines.{linesLeft, lines-over, lines-start, line-none, line-tolerance, line-curve, line-point}
 

@@ -14,11 +14,9 @@ use lib.Signed.{ltZ}
 use Rattle.integers.specs.Entry.{entry}
 use Rattle.refusals.specs.declared.Refusal.{Refusal}
 use Rattle.refusals.specs.declared.Refusal.the-variants.{TooManyCurves}
-use Rattle.bezier.specs.declared.Curve.{Curve}
 use Rattle.bezier.proofs.Values.{listed-ext}
 use Rattle.outline.specs.Curves.{coordinates, degreeAt, nextAt, values, curveAt}
-use Rattle.outline.specs.Checks.{between, coordinateFine, firstBeyond, faultAt, foundOf, faultOf, Outlined, faulty, withCurve, outlineFrom, outlined}
-use Rattle.outline.specs.declared.faults.Fault.{Fault}
+use Rattle.outline.specs.Checks.{between, coordinateFine, firstBeyond, faultAt, foundOf, faultOf, faulty, withCurve, outlineFrom, outlined}
 use Rattle.outline.proofs.Faultless.{coordinateFault, fault-degree, fault-coordinate}
 use Rattle.outline.proofs.Steps.{outline-full, outline-faulty, outline-step}
 use Rattle.forms.specs.declared.Points.{Points}
@@ -27,7 +25,7 @@ use Rattle.forms.specs.declared.Form.the-variants.{Tolerance, Curve as CurveLin
 use Rattle.forms.specs.Forms.{formAt}
 use Rattle.forms.proofs.Reach.{OneToThree, Reaches, form-reaches}
 use Rattle.text.specs.Lines.{onward, linesFrom, linesOf, gather}
-use Rattle.text.specs.Meaning.{numbersOf, curveNumbers, Meaning, means, meaningOf, meaning}
+use Rattle.text.specs.Meaning.{numbersOf, curveNumbers, means, meaning}
 use Rattle.text.specs.Outlines.{kept}
 use Rattle.text.proofs.Filling.{few-numbers}
 use Rattle.text.proofs.Accepted.{accepted}

@@ -1,0 +1,2 @@
+-- Laws of the answer to a text. Each file opens with what it holds.
+pub mod Bands
