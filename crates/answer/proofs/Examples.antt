@@ -1,6 +1,6 @@
 -- Document 01's text up to its points: from the bytes read to the bytes of the leaf and done lines, by computation.
 use mathlib.Core.Path.{_≡_, refl}
-use mathlib.Core.List.{List, [], _∷_, _++_}
+use mathlib.Core.List.{List, [], _∷_}
 use Prim.Native.Nat.{ℕ}
 use lib.ListN.{length, replicate}
 use lib.IntN.{ℤ, pos, pow, one}

@@ -1,4 +1,4 @@
--- A number is read exactly as it is written: the bytes that a number was read from are the bytes that writing it gives.
+-- A number is read only where it is written: the bytes that it was read from are those that writing it gives.
 use mathlib.Core.Path.{_≡_, refl, sym, ap, ap₂, _∙_, subst}
 use mathlib.Core.Bool.{Bool, true, false, _&&_, cond}
 use mathlib.Core.List.{List, [], _∷_, _++_, append-assoc, append-nil}
@@ -18,6 +18,7 @@ use Rattle.numerals.specs.Numerals.{byte, isDigit, valueFrom, digitCount, natur
 use Rattle.numerals.proofs.Places.{byte-first, byte-inside}
 use Rattle.numerals.proofs.Runs.{value-grows}
 use Rattle.decimals.specs.Decimals.{digits, decimal}
+use Rattle.exact_lines.specs.Written.{Written}
 
 -- ---- how many places are allowed does not matter, where there are enough
 one-more : (p k n : ℕ) → 10 ≤ n → digits p (n / 10) ≡ digits k (n / 10) → digits (suc p) n ≡ digits (suc k) n
@@ -54,10 +55,11 @@ last-digit p v d l h =
     let g : 10 ≤ 10 * v + d = omega arith in
     simp (le-ltb _ _ g, q, r)
 
--- ---- a digit is a byte from 48 to 57
-clash : {X : Type 0} → _≡_ {A = ℕ} 0 1 → X
+-- ---- two constructors are never equal
+pub clash : {X : Type 0} → _≡_ {A = ℕ} 0 1 → X
 clash e = absurd (omega arith)
 
+-- ---- a digit is a byte from 48 to 57
 and-true : (a b : Bool) → (a && b) ≡ true → (a ≡ true) × (b ≡ true)
 and-true true true e = (refl, refl)
 and-true true false e = clash (cc)
@@ -101,10 +103,6 @@ value-below (b ∷ bs) p v h = either (isDigit b) refl (λ g. value-below bs (su
         subst (λ (m : ℕ). valueFrom (10 * v + (b - 48)) bs < 10 ^ m) places (again (digit-range b e .1))
 
 -- ---- a natural
-pub record Written (s : List ℕ) (i j : ℕ) (bytes : List ℕ) : Type 0 where
-  pub bytes-there : drop i s ≡ bytes ++ drop j s
-  pub end-there : j ≡ i + length bytes
-
 first-digit : (b : ℕ) (bs : List ℕ) → 49 ≤ b → b ≤ 57 → (valueFrom 0 (b ∷ bs) ≡ valueFrom (b - 48) bs) × (digitCount (b ∷ bs) ≡ suc (digitCount bs))
 unfolding valueFrom digitCount
 first-digit b bs l h =
@@ -167,13 +165,15 @@ natural-written s i n j e =
     go : (b : ℕ) (bs : List ℕ) → 49 ≤ b → b ≤ 57 → drop i s ≡ b ∷ bs → valueFrom 0 (drop i s) ≤ 2147483648 → valueFrom 0 (drop i s) ≡ n → i + digitCount (drop i s) ≡ j
         → Written s i j (digits 10 n) × (1 ≤ n)
     go b bs l h q k p r =
-        let front : take (digitCount (drop i s)) (drop i s) ≡ digits 10 n = rw q (natural-bytes b bs l h (rw q at k)) ∙ ap (digits 10) (rw q at p) in
-        (record {
-          bytes-there =
-              sym (take-append-drop (digitCount (drop i s)) (drop i s))
-              ∙ ap₂ (λ (xs ys : List ℕ). xs ++ ys) front (drop-drop (digitCount (drop i s)) i s ∙ ap (λ (m : ℕ). drop m s) r);
-          end-there = sym r ∙ ap (λ (m : ℕ). i + m) (sym (length-take-le (digitCount (drop i s)) (drop i s) (count-inside (drop i s))) ∙ ap length front);
-        }, subst (λ (m : ℕ). 1 ≤ m) (rw q at p) (value-grown b bs l h))
+        let front : take (digitCount (drop i s)) (drop i s) ≡ digits 10 n = rw q (natural-bytes b bs l h (rw q at k)) ∙ ap (digits 10) (rw q at p) in (
+          record {
+            bytes-there =
+                sym (take-append-drop (digitCount (drop i s)) (drop i s))
+                ∙ ap₂ (λ (xs ys : List ℕ). xs ++ ys) front (drop-drop (digitCount (drop i s)) i s ∙ ap (λ (m : ℕ). drop m s) r);
+            end-there = sym r ∙ ap (λ (m : ℕ). i + m) (sym (length-take-le (digitCount (drop i s)) (drop i s) (count-inside (drop i s))) ∙ ap length front);
+          },
+          subst (λ (m : ℕ). 1 ≤ m) (rw q at p) (value-grown b bs l h),
+        )
 
 -- ---- parts one after the other
 pub written-both : (s : List ℕ) (i j k : ℕ) (xs ys : List ℕ) → Written s i j xs → Written s j k ys → Written s i k (xs ++ ys)
