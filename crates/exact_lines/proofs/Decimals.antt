@@ -186,16 +186,16 @@ pub byte-written : (s : List ℕ) (i b : ℕ) → 0 < b → byte s i ≡ b → W
 byte-written s i b h e = record { bytes-there = byte-first s i (byte-inside s i b h e) ∙ ap (λ (c : ℕ). c ∷ drop (i + 1) s) e; end-there = refl }
 
 -- ---- a number
-negative-decimal : (n : ℕ) → 1 ≤ n → decimal (negℤ (pos n)) ≡ 45 ∷ digits 10 n
+pub negative-decimal : (n : ℕ) → 1 ≤ n → decimal (negℤ (pos n)) ≡ 45 ∷ digits 10 n
 unfolding decimal
 negative-decimal zero h = absurd (omega arith)
 negative-decimal (suc n) h = refl
 
-positive-decimal : (n : ℕ) → decimal (pos n) ≡ digits 10 n
+pub positive-decimal : (n : ℕ) → decimal (pos n) ≡ digits 10 n
 unfolding decimal
 positive-decimal n = let h : 0 ≤ n = omega arith in simp (le-ltb n 0 h)
 
-zero-decimal : decimal (pos 0) ≡ 48 ∷ []
+pub zero-decimal : decimal (pos 0) ≡ 48 ∷ []
 unfolding decimal digits
 zero-decimal = refl
 
