@@ -1,4 +1,4 @@
-/* The C interface of the contour band engine: banding an outline, drawing the hull of two boxes. */
+/* The C interface of the contour band engine: banding an outline, judging points, drawing the hull of two boxes. */
 #ifndef CONTOUR_BAND_H
 #define CONTOUR_BAND_H
 
@@ -19,8 +19,11 @@ extern "C" {
 #define CONTOUR_BAND_COORDINATE_MAX 1048576
 #define CONTOUR_BAND_CURVES_MAX 64
 
-/* The refusals of banding, in the order in which they are tried. 5, 2, 3 and 4 are tried curve by curve.
- * The spot stands beside each. */
+/* The largest number of a box and of a point, in sixteenths of a stage unit; its negative is the least. */
+#define CONTOUR_BAND_FARTHEST 536870912
+
+/* The refusals, in the order in which they are tried: 1 to 8 by banding, 9 to 11 by judging. 5, 2, 3 and 4 are tried curve
+ * by curve. The spot stands beside each. */
 enum contour_band_refusal {
     CONTOUR_BAND_ACCEPTED = 0,         /* nothing is refused; 0 */
     CONTOUR_BAND_TOLERANCE = 1,        /* the tolerance is outside its range; 0 */
@@ -30,7 +33,10 @@ enum contour_band_refusal {
     CONTOUR_BAND_CUT_SHORT = 3,        /* the outline ends inside a curve; the outline's length */
     CONTOUR_BAND_COORDINATE = 4,       /* a coordinate is outside its range; the index of the curve's first such */
     CONTOUR_BAND_TOO_WIDE = 7,         /* a node at depth 8 is wider than the tolerance; 512 * curve + node, for the first */
-    CONTOUR_BAND_TOO_FEW_RECORDS = 8   /* records_length is less than 18 * leaves; the number of leaves */
+    CONTOUR_BAND_TOO_FEW_RECORDS = 8,  /* records_length is less than 18 * leaves; the number of leaves */
+    CONTOUR_BAND_LEAVES_LENGTH = 9,    /* leaves_length is 0 or no multiple of 18; leaves_length */
+    CONTOUR_BAND_LEAVES_NUMBER = 10,   /* a number of the leaves is bad, see contour_judge; the index of the first such */
+    CONTOUR_BAND_POINT = 11            /* a coordinate of the point is beyond the farthest; 0 for x, else 1 */
 };
 
 /* What banding answers. */
@@ -60,11 +66,51 @@ struct contour_band_answer {
 struct contour_band_answer contour_band(const int32_t *outline, size_t outline_length, int32_t tolerance, int32_t *records,
                                         size_t records_length);
 
+/* What judging answers. */
+struct contour_band_judgement {
+    uint32_t refusal; /* 0 where nothing is refused, else the number of the refusal, 9 to 11 */
+    uint64_t spot;    /* the refusal's spot; 0 where nothing is refused */
+    uint32_t on;      /* 1 where the point is on the band, else 0 */
+    uint64_t leaf;    /* the number of the record that holds the point, from 0; 0 unless it is on */
+    uint64_t cover;   /* the cover of that record that holds it, 0 to 2; 0 unless it is on */
+};
+
+/* Judges a point against a list of leaf records.
+ *
+ * leaves: records as contour_band writes them, one or more, in any order. To judge against a band give exactly the records
+ *     written, without the rest of the list. A number is bad where a curve is not 0 to 63, a node not 1 to 511, a box number
+ *     beyond the farthest, or a low above its high; the last is named by the low's index.
+ * x, y: the point, in sixteenths of a stage unit.
+ *
+ * A record has covers 0, 1 and 2. Cover i is every point that lies, for some fraction s from 0 to 1, in the box
+ * (1 - s) * box i + s * box i + 1. The point is on where some cover of some record holds it, edges included. One such record
+ * and cover are named; where there are several, which one is left open.
+ *
+ * Any contents and any length are taken. The pointer must be aligned for int32_t and must not be NULL, also where the length
+ * is 0. The call alters nothing, allocates nothing, keeps nothing and always returns. */
+struct contour_band_judgement contour_judge(const int32_t *leaves, size_t leaves_length, int32_t x, int32_t y);
+
+/* What banding and judging answer together. */
+struct contour_band_outcome {
+    uint32_t refusal; /* 0 where nothing is refused, else the number of the refusal: 1 to 8 of banding, or 11 */
+    uint64_t spot;    /* the refusal's spot; 0 where nothing is refused */
+    uint64_t curves;  /* the report of banding, as in contour_band_answer; 0 where banding refuses */
+    uint64_t leaves;
+    uint64_t nodes;
+    uint32_t on;    /* the judgement, as in contour_band_judgement; 0 where anything is refused */
+    uint64_t leaf;
+    uint64_t cover;
+};
+
+/* Puts a band round an outline, then judges a point against the records written and nothing else of the list.
+ *
+ * The parameters are those of contour_band and of contour_judge, and so is what they ask of the pointers. A refusal of
+ * banding leaves the report 0 and the records as they were. A refusal of the point, 11, comes after banding: the report and
+ * the records are those of contour_band. */
+struct contour_band_outcome contour_band_and_judge(const int32_t *outline, size_t outline_length, int32_t tolerance,
+                                                   int32_t *records, size_t records_length, int32_t x, int32_t y);
 /* How many numbers drawing asks for: x and y of eight vertices. */
 #define CONTOUR_BAND_VERTEX_ROOM 16
-
-/* The greatest size of a box number, in sixteenths of a stage unit. */
-#define CONTOUR_BAND_FARTHEST 536870912
 
 /* The refusals of drawing, in the order in which they are tried. The spot stands beside each. */
 enum contour_band_drawing_refusal {

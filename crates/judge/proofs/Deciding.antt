@@ -1,13 +1,13 @@
 -- The decision is right: a cover holds a point exactly where the cuts of its four sides leave weights. A range of weights lies between two of them; each cut keeps
 -- just those on the inner side of its edge, so the range stays exact, and its low end is the witness.
-use mathlib.Core.Path.{_≡_, refl, sym, _∙_, ap}
+use mathlib.Core.Path.{_≡_, refl}
 use mathlib.Core.Logic.{_⊎_, inl, inr, ⊎-elim, _↔_}
 use mathlib.Core.Bool.{Bool, true, false, not, _&&_, _||_}
 use mathlib.Core.List.{[], _∷_}
-use Prim.Native.Nat.{ℕ, _+_, _<_}
+use Prim.Native.Nat.{ℕ}
 use lib.Dec.{lit<}
-use lib.IntN.{ℤ, pos, negℤ, _+ℤ_, _-ℤ_, _*ℤ_}
-use lib.Signed.{leZ, ltZ, _≤ℤ_, _<ℤ_}
+use lib.IntN.{ℤ, pos, _+ℤ_, _-ℤ_, _*ℤ_}
+use lib.Signed.{ltZ, _<ℤ_}
 use Rattle.integers.proofs.Ring.{sides}
 use Rattle.integers.proofs.Clash.{clash}
 use Rattle.integers.proofs.Order.{NonNeg, natural, nonneg-by, nonneg-natural, nonneg-cancel, gap, gap<, le-of-gap, nonneg, lt-le, le-or-lt, lt-by, clash-by, pos-lt, lt-pos, _+₀_, _×₀_}

@@ -3,9 +3,9 @@ use mathlib.Core.Path.{_≡_, refl, sym, _∙_, ap, ap₂, subst}
 use mathlib.Core.Logic.{⊎-elim}
 use mathlib.Core.Bool.{Bool, true, false, not, _&&_}
 use mathlib.Core.List.{List}
-use mathlib.Core.Option.{Option, none, some}
+use mathlib.Core.Option.{none, some}
 use Prim.Native.Nat.{ℕ, zero, suc, _+_, _*_, _-_, _%_, _≤_, _<_}
-use native.Mathlib.Nat.{eq-or-lt-of-le, le-of-suc-le-suc}
+use native.Mathlib.Nat.{eq-or-lt-of-le}
 use native.Mathlib.Omega.{arith}
 use lib.ListN.{length}
 use lib.IntN.{ℤ, pos, negℤ, natAbs}
@@ -15,17 +15,15 @@ use Rattle.integers.specs.First.{firstBad}
 use Rattle.integers.proofs.Clash.{clash}
 use Rattle.integers.proofs.Size.{abs-within}
 use Rattle.integers.proofs.Between.{between-low, between-high}
-use Rattle.integers.proofs.First.{orElse, bad-parts, none-bad, bad-none, bad-is}
+use Rattle.integers.proofs.First.{none-bad, bad-none, bad-is}
 use Rattle.boxes.specs.declared.Box.{Box}
 use Rattle.boxes.specs.Ranges.{farthest, inRange, lowFine, boxNumberFine, placeOr}
 use Rattle.boxes.specs.Records.{covers, recordLength, boxIndex, boxAtIndex}
 use Rattle.boxes.proofs.Faults.{place-some, place-none}
-use Rattle.judge.specs.declared.Judgement.{Judgement}
 use Rattle.judge.specs.declared.Judgement.the-variants.{On, Off}
-use Rattle.judge.specs.Covers.{CoverHolds}
-use Rattle.judge.specs.Judging.{numberFine, numberFault, Verdict}
+use Rattle.judge.specs.Judging.{numberFault, Verdict}
 use Rattle.judge.specs.Deciding.{Sized, held}
-use Rattle.judge.specs.Searching.{boxFineAt, fineAt, recordFaultAt, Passed, InRange, RecordAt, heldAt, holderAt}
+use Rattle.judge.specs.Searching.{fineAt, recordFaultAt, Passed, RecordAt, heldAt, holderAt}
 use Rattle.judge.proofs.Numbers.{gone-on, found-first, inList}
 use Rattle.judge.proofs.Deciding.{held-exactly}
 

@@ -12,7 +12,6 @@ use mir.Syntax.{w32}
 use mir.Val.{SFits}
 use mir.Facts.{toZ-ofZ}
 use Rattle.integers.specs.Entry.{entry}
-use Rattle.integers.specs.Between.{between}
 use Rattle.integers.specs.First.{firstBad}
 use Rattle.integers.proofs.Ranges.{stored, lt-yes, lt-no, le-yes, le-no, yes-lt, no-lt, yes-le, no-le}
 use Rattle.integers.proofs.First.{orElse, moved, bad-parts, bad-moved}

@@ -1,7 +1,7 @@
 -- How the code decides whether a cover holds a point. The weights u and v of the two boxes, s = v / (u + v), are kept as a range between two of them; each of the
 -- four sides cuts it by a cross product.
 use mathlib.Core.Bool.{Bool, true, false, not, _&&_, _||_}
-use Prim.Native.Nat.{ℕ, _^_, _≤_}
+use Prim.Native.Nat.{_^_, _≤_}
 use lib.IntN.{ℤ, pos, natAbs, _-ℤ_, _*ℤ_}
 use lib.Signed.{leZ, ltZ}
 use Rattle.boxes.specs.declared.Box.{Box}

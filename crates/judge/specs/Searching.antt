@@ -1,10 +1,10 @@
 -- How the code goes through a leaf list: the first bad number of a record and of its boxes, and the first cover of a record that holds a point. For private
 -- functions; places are counted from the index `at` where a record, or its boxes, begin.
-use mathlib.Core.Bool.{Bool, true, not}
+use mathlib.Core.Bool.{Bool, not}
 use mathlib.Core.List.{List}
 use mathlib.Core.Option.{Option}
 use mathlib.Core.Path.{_≡_}
-use Prim.Native.Nat.{ℕ, suc, _+_, _*_, _%_, _≤_, _<_}
+use Prim.Native.Nat.{ℕ, suc, _+_, _*_, _%_, _≤_}
 use lib.ListN.{length}
 use lib.IntN.{ℤ, natAbs}
 use Rattle.integers.specs.Entry.{entry}

@@ -3,10 +3,15 @@
 #![forbid(unsafe_code)]
 
 mod banding;
-mod covers;
+mod drawing;
+mod judging;
+mod outlines;
 mod times;
 
 fn main() {
     banding::run();
-    covers::run();
+    println!();
+    judging::run();
+    println!();
+    drawing::run();
 }

@@ -1,47 +1,72 @@
-//! Times of an engine.
+//! The times of two engines that take turns.
 
+use std::fmt;
 use std::hint::black_box;
 use std::time::{Duration, Instant};
 
 /// How long each engine is timed on each input, at least.
-pub const TIME: Duration = Duration::from_millis(400);
+const TIME: Duration = Duration::from_millis(400);
 
 /// How often each engine is timed on each input, at least.
-pub const RUNS: usize = 15;
+const RUNS: usize = 15;
+
+/// Stands above the columns that [`Comparison`] prints.
+pub const HEADING: &str = "                plain                proved proved/plain (least)";
+
+/// The times of both engines on one input.
+#[derive(Default)]
+pub struct Comparison {
+    plain: Times,
+    proved: Times,
+}
+
+/// Times both engines by turns, and gives their last answers.
+pub fn by_turns<A, B>(mut plain: impl FnMut() -> A, mut proved: impl FnMut() -> B) -> (Comparison, A, B) {
+    let mut times = Comparison::default();
+    let started = Instant::now();
+    loop {
+        let by_plain = times.plain.time(&mut plain);
+        let by_proved = times.proved.time(&mut proved);
+        if times.plain.0.len() >= RUNS && started.elapsed() >= 2 * TIME {
+            return (times, by_plain, by_proved);
+        }
+    }
+}
 
 /// Times of one engine on one input, in microseconds.
 #[derive(Default)]
-pub struct Times(Vec<f64>);
+struct Times(Vec<f64>);
 
 impl Times {
-    /// Does some work and keeps its time.
-    pub fn time<T>(&mut self, work: impl FnOnce() -> T) -> T {
+    fn time<T>(&mut self, work: impl FnOnce() -> T) -> T {
         let start = Instant::now();
         let result = black_box(work());
         self.0.push(start.elapsed().as_secs_f64() * 1e6);
         result
     }
 
-    /// How often it was timed.
-    pub fn count(&self) -> usize {
-        self.0.len()
-    }
-
-    /// The time in the middle.
-    pub fn median(&self) -> f64 {
+    fn median(&self) -> f64 {
         let mut sorted = self.0.clone();
         sorted.sort_by(f64::total_cmp);
         sorted[sorted.len() / 2]
     }
 
-    /// The least time.
-    pub fn least(&self) -> f64 {
+    fn least(&self) -> f64 {
         self.0.iter().copied().fold(f64::INFINITY, f64::min)
     }
 }
 
-impl std::fmt::Display for Times {
-    fn fmt(&self, f: &mut std::fmt::Formatter<'_>) -> std::fmt::Result {
-        write!(f, "{:.1} ({:.1})", self.median(), self.least())
+/// Median and least time of each, then both ratios.
+impl fmt::Display for Comparison {
+    fn fmt(&self, f: &mut fmt::Formatter<'_>) -> fmt::Result {
+        let column = |times: &Times| format!("{:.1} ({:.1})", times.median(), times.least());
+        write!(
+            f,
+            "{:>21} {:>21} {:>12.2} {:>7.2}",
+            column(&self.plain),
+            column(&self.proved),
+            self.proved.median() / self.plain.median(),
+            self.proved.least() / self.plain.least(),
+        )
     }
 }

@@ -2,11 +2,12 @@
 //!
 //! An outline is a list of numbers: for each curve its degree d (1, 2 or 3), then x and y of its
 //! d + 1 control points in stage units. [`band`] encloses it in boxes that are nowhere wider than
-//! a tolerance, and writes them to a list that the caller lends. [`leaves`] reads them. [`draw`]
-//! draws the convex hull of two boxes.
+//! a tolerance, and writes them to a list that the caller lends. [`leaves`] reads them. [`judge`]
+//! says of a measured point whether it lies on what the boxes cover, and [`band_and_judge`] does both.
+//! [`draw`] draws the convex hull of two boxes.
 //!
 //! ```
-//! use contour_band::{band, leaves, Refusal};
+//! use contour_band::{band, judge, leaves, Judgement, Refusal};
 //!
 //! let outline = [3, 0, 0, 10, 30, 20, 30, 30, 0];
 //! let mut records = [0; 18];
@@ -17,6 +18,10 @@
 //! assert_eq!((leaf.curve, leaf.node), (0, 1));
 //! assert_eq!((leaf.boxes[1].y.low, leaf.boxes[1].y.high), (319, 363));
 //!
+//! // The leaf's middle cover holds one point, and the next is outside.
+//! assert_eq!(judge(&records, 240, 363), Ok(Judgement::On { leaf: 0, cover: 1 }));
+//! assert_eq!(judge(&records, 240, 364), Ok(Judgement::Off));
+//!
 //! // At 43 there are two leaves, and a refusal leaves the list as it was.
 //! assert_eq!(band(&outline, 43, &mut records), Err(Refusal::TooFewRecords { leaves: 2 }));
 //! assert_eq!(records[0..2], [0, 1]);
@@ -25,11 +30,13 @@
 
 mod band;
 mod cover;
+mod judge;
 mod leaf;
 mod library;
 mod refusal;
 
 pub use band::{band, Report};
 pub use cover::{draw, VERTEX_ROOM};
+pub use judge::{band_and_judge, judge, Judgement, Outcome, FARTHEST};
 pub use leaf::{leaves, Bounds, BoxBounds, Leaf, BREAK_POINTS, RECORD};
 pub use refusal::Refusal;

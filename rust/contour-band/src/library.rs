@@ -14,6 +14,35 @@ pub struct Answer {
     pub nodes: u64,
 }
 
+/// `struct contour_band_judgement`.
+#[repr(C)]
+#[derive(Debug, Clone, Copy, PartialEq, Eq)]
+pub struct Judgement {
+    /// 0 where nothing is refused.
+    pub refusal: u32,
+    pub spot: u64,
+    /// 1 where the point is on the band, else 0.
+    pub on: u32,
+    pub leaf: u64,
+    pub cover: u64,
+}
+
+/// `struct contour_band_outcome`.
+#[repr(C)]
+#[derive(Debug, Clone, Copy, PartialEq, Eq)]
+pub struct Outcome {
+    /// 0 where nothing is refused.
+    pub refusal: u32,
+    pub spot: u64,
+    pub curves: u64,
+    pub leaves: u64,
+    pub nodes: u64,
+    /// 1 where the point is on the band, else 0.
+    pub on: u32,
+    pub leaf: u64,
+    pub cover: u64,
+}
+
 /// `struct contour_band_box`.
 #[repr(C)]
 struct Box {
@@ -42,6 +71,18 @@ extern "C" {
         records_length: usize,
     ) -> Answer;
 
+    fn contour_judge(leaves: *const i32, leaves_length: usize, x: i32, y: i32) -> Judgement;
+
+    fn contour_band_and_judge(
+        outline: *const i32,
+        outline_length: usize,
+        tolerance: i32,
+        records: *mut i32,
+        records_length: usize,
+        x: i32,
+        y: i32,
+    ) -> Outcome;
+
     fn contour_draw(first: Box, second: Box, vertices: *mut i32, vertices_length: usize) -> Drawing;
 }
 
@@ -50,6 +91,29 @@ pub fn band(outline: &[i32], tolerance: i32, records: &mut [i32]) -> Answer {
     // Safety: the slices give valid, aligned, separate parts of memory, and the function is
     // proved to stay inside them for all contents and lengths.
     unsafe { contour_band(outline.as_ptr(), outline.len(), tolerance, records.as_mut_ptr(), records.len()) }
+}
+
+/// The judgement of a point against a list of leaf records.
+pub fn judge(leaves: &[i32], x: i32, y: i32) -> Judgement {
+    // Safety: the slice gives a valid, aligned part of memory, and the function is proved to stay
+    // inside it for all contents and lengths.
+    unsafe { contour_judge(leaves.as_ptr(), leaves.len(), x, y) }
+}
+
+/// The outcome for an outline and a point. Writes to `records` as the header says.
+pub fn band_and_judge(outline: &[i32], tolerance: i32, records: &mut [i32], x: i32, y: i32) -> Outcome {
+    // Safety: as for `band`.
+    unsafe {
+        contour_band_and_judge(
+            outline.as_ptr(),
+            outline.len(),
+            tolerance,
+            records.as_mut_ptr(),
+            records.len(),
+            x,
+            y,
+        )
+    }
 }
 
 /// The answer for two boxes. Writes to `vertices` as the header says.
@@ -86,5 +150,55 @@ mod tests {
         assert_eq!(band(&steep, 2, &mut records), refused(7, 256));
         assert_eq!(band(&line, 2, &mut []), refused(8, 1));
         assert_eq!(records, [0; 18]);
+    }
+
+    const FAR: i32 = 536_870_912;
+
+    /// A segment from (0 0) to (9 0), and one from there to (9 9). The boxes are single points.
+    const LEAVES: [i32; 36] = [
+        0, 1, 0, 0, 0, 0, 9, 9, 0, 0, 9, 9, 0, 0, 9, 9, 0, 0, //
+        0, 1, 9, 9, 0, 0, 9, 9, 0, 0, 9, 9, 0, 0, 9, 9, 9, 9,
+    ];
+
+    #[test]
+    fn only_a_point_that_is_on_names_a_record_and_a_cover() {
+        let on = |leaf, cover| Judgement { refusal: 0, spot: 0, on: 1, leaf, cover };
+        assert_eq!(judge(&LEAVES, 4, 0), on(0, 0));
+        assert_eq!(judge(&LEAVES, 9, 4), on(1, 2));
+        let off = Judgement { refusal: 0, spot: 0, on: 0, leaf: 0, cover: 0 };
+        assert_eq!(judge(&LEAVES, 10, 0), off);
+        assert_eq!(judge(&LEAVES, FAR, -FAR), off);
+    }
+
+    #[test]
+    fn a_refused_point_or_list_is_not_on() {
+        let refused = |refusal, spot| Judgement { refusal, spot, on: 0, leaf: 0, cover: 0 };
+        let mut bad = LEAVES;
+        bad[1] = 512;
+        assert_eq!(judge(&[], 4, 0), refused(9, 0));
+        assert_eq!(judge(&LEAVES[..19], 4, 0), refused(9, 19));
+        assert_eq!(judge(&bad, 4, 0), refused(10, 1));
+        assert_eq!(judge(&LEAVES, -FAR - 1, FAR + 1), refused(11, 0));
+        assert_eq!(judge(&LEAVES, 4, FAR + 1), refused(11, 1));
+    }
+
+    #[test]
+    fn an_outcome_has_a_report_unless_banding_refuses() {
+        let line = [1, 0, 0, 0, 1];
+        let mut records = [0; 18];
+        let nothing =
+            Outcome { refusal: 0, spot: 0, curves: 0, leaves: 0, nodes: 0, on: 0, leaf: 0, cover: 0 };
+        let refused = Outcome { refusal: 1, ..nothing };
+        assert_eq!(band_and_judge(&line, 1, &mut records, 0, 0), refused);
+        // Refusals of banding come first.
+        let refused = Outcome { refusal: 8, spot: 1, ..nothing };
+        assert_eq!(band_and_judge(&line, 2, &mut records[..17], FAR + 1, 0), refused);
+        assert_eq!(records, [0; 18]);
+        let off = Outcome { curves: 1, leaves: 1, nodes: 1, ..nothing };
+        assert_eq!(band_and_judge(&line, 2, &mut records, 0, 17), off);
+        let refused = Outcome { refusal: 11, spot: 1, ..off };
+        assert_eq!(band_and_judge(&line, 2, &mut records, 0, FAR + 1), refused);
+        let on = Outcome { on: 1, cover: 2, ..off };
+        assert_eq!(band_and_judge(&line, 2, &mut records, 0, 15), on);
     }
 }

@@ -43,6 +43,21 @@ pub enum Refusal {
         /// How many leaves the outline has; each needs [`RECORD`](crate::RECORD) numbers.
         leaves: usize,
     },
+    /// 9: the leaf list is empty, or its length is no multiple of [`RECORD`](crate::RECORD).
+    LeafListLength {
+        /// The leaf list's length.
+        length: usize,
+    },
+    /// 10: a number of the leaf list is bad: a curve is not 0 to 63, a node is not 1 to 511, a box
+    /// number is beyond ±[`FARTHEST`](crate::FARTHEST), or a low is above its high.
+    LeafListNumber {
+        /// The index of the first such number; for a low above its high, the low's.
+        index: usize,
+    },
+    /// 11: the point's x is beyond ±[`FARTHEST`](crate::FARTHEST).
+    PointX,
+    /// 11: the point's y is beyond ±[`FARTHEST`](crate::FARTHEST), and its x is not.
+    PointY,
     /// 12: a number of two boxes is not −536,870,912 to 536,870,912, or a low is above its high.
     BoxNumber {
         /// The place of the first such number: x low, x high, y low, y high of the first box are 0 to
@@ -68,6 +83,9 @@ impl Refusal {
             Refusal::EmptyOutline => 6,
             Refusal::TooWide { .. } => 7,
             Refusal::TooFewRecords { .. } => 8,
+            Refusal::LeafListLength { .. } => 9,
+            Refusal::LeafListNumber { .. } => 10,
+            Refusal::PointX | Refusal::PointY => 11,
             Refusal::BoxNumber { .. } => 12,
             Refusal::TooFewVertices { .. } => 13,
         }
@@ -76,11 +94,13 @@ impl Refusal {
     /// The spot that document 01 gives beside the number.
     pub fn spot(self) -> u64 {
         match self {
-            Refusal::Tolerance | Refusal::EmptyOutline => 0,
-            Refusal::Degree { index } | Refusal::Coordinate { index } | Refusal::TooManyCurves { index } => {
-                index as u64
-            }
-            Refusal::CutShort { length } => length as u64,
+            Refusal::Tolerance | Refusal::EmptyOutline | Refusal::PointX => 0,
+            Refusal::PointY => 1,
+            Refusal::Degree { index }
+            | Refusal::Coordinate { index }
+            | Refusal::TooManyCurves { index }
+            | Refusal::LeafListNumber { index } => index as u64,
+            Refusal::CutShort { length } | Refusal::LeafListLength { length } => length as u64,
             Refusal::TooWide { curve, node } => 512 * curve as u64 + u64::from(node),
             Refusal::TooFewRecords { leaves } => leaves as u64,
             Refusal::BoxNumber { place } => place as u64,
@@ -92,7 +112,7 @@ impl Refusal {
     ///
     /// # Panics
     ///
-    /// Where no refusal has the number. The library is proved never to answer such a one.
+    /// Where no refusal has the number and spot. The library is proved never to answer such a one.
     pub(crate) fn new(number: u32, spot: u64) -> Refusal {
         let place = spot as usize;
         match number {
@@ -104,6 +124,10 @@ impl Refusal {
             6 => Refusal::EmptyOutline,
             7 => Refusal::TooWide { curve: place / 512, node: (spot % 512) as u32 },
             8 => Refusal::TooFewRecords { leaves: place },
+            9 => Refusal::LeafListLength { length: place },
+            10 => Refusal::LeafListNumber { index: place },
+            11 if spot == 0 => Refusal::PointX,
+            11 if spot == 1 => Refusal::PointY,
             12 => Refusal::BoxNumber { place },
             13 => Refusal::TooFewVertices { length: place },
             _ => panic!("the library answered refusal {number} at {spot}, which does not exist"),
@@ -127,6 +151,12 @@ impl fmt::Display for Refusal {
             Refusal::TooFewRecords { leaves } => {
                 write!(f, "the list has no room for {leaves} leaves")
             }
+            Refusal::LeafListLength { .. } => write!(f, "the leaf list is empty or ends inside a record"),
+            Refusal::LeafListNumber { .. } => {
+                write!(f, "a number of the leaf list is outside its range, or a low is above its high")
+            }
+            Refusal::PointX => write!(f, "the point's x is outside its range"),
+            Refusal::PointY => write!(f, "the point's y is outside its range"),
             Refusal::BoxNumber { place } => {
                 write!(f, "number {place} of the boxes is outside its range or above its high")
             }
@@ -146,7 +176,7 @@ mod tests {
     #[test]
     fn number_and_spot_are_what_the_library_answered() {
         let places = [0, 1, 17, 575, 32_767];
-        for number in (2..=8).chain(12..=13) {
+        for number in (2..=10).chain(12..=13) {
             for place in places {
                 // 6 has the spot 0 only.
                 let spot = if number == 6 { 0 } else { place };
@@ -154,7 +184,10 @@ mod tests {
                 assert_eq!((refusal.number(), refusal.spot()), (number, spot));
             }
         }
-        assert_eq!((Refusal::new(1, 0).number(), Refusal::new(1, 0).spot()), (1, 0));
+        for (number, spot) in [(1, 0), (11, 0), (11, 1)] {
+            let refusal = Refusal::new(number, spot);
+            assert_eq!((refusal.number(), refusal.spot()), (number, spot));
+        }
         assert_eq!(Refusal::new(7, 512 * 63 + 300), Refusal::TooWide { curve: 63, node: 300 });
     }
 
@@ -162,6 +195,12 @@ mod tests {
     #[should_panic(expected = "refusal 99 at 5")]
     fn an_unknown_number_is_no_refusal() {
         Refusal::new(99, 5);
+    }
+
+    #[test]
+    #[should_panic(expected = "refusal 11 at 2")]
+    fn a_point_has_two_coordinates() {
+        Refusal::new(11, 2);
     }
 
     #[test]

@@ -1,6 +1,9 @@
-//! The measured examples of document 01 that banding and drawing reach, through the public functions.
+//! The measured examples of document 01 that banding, judging and drawing reach, through the public functions.
 
-use contour_band::{band, draw, leaves, Bounds, BoxBounds, Refusal, Report, RECORD};
+use contour_band::{
+    band, band_and_judge, draw, judge, leaves, Bounds, BoxBounds, Judgement, Outcome, Refusal, Report,
+    FARTHEST, RECORD,
+};
 
 const CURVE_A: [i32; 9] = [3, 0, 0, 10, 30, 20, 30, 30, 0];
 
@@ -60,6 +63,46 @@ fn limits_and_refusals() {
     assert_eq!(refused(&steep, 2), Refusal::TooWide { curve: 0, node: 256 });
     assert_eq!(refused(&CURVE_A, 43), Refusal::TooFewRecords { leaves: 2 });
     written(&[1, 0, 0, 0, 1_048_576], 2);
+}
+
+#[test]
+fn points_of_curve_a() {
+    let (report, records) = written(&CURVE_A, 44);
+    let on = Judgement::On { leaf: 0, cover: 1 };
+    assert_eq!(judge(&records, 240, 363), Ok(on));
+    assert!(on.is_on());
+    assert_eq!(judge(&records, 240, 364), Ok(Judgement::Off));
+    assert!(!Judgement::Off.is_on());
+    let mut lent = [0; 100];
+    let mut together = |x, y| {
+        let outcome = band_and_judge(&CURVE_A, 44, &mut lent, x, y);
+        assert_eq!(lent[..RECORD], records[..]);
+        assert_eq!(lent[RECORD..], [0; 100 - RECORD]);
+        outcome
+    };
+    assert_eq!(together(240, 363), Ok(Outcome { report, judgement: Ok(on) }));
+    assert_eq!(together(240, 364), Ok(Outcome { report, judgement: Ok(Judgement::Off) }));
+    assert_eq!(together(FARTHEST, -FARTHEST), Ok(Outcome { report, judgement: Ok(Judgement::Off) }));
+    assert_eq!(together(FARTHEST + 1, 0), Ok(Outcome { report, judgement: Err(Refusal::PointX) }));
+    assert_eq!(together(0, i32::MIN), Ok(Outcome { report, judgement: Err(Refusal::PointY) }));
+}
+
+#[test]
+fn refusals_of_judging() {
+    let (_, mut records) = written(&CURVE_A, 43);
+    assert_eq!(judge(&[], 0, 0), Err(Refusal::LeafListLength { length: 0 }));
+    assert_eq!(judge(&records[1..], 0, 0), Err(Refusal::LeafListLength { length: 35 }));
+    records[RECORD] = 64;
+    assert_eq!(judge(&records, FARTHEST + 1, 0), Err(Refusal::LeafListNumber { index: 18 }));
+    records[RECORD] = 63;
+    assert_eq!(judge(&records, FARTHEST + 1, 0), Err(Refusal::PointX));
+    assert_eq!(judge(&records, 0, -FARTHEST - 1), Err(Refusal::PointY));
+    // Refusals of banding come before those of the point, and leave the list as it was.
+    let mut lent = [7; RECORD];
+    let refused = band_and_judge(&CURVE_A, 43, &mut lent, FARTHEST + 1, 0);
+    assert_eq!(refused, Err(Refusal::TooFewRecords { leaves: 2 }));
+    assert_eq!(band_and_judge(&[], 44, &mut lent, FARTHEST + 1, 0), Err(Refusal::EmptyOutline));
+    assert_eq!(lent, [7; RECORD]);
 }
 
 /// The numbers drawn for two boxes, x low, x high, y low, y high each.

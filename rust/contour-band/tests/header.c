@@ -1,4 +1,4 @@
-/* A C caller of the header: bands curve A, draws two boxes and prints the answers, to be compared by header.rs. */
+/* A C caller of the header: bands curve A, judges points, draws two boxes, and prints the answers, to be compared by header.rs. */
 #include "contour_band.h"
 
 #include <stdio.h>
@@ -6,6 +6,35 @@
 static void print(struct contour_band_answer answer) {
     printf("%u %llu %llu %llu %llu\n", (unsigned)answer.refusal, (unsigned long long)answer.spot,
            (unsigned long long)answer.curves, (unsigned long long)answer.leaves, (unsigned long long)answer.nodes);
+}
+
+static void print_judgement(struct contour_band_judgement judgement) {
+    printf("%u %llu %u %llu %llu\n", (unsigned)judgement.refusal, (unsigned long long)judgement.spot,
+           (unsigned)judgement.on, (unsigned long long)judgement.leaf, (unsigned long long)judgement.cover);
+}
+
+static void print_outcome(struct contour_band_outcome outcome) {
+    const struct contour_band_answer answer = {outcome.refusal, outcome.spot, outcome.curves, outcome.leaves, outcome.nodes};
+    print(answer);
+    printf("  %u %llu %llu\n", (unsigned)outcome.on, (unsigned long long)outcome.leaf,
+           (unsigned long long)outcome.cover);
+}
+
+static void judge(const int32_t *leaves, size_t leaves_length) {
+    print_judgement(contour_judge(leaves, leaves_length, 240, 363));
+    print_judgement(contour_judge(leaves, leaves_length, 240, 364));
+    print_judgement(contour_judge(leaves, leaves_length, 0, CONTOUR_BAND_FARTHEST));
+    print_judgement(contour_judge(leaves, leaves_length, -CONTOUR_BAND_FARTHEST - 1, 0));
+    print_judgement(contour_judge(leaves, leaves_length, 0, CONTOUR_BAND_FARTHEST + 1));
+    print_judgement(contour_judge(leaves, leaves_length + 1, 240, 363));
+    print_judgement(contour_judge(leaves + 1, leaves_length, 240, 363));
+}
+
+static void band_and_judge(const int32_t *outline, int32_t *records) {
+    print_outcome(contour_band_and_judge(outline, 9, 43, records, CONTOUR_BAND_RECORD, 240, 363));
+    print_outcome(contour_band_and_judge(outline, 9, 43, records, 2 * CONTOUR_BAND_RECORD, 300, 340));
+    print_outcome(contour_band_and_judge(outline, 9, 43, records, 2 * CONTOUR_BAND_RECORD, 240, 371));
+    print_outcome(contour_band_and_judge(outline, 9, 43, records, 2 * CONTOUR_BAND_RECORD, 0, CONTOUR_BAND_FARTHEST + 1));
 }
 
 static void draw(struct contour_band_box first, struct contour_band_box second, size_t length) {
@@ -20,7 +49,7 @@ static void draw(struct contour_band_box first, struct contour_band_box second, 
 
 int main(void) {
     const int32_t outline[9] = {3, 0, 0, 10, 30, 20, 30, 30, 0};
-    int32_t records[CONTOUR_BAND_RECORD + 1] = {0};
+    int32_t records[2 * CONTOUR_BAND_RECORD] = {0};
     records[CONTOUR_BAND_RECORD] = -1;
     print(contour_band(outline, 9, 44, records, CONTOUR_BAND_RECORD + 1));
     for (int i = 0; i <= CONTOUR_BAND_RECORD; i++) {
@@ -29,6 +58,9 @@ int main(void) {
     print(contour_band(outline, 9, CONTOUR_BAND_TOLERANCE_MIN - 1, records, CONTOUR_BAND_RECORD));
     print(contour_band(outline, 8, 44, records, CONTOUR_BAND_RECORD));
     print(contour_band(outline, 9, 43, records, CONTOUR_BAND_RECORD));
+    judge(records, CONTOUR_BAND_RECORD);
+    band_and_judge(outline, records);
+
 
     const struct contour_band_box near = {0, 1, 0, 1}, far = {3, 4, 3, 4};
     const struct contour_band_box beyond = {0, 0, 0, CONTOUR_BAND_FARTHEST + 1};

@@ -5,5 +5,10 @@
 
 pub mod banding;
 pub mod covers;
+pub mod curves;
+pub mod drawing;
+pub mod judging;
+pub mod leaf_lists;
 pub mod outlines;
 pub mod random;
+pub mod together;

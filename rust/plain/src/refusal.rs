@@ -40,6 +40,20 @@ pub enum Refusal {
         /// How many leaves the outline has.
         leaves: usize,
     },
+    /// 9: the leaf list is empty, or its length is no multiple of a record's.
+    LeafListLength {
+        /// The length of the leaf list.
+        length: usize,
+    },
+    /// 10: a number of the leaf list is bad.
+    LeafListNumber {
+        /// Where the first such number stands in the list.
+        index: usize,
+    },
+    /// 11: the point's x is beyond the range.
+    PointX,
+    /// 11: the point's y is beyond the range, and its x is not.
+    PointY,
     /// 12: a number of two boxes is beyond its range, or a low above its high.
     BoxNumber {
         /// The place of the first such number, 0 to 7.
@@ -64,6 +78,9 @@ impl Refusal {
             Refusal::EmptyOutline => 6,
             Refusal::TooWide { .. } => 7,
             Refusal::TooFewRecords { .. } => 8,
+            Refusal::LeafListLength { .. } => 9,
+            Refusal::LeafListNumber { .. } => 10,
+            Refusal::PointX | Refusal::PointY => 11,
             Refusal::BoxNumber { .. } => 12,
             Refusal::TooFewVertices { .. } => 13,
         }
@@ -72,11 +89,13 @@ impl Refusal {
     /// The one whole number that document 01 gives beside the refusal's number.
     pub fn spot(self) -> u64 {
         let spot = match self {
-            Refusal::Tolerance | Refusal::EmptyOutline => 0,
-            Refusal::Degree { index } | Refusal::Coordinate { index } | Refusal::TooManyCurves { index } => {
-                index
-            }
-            Refusal::CutShort { length } => length,
+            Refusal::Tolerance | Refusal::EmptyOutline | Refusal::PointX => 0,
+            Refusal::PointY => 1,
+            Refusal::Degree { index }
+            | Refusal::Coordinate { index }
+            | Refusal::TooManyCurves { index }
+            | Refusal::LeafListNumber { index } => index,
+            Refusal::CutShort { length } | Refusal::LeafListLength { length } => length,
             Refusal::TooWide { curve, node } => 512 * curve + node,
             Refusal::TooFewRecords { leaves } => leaves,
             Refusal::BoxNumber { place } => place,

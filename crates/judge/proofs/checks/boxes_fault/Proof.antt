@@ -1,5 +1,5 @@
 -- `judge::checks::boxes_fault` meets its contract. The loop's invariant: the numbers of the first i boxes are fine.
-use mathlib.Core.Path.{_≡_, refl, sym, _∙_, ap}
+use mathlib.Core.Path.{_≡_, refl, _∙_, ap}
 use mathlib.Core.List.{List}
 use mathlib.Core.Option.{none}
 use Prim.Native.Nat.{ℕ, _*_, _-_, _≤_}

@@ -1,11 +1,9 @@
 -- `judge::checks::number_fault` meets its contract. The loop's invariant: what lies before `at` is whole records without a fault.
-use mathlib.Core.Path.{_≡_, sym, _∙_, ap}
-use mathlib.Core.List.{List}
+use mathlib.Core.Path.{_≡_}
 use Prim.Native.Nat.{ℕ, _+_, _-_, _%_, _≤_, _<_}
 use native.Mathlib.Omega.{arith}
 use borrow.Author.Needs.{needs}
 use lib.ListN.{length}
-use lib.IntN.{ℤ}
 use Rattle.judge.proofs.Numbers.{ReadTo, read-none, read-more, record-bad, read-all}
 use Rattle.judge.proofs.checks.number_fault.Statement.{statement}
 use Rattle.judge.proofs.checks.number_fault.Tie as tie

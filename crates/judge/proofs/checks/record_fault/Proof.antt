@@ -1,5 +1,5 @@
 -- `judge::checks::record_fault` meets its contract: the curve, the node, and then the boxes.
-use mathlib.Core.Path.{_≡_, sym, _∙_, ap}
+use mathlib.Core.Path.{_≡_, _∙_, ap}
 use mathlib.Core.Bool.{true}
 use Prim.Native.Nat.{_+_}
 use native.Mathlib.Nat.{add-zero}

@@ -1,7 +1,6 @@
 -- `judge::covers::cut_sides` meets its contract: one cut, then the other.
-use mathlib.Core.Path.{sym, _∙_, ap, subst}
-use borrow.Author.Needs.{needs}
-use Rattle.judge.specs.Deciding.{SmallRange, cut}
+use mathlib.Core.Path.{_∙_, ap}
+use Rattle.judge.specs.Deciding.{cut}
 use Rattle.judge.proofs.Sizes.{kept, cut-small}
 use Rattle.judge.proofs.covers.cut_sides.Statement.{statement}
 use Rattle.judge.proofs.covers.cut_sides.Tie as tie

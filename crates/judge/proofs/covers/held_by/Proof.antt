@@ -1,6 +1,5 @@
 -- `judge::covers::held_by` meets its contract: the whole range, cut by the sides of x and then of y, has weights left where its ends are in order.
-use mathlib.Core.Path.{sym, _∙_, ap}
-use borrow.Author.Needs.{needs}
+use mathlib.Core.Path.{_∙_, ap}
 use Rattle.judge.specs.Deciding.{ordered, cutSides, whole}
 use Rattle.judge.proofs.Sizes.{sides-small, whole-small}
 use Rattle.judge.proofs.covers.held_by.Statement.{statement}

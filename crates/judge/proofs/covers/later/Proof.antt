@@ -1,7 +1,6 @@
 -- `judge::covers::later` meets its contract: the order picks one of the two.
 use mathlib.Core.Path.{sym, _∙_}
 use borrow.Author.Needs.{needs}
-use Rattle.judge.specs.Deciding.{ordered}
 use Rattle.judge.proofs.covers.later.Statement.{statement}
 use Rattle.judge.proofs.covers.later.Tie as tie
 

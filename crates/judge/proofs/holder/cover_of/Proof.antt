@@ -1,17 +1,13 @@
 -- `judge::holder::cover_of` meets its contract. The loop's invariant: none of the first i covers holds the point.
 use mathlib.Core.Path.{_≡_, sym, _∙_, subst}
-use mathlib.Core.Bool.{Bool}
-use Prim.Native.Nat.{ℕ, suc, _+_, _*_, _-_, _≤_, _<_}
+use Prim.Native.Nat.{_+_, _*_, _-_}
 use native.Mathlib.Omega.{arith}
 use borrow.Author.Needs.{needs}
-use lib.IntN.{ℤ}
 use mir.Syntax.{w64}
 use mir.Val.{toZ}
 use mir.Facts.{toZ-ofZ}
-use Rattle.boxes.specs.declared.Box.{Box}
 use Rattle.boxes.specs.Records.{boxAtIndex}
 use Rattle.judge.specs.Deciding.{Sized}
-use Rattle.judge.specs.Searching.{heldAt}
 use Rattle.judge.proofs.Holders.{held-is, Missed, missed-none, missed-more, cover-found, all-missed, box-sized}
 use Rattle.judge.proofs.holder.cover_of.Statement.{statement}
 use Rattle.judge.proofs.holder.cover_of.Tie as tie

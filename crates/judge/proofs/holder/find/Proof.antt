@@ -1,5 +1,4 @@
 -- `judge::holder::find` meets its contract. The loop's invariant: no cover of the records before `at` holds the point.
-use mathlib.Core.Path.{subst}
 use Prim.Native.Nat.{_-_}
 use native.Mathlib.Omega.{arith}
 use borrow.Author.Needs.{needs}

@@ -1,6 +1,6 @@
 //! Every pair of boxes with numbers out of a few: all equal, nested, touching, crossing and flat ones.
 
-use differential::covers::{Comparison, FARTHEST};
+use differential::drawing::{Comparison, FARTHEST};
 
 fn every_pair(name: &'static str, seed: u64, values: &[i32]) {
     let mut comparison = Comparison::new(name, seed);

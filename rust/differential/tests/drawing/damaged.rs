@@ -1,6 +1,6 @@
 //! Every fault of two boxes alone, every two faults together at every two places, and short lists.
 
-use differential::covers::{Comparison, Numbers, FARTHEST};
+use differential::drawing::{Comparison, Numbers, FARTHEST};
 
 /// Numbers that are bad wherever they stand, or only beside some others.
 const AWKWARD: [i32; 7] = [i32::MIN, i32::MAX, -FARTHEST - 1, FARTHEST + 1, -FARTHEST, FARTHEST, 0];

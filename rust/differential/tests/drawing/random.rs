@@ -1,6 +1,6 @@
 //! Random pairs of boxes with fixed seeds: near each other, far apart, at the ends of the range.
 
-use differential::covers::{random_box, related, Comparison, FARTHEST};
+use differential::drawing::{random_box, related, Comparison, FARTHEST};
 use differential::random::Random;
 
 const EACH: u64 = 80_000;

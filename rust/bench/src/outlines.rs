@@ -1,0 +1,50 @@
+//! The outlines that the engines are timed on.
+
+use std::f64::consts::TAU;
+
+/// 64 cubic curves round a circle that swing in and out, nearly as far as T 2 accepts: at T 2 most
+/// leaves are at depth 8.
+pub fn cubics() -> Vec<i32> {
+    let mut outline = Vec::new();
+    for i in 0..64 {
+        let at = |step: f64, radius: f64| {
+            let angle = TAU * (f64::from(i) + step) / 64.0;
+            [(radius * angle.cos()).round() as i32, (radius * angle.sin()).round() as i32]
+        };
+        outline.push(3);
+        outline.extend(at(0.0, 500_000.0));
+        outline.extend(at(0.4, 513_000.0));
+        outline.extend(at(0.6, 487_000.0));
+        outline.extend(at(1.0, 500_000.0));
+    }
+    outline
+}
+
+/// A punch of 20 curves in stage units: straight sides, round corners, and a notch with a curved
+/// floor. Each curve begins where the one before ends.
+#[rustfmt::skip]
+pub fn nominal() -> Vec<i32> {
+    let curves: [&[i32]; 20] = [
+        &[1, 2_000, 0, 14_000, 0],
+        &[3, 14_000, 0, 15_105, 0, 16_000, 895, 16_000, 2_000],
+        &[1, 16_000, 2_000, 16_000, 6_500],
+        &[2, 16_000, 6_500, 16_000, 7_000, 15_500, 7_000],
+        &[1, 15_500, 7_000, 13_500, 7_000],
+        &[2, 13_500, 7_000, 13_000, 7_000, 13_000, 7_500],
+        &[3, 13_000, 7_500, 12_400, 8_600, 12_400, 9_400, 13_000, 10_500],
+        &[2, 13_000, 10_500, 13_000, 11_000, 13_500, 11_000],
+        &[1, 13_500, 11_000, 15_500, 11_000],
+        &[2, 15_500, 11_000, 16_000, 11_000, 16_000, 11_500],
+        &[1, 16_000, 11_500, 16_000, 16_000],
+        &[3, 16_000, 16_000, 16_000, 17_105, 15_105, 18_000, 14_000, 18_000],
+        &[3, 14_000, 18_000, 11_000, 18_900, 9_500, 17_100, 8_000, 18_000],
+        &[3, 8_000, 18_000, 6_500, 18_900, 5_000, 17_100, 2_000, 18_000],
+        &[3, 2_000, 18_000, 895, 18_000, 0, 17_105, 0, 16_000],
+        &[1, 0, 16_000, 0, 11_000],
+        &[2, 0, 11_000, 900, 9_000, 0, 7_000],
+        &[1, 0, 7_000, 0, 3_000],
+        &[1, 0, 3_000, 0, 2_000],
+        &[3, 0, 2_000, 0, 895, 895, 0, 2_000, 0],
+    ];
+    curves.concat()
+}

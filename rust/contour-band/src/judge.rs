@@ -1,0 +1,129 @@
+//! Judging points against leaf records.
+
+use crate::band::Report;
+use crate::library;
+use crate::refusal::Refusal;
+
+/// The largest number of a box and of a point, in sixteenths of a stage unit. Its negative is the
+/// least.
+pub const FARTHEST: i32 = 536_870_912;
+
+/// What judging says of a point.
+#[derive(Debug, Clone, Copy, PartialEq, Eq, Hash)]
+pub enum Judgement {
+    /// The point is on the band: a cover holds it, edges included.
+    On {
+        /// The number of the record that holds it, from 0.
+        leaf: usize,
+        /// The cover of that record that holds it, 0 to 2.
+        cover: usize,
+    },
+    /// No cover of any record holds the point.
+    Off,
+}
+
+impl Judgement {
+    /// Whether the point is on the band.
+    pub fn is_on(self) -> bool {
+        matches!(self, Judgement::On { .. })
+    }
+
+    fn new(on: u32, leaf: u64, cover: u64) -> Judgement {
+        if on == 0 {
+            Judgement::Off
+        } else {
+            Judgement::On { leaf: leaf as usize, cover: cover as usize }
+        }
+    }
+}
+
+/// Judges a point, in sixteenths of a stage unit, against a list of leaf records.
+///
+/// A record has covers 0, 1 and 2. Cover i is every point that lies, for some fraction s from 0 to
+/// 1, in the box (1 − s) × box i + s × box i + 1. A point is on where some cover of some record
+/// holds it; one such record and cover are named, and which one is left open.
+///
+/// `leaves` is any list of records that passes the checks, in any order. To judge against a band,
+/// give it the records that [`band`](crate::band) wrote, without the rest of the lent list. Then
+/// every point of the outline's curves is on, and every point that is on lies within the tolerance
+/// of one of them.
+///
+/// ```
+/// use contour_band::{band, judge, Judgement, Refusal, RECORD};
+///
+/// // A line from (0 0) to (0 1), in a list with room for more.
+/// let mut records = [0; 10 * RECORD];
+/// let report = band(&[1, 0, 0, 0, 1], 2, &mut records)?;
+/// let leaves = &records[..RECORD * report.leaves as usize];
+///
+/// assert_eq!(judge(leaves, 0, 3), Ok(Judgement::On { leaf: 0, cover: 0 }));
+/// assert_eq!(judge(leaves, 0, 17), Ok(Judgement::Off));
+/// // The rest of the list has no records: its nodes are 0.
+/// assert_eq!(judge(&records, 0, 3), Err(Refusal::LeafListNumber { index: 19 }));
+/// # Ok::<(), Refusal>(())
+/// ```
+///
+/// # Errors
+///
+/// [`Refusal::LeafListLength`], [`Refusal::LeafListNumber`], [`Refusal::PointX`] and
+/// [`Refusal::PointY`], the first in this order.
+pub fn judge(leaves: &[i32], x: i32, y: i32) -> Result<Judgement, Refusal> {
+    let answer = library::judge(leaves, x, y);
+    if answer.refusal != 0 {
+        return Err(Refusal::new(answer.refusal, answer.spot));
+    }
+    Ok(Judgement::new(answer.on, answer.leaf, answer.cover))
+}
+
+/// What banding an outline and judging a point come to, where banding accepts the outline.
+#[derive(Debug, Clone, Copy, PartialEq, Eq, Hash)]
+pub struct Outcome {
+    /// What banding reports.
+    pub report: Report,
+    /// What judging says of the point: [`Refusal::PointX`] and [`Refusal::PointY`] are its only
+    /// refusals here.
+    pub judgement: Result<Judgement, Refusal>,
+}
+
+/// Puts a band round an outline as [`band`](crate::band) does, and judges a point against the
+/// records written, as [`judge`] does.
+///
+/// ```
+/// use contour_band::{band_and_judge, Judgement, Refusal};
+///
+/// let outline = [3, 0, 0, 10, 30, 20, 30, 30, 0];
+/// let mut records = [0; 100];
+/// let outcome = band_and_judge(&outline, 44, &mut records, 240, 363)?;
+/// assert_eq!(outcome.report.leaves, 1);
+/// assert_eq!(outcome.judgement, Ok(Judgement::On { leaf: 0, cover: 1 }));
+///
+/// // A point that is refused leaves the band as it is.
+/// let outcome = band_and_judge(&outline, 44, &mut records, i32::MAX, 0)?;
+/// assert_eq!(outcome.report.leaves, 1);
+/// assert_eq!(outcome.judgement, Err(Refusal::PointX));
+/// # Ok::<(), Refusal>(())
+/// ```
+///
+/// # Errors
+///
+/// A refusal of banding, with `records` unaltered. A point out of range is no error of the whole:
+/// the records are written, and [`Outcome::judgement`] has the refusal.
+pub fn band_and_judge(
+    outline: &[i32],
+    tolerance: i32,
+    records: &mut [i32],
+    x: i32,
+    y: i32,
+) -> Result<Outcome, Refusal> {
+    let outcome = library::band_and_judge(outline, tolerance, records, x, y);
+    let judgement = if outcome.refusal == 0 {
+        Ok(Judgement::new(outcome.on, outcome.leaf, outcome.cover))
+    } else {
+        match Refusal::new(outcome.refusal, outcome.spot) {
+            refusal @ (Refusal::PointX | Refusal::PointY) => Err(refusal),
+            of_banding => return Err(of_banding),
+        }
+    };
+    let report = Report { curves: outcome.curves, leaves: outcome.leaves, nodes: outcome.nodes };
+    Ok(Outcome { report, judgement })
+}

@@ -1,0 +1,187 @@
+//! One leaf list and point to both engines, and what they answer compared. Which record and cover are
+//! named is free, so each named one is looked at by itself.
+
+use crate::covers::{any_holds, witness_of};
+use crate::curves::{curves, parameter};
+use std::fmt;
+use std::io::Write;
+
+/// What an engine answers.
+#[derive(Debug, Clone, Copy, PartialEq, Eq)]
+pub enum Answer {
+    /// The record and the cover that it names.
+    On {
+        /// The number of the record, from 0.
+        leaf: usize,
+        /// The cover of that record.
+        cover: usize,
+    },
+    /// No cover holds the point.
+    Off,
+    /// The number and the spot of its refusal.
+    Refused(u32, u64),
+}
+
+use Answer::{Off, On, Refused};
+
+impl Answer {
+    /// Whether both say on, both say off, or both give the same refusal.
+    pub fn agrees(self, other: Answer) -> bool {
+        match (self, other) {
+            (On { .. }, On { .. }) => true,
+            _ => self == other,
+        }
+    }
+
+    /// Whether the point is on.
+    pub fn is_on(self) -> bool {
+        matches!(self, On { .. })
+    }
+
+    /// Whether the answer is right of a list that passes the checks: the cover that it names holds the
+    /// point, and off is said only where none does.
+    pub fn is_right(self, leaves: &[i32], x: i32, y: i32) -> bool {
+        match self {
+            On { leaf, cover } => {
+                let record = leaves.chunks_exact(18).nth(leaf);
+                record.is_some_and(|r| cover < 3 && witness_of(r, cover, x, y).is_some())
+            }
+            Off => !any_holds(leaves, x, y),
+            Refused(..) => true,
+        }
+    }
+}
+
+impl From<Result<contour_band::Judgement, contour_band::Refusal>> for Answer {
+    fn from(answer: Result<contour_band::Judgement, contour_band::Refusal>) -> Answer {
+        match answer {
+            Ok(contour_band::Judgement::On { leaf, cover }) => On { leaf, cover },
+            Ok(contour_band::Judgement::Off) => Off,
+            Err(refusal) => Refused(refusal.number(), refusal.spot()),
+        }
+    }
+}
+
+impl From<Result<plain::Judgement, plain::Refusal>> for Answer {
+    fn from(answer: Result<plain::Judgement, plain::Refusal>) -> Answer {
+        match answer {
+            Ok(plain::Judgement::On { leaf, cover }) => On { leaf, cover },
+            Ok(plain::Judgement::Off) => Off,
+            Err(refusal) => Refused(refusal.number(), refusal.spot()),
+        }
+    }
+}
+
+/// Compares the engines on one list and point after the other, and counts.
+pub struct Comparison {
+    name: &'static str,
+    given: Vec<i32>,
+    /// What was compared so far.
+    pub tally: Tally,
+}
+
+/// Counts of what was compared.
+#[derive(Debug, Clone, Default)]
+pub struct Tally {
+    /// Leaf lists with a point.
+    pub pairs: u64,
+    /// Points that are on.
+    pub on: u64,
+    /// Points that are off.
+    pub off: u64,
+    /// Answers that refuse 9, 10 and 11.
+    pub refused: [u64; 3],
+    /// Points that equal a curve at a rational parameter; all of them are on.
+    pub of_curves: u64,
+    /// Points that are on a band and lie within the tolerance of a curve.
+    pub near: u64,
+}
+
+impl Comparison {
+    /// A comparison that reports under a name.
+    pub fn new(name: &'static str) -> Comparison {
+        Comparison { name, given: Vec::new(), tally: Tally::default() }
+    }
+
+    /// Judges with both engines. Returns the answer of the proved one.
+    ///
+    /// # Panics
+    ///
+    /// Where the engines do not agree, an answer is not right, or the list has changed. Prints the
+    /// input and both answers.
+    pub fn judge(&mut self, leaves: &[i32], x: i32, y: i32) -> Answer {
+        self.given.clear();
+        self.given.extend_from_slice(leaves);
+        let proved = Answer::from(contour_band::judge(&self.given, x, y));
+        let plain = Answer::from(plain::judge(leaves, x, y));
+        let right = |answer: Answer| answer.is_right(leaves, x, y);
+        if !proved.agrees(plain) || !right(proved) || !right(plain) || self.given != leaves {
+            let (name, given) = (self.name, &self.given);
+            panic!(
+                "{name}: the engines differ, an answer is wrong, or the list changed\nleaves {leaves:?}\n\
+                 point ({x} {y})\nproved answers {proved:?}\nplain answers {plain:?}\nleaves after {given:?}"
+            );
+        }
+        self.tally.pairs += 1;
+        match proved {
+            On { .. } => self.tally.on += 1,
+            Off => self.tally.off += 1,
+            Refused(number, _) => self.tally.refused[number as usize - 9] += 1,
+        }
+        proved
+    }
+
+    /// Judges a point against the records of an outline that is accepted at a tolerance.
+    ///
+    /// # Panics
+    ///
+    /// As for [`Comparison::judge`], and where a point that is on is not within the tolerance of the
+    /// record's curve, at the parameter that the cover's fraction gives.
+    pub fn judge_band(&mut self, outline: &[i32], tolerance: i32, leaves: &[i32], x: i32, y: i32) -> Answer {
+        let answer = self.judge(leaves, x, y);
+        if let On { leaf, cover } = answer {
+            let record = &leaves[18 * leaf..][..18];
+            let s = witness_of(record, cover, x, y).expect("the cover holds the point");
+            let (p, q) = parameter(record[1], cover, s);
+            let curve = curves(outline)[record[0] as usize];
+            assert!(
+                curve.within(p, q, tolerance, x, y),
+                "({x} {y}) is on by record {leaf} and far from its curve at {p}/{q}\n\
+                 outline {outline:?}, tolerance {tolerance}"
+            );
+            self.tally.near += 1;
+        }
+        answer
+    }
+
+    /// Judges a point that equals a curve of the outline at some rational parameter.
+    ///
+    /// # Panics
+    ///
+    /// As for [`Comparison::judge_band`], and where the point is not on.
+    pub fn judge_of_curve(&mut self, outline: &[i32], tolerance: i32, leaves: &[i32], point: (i32, i32)) {
+        let (x, y) = point;
+        let answer = self.judge_band(outline, tolerance, leaves, x, y);
+        assert!(
+            answer.is_on(),
+            "({x} {y}) equals a curve and is {answer:?}\noutline {outline:?}, tolerance {tolerance}"
+        );
+        self.tally.of_curves += 1;
+    }
+
+    /// Prints what was compared, also where the test runner keeps a test's output to itself.
+    pub fn report(&self) {
+        let mut out = std::io::stdout().lock();
+        writeln!(out, "{}: {}", self.name, self.tally).expect("standard output takes a line");
+    }
+}
+
+impl fmt::Display for Tally {
+    fn fmt(&self, f: &mut fmt::Formatter<'_>) -> fmt::Result {
+        write!(
+            f,
+            "{} lists and points compared; on {}, off {}, refused 9 to 11 {:?}; {} equal a curve, {} on and near one",
+            self.pairs, self.on, self.off, self.refused, self.of_curves, self.near
+        )
+    }
+}

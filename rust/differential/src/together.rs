@@ -1,0 +1,165 @@
+//! Banding and judging in one call, against one after the other by both engines.
+
+use crate::judging::Answer;
+use crate::random::Random;
+use std::fmt;
+use std::io::Write;
+
+/// Numbers on each side of a lent list, which the call may not touch.
+const MARGIN: usize = 20;
+
+/// What a call comes to.
+#[derive(Debug, Clone, Copy, PartialEq, Eq)]
+pub enum Outcome {
+    /// The curves, leaves and nodes that banding reports, and what judging answers.
+    Banded([u64; 3], Answer),
+    /// The number and the spot of the refusal of banding.
+    Refused(u32, u64),
+}
+
+use Outcome::{Banded, Refused};
+
+impl Outcome {
+    /// Whether all but the record and cover named is the same.
+    fn agrees(self, other: Outcome) -> bool {
+        match (self, other) {
+            (Banded(report, answer), Banded(other_report, other)) => {
+                report == other_report && answer.agrees(other)
+            }
+            _ => self == other,
+        }
+    }
+}
+
+/// Compares on one outline and point after the other, and counts.
+pub struct Comparison {
+    name: &'static str,
+    random: Random,
+    /// What was compared so far.
+    pub tally: Tally,
+}
+
+/// Counts of what was compared.
+#[derive(Debug, Clone, Default)]
+pub struct Tally {
+    /// Calls, each with an outline, a tolerance, a lent list and a point.
+    pub calls: u64,
+    /// Numbers of lent lists, their margins and the rest past the records included.
+    pub numbers: u64,
+    /// Points that are on.
+    pub on: u64,
+    /// Points that are off.
+    pub off: u64,
+    /// Calls that refuse, by the refusal's number.
+    pub refused: [u64; 12],
+}
+
+impl Comparison {
+    /// A comparison that reports under a name. What stands in the lent lists follows from the seed.
+    pub fn new(name: &'static str, seed: u64) -> Comparison {
+        Comparison { name, random: Random::new(seed ^ 0x5eed_0f11_5ea5_0000), tally: Tally::default() }
+    }
+
+    /// Bands into a list of `length` numbers and judges a point, in one call and one after the other.
+    ///
+    /// # Panics
+    ///
+    /// Where the outcomes or the lists differ, a number that was not to be written has changed, or the
+    /// named cover does not hold the point. Prints the input and all outcomes.
+    pub fn band_and_judge(
+        &mut self,
+        outline: &[i32],
+        tolerance: i32,
+        length: usize,
+        x: i32,
+        y: i32,
+    ) -> Outcome {
+        let noise: Vec<i32> = (0..length + 2 * MARGIN).map(|_| self.random.bits() as i32).collect();
+        let lent = MARGIN..MARGIN + length;
+        let (mut one, mut two, mut plain) = (noise.clone(), noise.clone(), noise);
+        let given = outline.to_vec();
+        let together = together(&given, tolerance, &mut one[lent.clone()], x, y);
+        let apart = apart(outline, tolerance, &mut two[lent.clone()], x, y);
+        let by_plain = by_plain(outline, tolerance, &mut plain[lent], x, y);
+        // A plain list has noise wherever nothing is to be written.
+        let same_lists = one == two && one == plain && given == outline;
+        let right = match together {
+            Banded([_, leaves, _], answer) => answer.is_right(&plain[MARGIN..][..18 * leaves as usize], x, y),
+            Refused(..) => true,
+        };
+        if !(same_lists && right && together.agrees(apart) && together.agrees(by_plain)) {
+            panic!(
+                "{}: the outcomes differ, an answer is wrong, or a number changed\noutline {outline:?}\n\
+                 tolerance {tolerance}\nlent numbers {length}\npoint ({x} {y})\ntogether {together:?}\n\
+                 one after the other {apart:?}\nplain {by_plain:?}\nthe lists are the same: {same_lists}",
+                self.name
+            );
+        }
+        self.count(together, length);
+        together
+    }
+
+    fn count(&mut self, outcome: Outcome, length: usize) {
+        self.tally.calls += 1;
+        self.tally.numbers += (length + 2 * MARGIN) as u64;
+        match outcome {
+            Banded(_, Answer::On { .. }) => self.tally.on += 1,
+            Banded(_, Answer::Off) => self.tally.off += 1,
+            Banded(_, Answer::Refused(number, _)) | Refused(number, _) => {
+                self.tally.refused[number as usize] += 1;
+            }
+        }
+    }
+
+    /// Prints what was compared, also where the test runner keeps a test's output to itself.
+    pub fn report(&self) {
+        let mut out = std::io::stdout().lock();
+        writeln!(out, "{}: {}", self.name, self.tally).expect("standard output takes a line");
+    }
+}
+
+/// The proved engine in one call.
+fn together(outline: &[i32], tolerance: i32, records: &mut [i32], x: i32, y: i32) -> Outcome {
+    match contour_band::band_and_judge(outline, tolerance, records, x, y) {
+        Ok(contour_band::Outcome { report, judgement }) => {
+            Banded([report.curves, report.leaves, report.nodes], judgement.into())
+        }
+        Err(refusal) => Refused(refusal.number(), refusal.spot()),
+    }
+}
+
+/// The proved engine in two calls.
+fn apart(outline: &[i32], tolerance: i32, records: &mut [i32], x: i32, y: i32) -> Outcome {
+    match contour_band::band(outline, tolerance, records) {
+        Ok(report) => {
+            let judgement = contour_band::judge(&records[..18 * report.leaves as usize], x, y);
+            Banded([report.curves, report.leaves, report.nodes], judgement.into())
+        }
+        Err(refusal) => Refused(refusal.number(), refusal.spot()),
+    }
+}
+
+/// The plain engine in two calls.
+fn by_plain(outline: &[i32], tolerance: i32, records: &mut [i32], x: i32, y: i32) -> Outcome {
+    match plain::band(outline, tolerance, records) {
+        Ok(report) => {
+            let judgement = plain::judge(&records[..18 * report.leaves as usize], x, y);
+            Banded([report.curves, report.leaves, report.nodes], judgement.into())
+        }
+        Err(refusal) => Refused(refusal.number(), refusal.spot()),
+    }
+}
+
+impl fmt::Display for Tally {
+    fn fmt(&self, f: &mut fmt::Formatter<'_>) -> fmt::Result {
+        write!(
+            f,
+            "{} calls and {} numbers compared; on {}, off {}, refused by number {:?}",
+            self.calls,
+            self.numbers,
+            self.on,
+            self.off,
+            &self.refused[1..]
+        )
+    }
+}

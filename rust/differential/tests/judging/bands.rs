@@ -1,0 +1,103 @@
+//! Lists that banding wrote: points that equal a curve are on, and points that are on lie within the
+//! tolerance of one.
+
+use differential::curves::{curves, gcd};
+use differential::judging::Comparison;
+use differential::leaf_lists::LeafList;
+use differential::outlines::{outline, tolerance, EDGE};
+use differential::random::Random;
+
+/// The records of an outline at the first tolerance of `least`, twice that and so on at which it is
+/// accepted, and that tolerance.
+fn band(outline: &[i32], least: i32) -> (i32, Vec<i32>) {
+    let mut tolerance = least;
+    let mut records = vec![0; 18 * 64 * 256];
+    loop {
+        match contour_band::band(outline, tolerance, &mut records) {
+            Ok(report) => {
+                records.truncate(18 * report.leaves as usize);
+                return (tolerance, records);
+            }
+            Err(refusal) => assert_eq!(refusal.number(), 7, "{refusal}, outline {outline:?}"),
+        }
+        tolerance = (2 * tolerance).min(EDGE);
+    }
+}
+
+/// A whole point near a curve of the outline, or up to a little more than the tolerance off it.
+fn near_a_curve(random: &mut Random, outline: &[i32], tolerance: i32) -> (i32, i32) {
+    let curve = random.pick(&curves(outline));
+    let q = i128::from(random.magnitude());
+    let p = i128::from(random.between(0, q as i32));
+    let scale = q.pow(curve.degree());
+    let [x, y] = curve.sixteenths(p, q).map(|z| z.div_euclid(scale) as i32);
+    let half = tolerance / 2;
+    let mut off = || random.pick(&[0, 0, 1, -1, half, -half, tolerance, -tolerance, tolerance + 2]);
+    (x + off(), y + off())
+}
+
+#[test]
+fn random_outlines() {
+    let mut comparison = Comparison::new("judging, bands of random outlines, seed 721");
+    let mut random = Random::new(721);
+    for _ in 0..20_000 {
+        let outline = outline(&mut random);
+        let least = tolerance(&mut random);
+        let (tolerance, records) = band(&outline, least);
+        let list = LeafList::new(records);
+        for _ in 0..4 {
+            let (x, y) = list.point(&mut random);
+            comparison.judge_band(&outline, tolerance, &list.numbers, x, y);
+            let (x, y) = near_a_curve(&mut random, &outline, tolerance);
+            comparison.judge_band(&outline, tolerance, &list.numbers, x, y);
+        }
+        // Ends, middles and quarters, wherever these are whole sixteenths.
+        let curves = curves(&outline);
+        let curve = random.pick(&curves);
+        for point in (0..=4).filter_map(|p| curve.whole_point(p, 4)) {
+            comparison.judge_of_curve(&outline, tolerance, &list.numbers, point);
+        }
+    }
+    let tally = &comparison.tally;
+    assert!(tally.on > 20_000 && tally.off > 20_000 && tally.near == tally.on);
+    comparison.report();
+}
+
+/// A curve that is whole in sixteenths at every parameter p/q: its coordinates differ by multiples of
+/// q^degree / 16, or of what is left of it.
+fn whole_curve(random: &mut Random, q: i32) -> Vec<i32> {
+    let degree = random.between(1, 3);
+    let parts = i128::from(q).pow(degree as u32);
+    let step = (parts / gcd(parts, 16)) as i32;
+    let most = random.magnitude().min(EDGE / step);
+    let base = [0, 1].map(|_| random.between(-(EDGE - step * most), EDGE - step * most));
+    let flat = random.one_in(6);
+    let mut curve = vec![degree];
+    for i in 0..=degree {
+        // Evenly along a line, or anywhere.
+        let mut steps = || if flat { i * most / 3 } else { random.between(-most, most) };
+        curve.extend(base.map(|base| base + step * steps()));
+    }
+    curve
+}
+
+#[test]
+fn points_of_curves() {
+    let mut comparison = Comparison::new("judging, points of curves at rational parameters, seed 722");
+    let mut random = Random::new(722);
+    let parts = [1, 2, 3, 4, 5, 6, 7, 8, 9, 10, 11, 12, 15, 16, 17, 20, 24, 32, 48, 50, 60, 64, 96, 100, 128];
+    for _ in 0..2_500 {
+        let q = random.pick(&parts);
+        let outline: Vec<i32> = (0..random.between(1, 3)).flat_map(|_| whole_curve(&mut random, q)).collect();
+        let least = tolerance(&mut random);
+        let (tolerance, records) = band(&outline, least);
+        for curve in curves(&outline) {
+            for p in 0..=q {
+                let point = curve.whole_point(p.into(), q.into()).expect("the curve is whole there");
+                comparison.judge_of_curve(&outline, tolerance, &records, point);
+            }
+        }
+    }
+    assert!(comparison.tally.of_curves > 100_000);
+    comparison.report();
+}

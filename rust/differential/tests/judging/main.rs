@@ -1,0 +1,10 @@
+//! The proved engine against the plain one: judging.
+
+mod bands;
+mod damaged;
+mod examples;
+mod finest;
+mod largest;
+mod random;
+mod small;
+mod together;

@@ -1,0 +1,83 @@
+//! Banding and judging in one call, against one after the other.
+
+use differential::judging::Answer;
+use differential::leaf_lists::{LeafList, AWKWARD, FARTHEST};
+use differential::outlines::{self, outline, tolerance};
+use differential::random::Random;
+use differential::together::{Comparison, Outcome};
+
+const CURVE_A: [i32; 9] = [3, 0, 0, 10, 30, 20, 30, 30, 0];
+
+#[test]
+fn examples() {
+    let mut comparison = Comparison::new("judging, together with banding, examples", 741);
+    let on = Answer::On { leaf: 0, cover: 1 };
+    let report = [1, 1, 1];
+    for length in [18, 19, 36, 16_380] {
+        let mut call = |x, y| comparison.band_and_judge(&CURVE_A, 44, length, x, y);
+        assert_eq!(call(240, 363), Outcome::Banded(report, on));
+        assert_eq!(call(240, 364), Outcome::Banded(report, Answer::Off));
+        assert_eq!(call(FARTHEST + 1, i32::MAX), Outcome::Banded(report, Answer::Refused(11, 0)));
+        assert_eq!(call(0, -FARTHEST - 1), Outcome::Banded(report, Answer::Refused(11, 1)));
+    }
+    // Banding refuses first, and then there is no report.
+    let mut call = |outline: &[i32], tolerance, length| {
+        comparison.band_and_judge(outline, tolerance, length, i32::MIN, i32::MIN)
+    };
+    assert_eq!(call(&CURVE_A, 1, 18), Outcome::Refused(1, 0));
+    assert_eq!(call(&[], 44, 18), Outcome::Refused(6, 0));
+    assert_eq!(call(&CURVE_A[..8], 44, 18), Outcome::Refused(3, 8));
+    assert_eq!(call(&CURVE_A, 43, 35), Outcome::Refused(8, 2));
+    comparison.report();
+}
+
+/// A point near the band of an outline, at times out of range or anywhere.
+fn point(random: &mut Random, outline: &[i32], tolerance: i32) -> (i32, i32) {
+    if random.one_in(8) {
+        return (random.pick(&AWKWARD), random.pick(&AWKWARD));
+    }
+    let mut records = vec![0; 18 * 64 * 256];
+    match plain::band(outline, tolerance, &mut records) {
+        Ok(report) => {
+            records.truncate(18 * report.leaves as usize);
+            LeafList::new(records).point(random)
+        }
+        Err(_) => (random.between(-1_000, 1_000), random.between(-1_000, 1_000)),
+    }
+}
+
+/// Outlines that pass or are damaged, into lists that are empty, short, exact and longer.
+fn outlines(name: &'static str, seed: u64, damaged: bool) {
+    let mut comparison = Comparison::new(name, seed);
+    let mut random = Random::new(seed);
+    for _ in 0..12_000 {
+        let mut outline = outline(&mut random);
+        let mut tolerance = tolerance(&mut random);
+        if damaged {
+            outlines::damage(&mut random, &mut outline, &mut tolerance);
+        }
+        let (x, y) = point(&mut random, &outline, tolerance);
+        let leaves = match comparison.band_and_judge(&outline, tolerance, 0, x, y) {
+            Outcome::Refused(8, leaves) => leaves as usize,
+            _ => 1,
+        };
+        for length in [18 * leaves - 1, 18 * leaves, 18 * leaves + random.below(60)] {
+            comparison.band_and_judge(&outline, tolerance, length, x, y);
+        }
+    }
+    let refused = &comparison.tally.refused;
+    assert!(comparison.tally.on > 0 && comparison.tally.off > 0);
+    assert!(refused[7] > 0 && refused[8] > 0 && refused[11] > 0 && refused[9..11] == [0, 0]);
+    assert!(!damaged || refused[1..=8].iter().all(|&count| count > 0));
+    comparison.report();
+}
+
+#[test]
+fn whole() {
+    outlines("judging, together with banding, seed 742", 742, false);
+}
+
+#[test]
+fn broken() {
+    outlines("judging, together with banding, damaged outlines, seed 743", 743, true);
+}
