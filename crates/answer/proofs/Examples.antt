@@ -10,7 +10,8 @@ use Rattle.bezier.specs.Nodes.{descendIn, descend, depth, nodeCurve}
 use Rattle.enclosure.specs.Bounds.{rowSum, high, low}
 use Rattle.enclosure.specs.Boxes.{boxAt, meets}
 use Rattle.outline.specs.Curves.{curveAt}
-use Rattle.outline.specs.Checks.{firstBeyond, faultAt, outlineFrom, outlined}
+use Rattle.integers.specs.First.{firstBad}
+use Rattle.outline.specs.Checks.{faultAt, outlineFrom, outlined}
 use Rattle.tree.specs.Tree.{ends, met, firstFailing}
 use Rattle.band.specs.Records.{recordOf, allRecords}
 use Rattle.band.specs.Records as Records
@@ -31,7 +32,7 @@ lines s old = bandLines (bandOf (meaning s) (length old)) (recordsOf (meaning s)
 
 -- what the examples compute through
 computing : List ℕ → List ℤ → List ℕ
-unfolding meaning meaningOf faultFrom numbersOf linesOf linesFrom gather Forms.formAt Forms.startsWith Forms.toleranceAt Forms.pointAt Forms.curveAt Forms.curveThird Forms.curveFourth Forms.curveEnd Forms.spacedPairAt Forms.pairAt Forms.numberThen numberAt naturalAt valueFrom digitCount written allRecords Records.recordsOf recordOf banded bandCurves firstTooWide leavesOf nodesOf ends met firstFailing outlined outlineFrom faultAt firstBeyond curveAt descend descendIn depth nodeCurve meets boxAt high low rowSum floor ceiling leftHalf rightHalf left right triangle pow one leafLines leafLine boxesBytes boxBytes fourNumbers doneLine refusedLine spaced spacedNatural decimal digits
+unfolding meaning meaningOf faultFrom numbersOf linesOf linesFrom gather Forms.formAt Forms.startsWith Forms.toleranceAt Forms.pointAt Forms.curveAt Forms.curveThird Forms.curveFourth Forms.curveEnd Forms.spacedPairAt Forms.pairAt Forms.numberThen numberAt naturalAt valueFrom digitCount written allRecords Records.recordsOf recordOf banded bandCurves firstTooWide leavesOf nodesOf ends met firstFailing outlined outlineFrom faultAt firstBad curveAt descend descendIn depth nodeCurve meets boxAt high low rowSum floor ceiling leftHalf rightHalf left right triangle pow one leafLines leafLine boxesBytes boxBytes fourNumbers doneLine refusedLine spaced spacedNatural decimal digits
 computing = lines
 
 -- "(leaf 0 1 (0 0 0 38) (160 160 319 363) (320 320 319 363) (480 480 0 38))", "(done 1 1 1)"

@@ -16,7 +16,9 @@ use Rattle.refusals.specs.declared.Refusal.{Refusal}
 use Rattle.refusals.specs.declared.Refusal.the-variants.{TooManyCurves}
 use Rattle.bezier.proofs.Values.{listed-ext}
 use Rattle.outline.specs.Curves.{coordinates, degreeAt, nextAt, values, curveAt}
-use Rattle.outline.specs.Checks.{between, coordinateFine, firstBeyond, faultAt, foundOf, faultOf, faulty, withCurve, outlineFrom, outlined}
+use Rattle.integers.specs.Between.{between}
+use Rattle.integers.specs.First.{firstBad}
+use Rattle.outline.specs.Checks.{coordinateFine, firstBeyond, faultAt, foundOf, faultOf, faulty, withCurve, outlineFrom, outlined}
 use Rattle.outline.proofs.Faultless.{coordinateFault, fault-degree, fault-coordinate}
 use Rattle.outline.proofs.Steps.{outline-full, outline-faulty, outline-step}
 use Rattle.forms.specs.declared.Points.{Points}
@@ -44,7 +46,7 @@ fault-of (some a) none e = let z : _≡_ {A = ℕ} 0 1 = cc in absurd (omega ari
 
 module _ {ns ms : List ℤ} {e : ℕ} (a : Agree ns ms e) where
   beyond-same : (n i : ℕ) → i + n ≤ e → firstBeyond ns n i ≡ firstBeyond ms n i
-  unfolding firstBeyond
+  unfolding firstBad
   beyond-same zero i h = refl
   beyond-same (suc n) i h =
       ap₂ (λ (z : ℤ) (o : Option ℕ). elim (coordinateFine z) [ true ↦ o | false ↦ some i ]) (a .same i (omega arith)) (beyond-same n (i + 1) (omega arith))
