@@ -20,7 +20,7 @@ use Rattle.band.proofs.Theorems.{done-exactly, written-some, written-sound}
 use Rattle.engine.proofs.Outcomes.{done-room}
 use Rattle.engine.proofs.Passing.{length-fine, no-bad-number}
 use Rattle.appends.specs.Appends.{Appended, Within}
-use Rattle.appends.proofs.Appends.{append-both}
+use Rattle.appends.proofs.Appends.{append-both, within}
 use Rattle.forms.specs.declared.Form.{Form}
 use Rattle.forms.specs.declared.Form.the-variants.{Tolerance, Curve, Point, NoForm}
 use Rattle.text.specs.Lines.{linesOf, gather}
@@ -104,10 +104,10 @@ module _ (s : List ℕ) (old : List ℤ) (zeros : old ≡ replicate lent (pos 0)
   band-is : bandOf (meaning s) lent ≡ b
   band-is = sym (said ∙ ap (bandOf (meaning s)) (zeros-length old zeros))
 
-  pub answer-refused : (r : Refusal) → b ≡ Refused r → (d o : List ℕ) (k : ℕ) → Within d 0 52 (refusedLine r) o k → Appended d 0 (answerOf s) o k
+  pub answer-refused : (r : Refusal) → b ≡ Refused r → (d o : List ℕ) (k : ℕ) → Within d 0 52 (refusedLine r) o k → Within d 0 243100 (answerOf s) o k
   unfolding answerOf answerTo
   answer-refused r e d o k a =
-      subst (λ l. Appended d 0 l o k) (sym (ap (λ x. lines x (recordsOf (meaning s) (replicate lent (pos 0))) (pointsOf (meaning s))) (band-is ∙ e))) (a .put)
+      within (subst (λ l. Appended d 0 l o k) (sym (ap (λ x. lines x (recordsOf (meaning s) (replicate lent (pos 0))) (pointsOf (meaning s))) (band-is ∙ e))) (a .put)) (omega (arith, a .small))
 
   module _ (c l n : ℕ) (e : b ≡ Done c l n) where
     done-is : bandOf (meaning s) (length old) ≡ Done c l n
@@ -123,11 +123,13 @@ module _ (s : List ℕ) (old : List ℤ) (zeros : old ≡ replicate lent (pos 0)
     done-fine new w = subst (λ ns. LeavesFine (take (recordLength * l) ns)) (sym w) (leaves-fine (meaning s) old c l n done-is)
 
     pub answer-done : (new : List ℤ) → new ≡ recordsOf (meaning s) old → (d o u : List ℕ) (j k : ℕ) → Within d 0 (231 * l + 70) (bandLines c l n new) o j
-        → Within o j (2 * length s) (gather (lineAnswer (take (recordLength * l) new)) (linesOf s)) u k → Appended d 0 (answerOf s) u k
+        → Within o j (2 * length s) (gather (lineAnswer (take (recordLength * l) new)) (linesOf s)) u k → Within d 0 243100 (answerOf s) u k
     unfolding answerOf answerTo
     answer-done new w d o u j k p q =
         let rs = take (recordLength * l) new in
         let f : lines (bandOf (meaning s) lent) (recordsOf (meaning s) (replicate lent (pos 0))) (pointsOf (meaning s)) ≡ bandLines c l n new ++ gather (lineAnswer rs) (linesOf s) =
         ap₂ (λ x ns. lines x ns (pointsOf (meaning s))) (band-is ∙ e) (sym (w ∙ ap (recordsOf (meaning s)) zeros))
         ∙ ap (λ r. bandLines c l n new ++ r) (sym (points-of-text rs s (length old) c l n done-is)) in
-        subst (λ r. Appended d 0 r u k) (sym f) (append-both d o u (bandLines c l n new) (gather (lineAnswer rs) (linesOf s)) 0 j k (p .put) (q .put))
+        within
+        (subst (λ r. Appended d 0 r u k) (sym f) (append-both d o u (bandLines c l n new) (gather (lineAnswer rs) (linesOf s)) 0 j k (p .put) (q .put)))
+        (omega (arith, p .small, q .small, done-leaves, done-short))

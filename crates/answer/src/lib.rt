@@ -3,7 +3,7 @@ ghost use mathlib.Core.Path.{_≡_};
 ghost use Prim.Native.Nat.{_+_, _*_, _≤_};
 ghost use lib.ListN.{length, replicate};
 ghost use lib.IntN.{pos};
-ghost use Rattle.appends.specs.Appends.{Appended, Within};
+ghost use Rattle.appends.specs.Appends.{Within};
 ghost use Rattle.text.specs.Meaning.{meaning};
 ghost use Rattle.answer.specs.Answers.{lent, answerOf};
 ghost use Rattle.answer.specs.Bands.{bandOf, recordsOf, bandLines, RoomFor};
@@ -16,7 +16,7 @@ mod points;
 // Answers a text: the lines of its band and of its points, or of its first refusal, stand at the front of the list afterwards, as many bytes as are returned. Every
 // text may be asked about. Records are lent as document 01 says, 16,380 numbers.
 pub fn answer(text: &[u8], out: &mut [u8; 243100]) -> usize
-    ensures { λ r. ⌜ Appended (now (out .entry)) 0 (answerOf (now (text .entry))) (now (out .exit)) r ⌝ }
+    ensures { λ r. ⌜ Within (now (out .entry)) 0 243100 (answerOf (now (text .entry))) (now (out .exit)) r ⌝ }
 {
     let mut numbers = [0i32; 577];
     let mut records = [0i32; 16380];
@@ -26,7 +26,7 @@ pub fn answer(text: &[u8], out: &mut [u8; 243100]) -> usize
 // The same with the lists lent.
 fn answer_in(text: &[u8], numbers: &mut [i32], records: &mut [i32], out: &mut [u8]) -> usize
     requires { ⌜ (577 ≤ length (now numbers)) × (now records ≡ replicate lent (pos 0)) × (243100 ≤ length (now out)) ⌝ }
-    ensures { λ r. ⌜ Appended (now (out .entry)) 0 (answerOf (now (text .entry))) (now (out .exit)) r ⌝ }
+    ensures { λ r. ⌜ Within (now (out .entry)) 0 243100 (answerOf (now (text .entry))) (now (out .exit)) r ⌝ }
 {
     let band = band_text(text, numbers, records);
     match band {
