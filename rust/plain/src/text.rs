@@ -258,21 +258,13 @@ mod tests {
 
     #[test]
     fn room_for_910_leaves() {
-        let curve = |height: i32| format!("(curve (0 0) (0 {height}) (0 0))");
-        let mut text: Vec<String> = vec!["(tolerance 3)".into()];
-        for leaves in [256, 256, 256, 128, 8, 4, 2] {
-            let height = (1..).find(|&height| {
-                band(&[2, 0, 0, 0, height, 0, 0], 3, &mut vec![0; LENT]).map(|r| r.leaves) == Ok(leaves)
-            });
-            text.push(curve(height.expect("some height gives these leaves")));
-        }
-        text.push(POINT.into());
-        let borrowed: Vec<&str> = text.iter().map(String::as_str).collect();
-        let fits = lines(&borrowed);
+        // At tolerance 3 these heights give 256, 256, 256, 128, 8, 4 and 2 leaves.
+        let heights = [65_536, 65_536, 65_536, 16_384, 64, 16, 4];
+        let curves = heights.map(|height| format!("(curve (0 0) (0 {height}) (0 0))\n")).concat();
+        let fits = printed(&format!("(tolerance 3)\n{curves}{POINT}\n"));
         assert_eq!(fits.lines().count(), 910 + 2);
         assert!(fits.ends_with("(done 7 910 1813)\n(off)\n"));
-        text.insert(1, LINE.into());
-        let borrowed: Vec<&str> = text.iter().map(String::as_str).collect();
-        assert_eq!(lines(&borrowed), "(refused 8 911)\n");
+        let one_more = printed(&format!("(tolerance 3)\n{curves}{LINE}\n{POINT}\n"));
+        assert_eq!(one_more, "(refused 8 911)\n");
     }
 }
