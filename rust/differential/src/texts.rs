@@ -231,7 +231,10 @@ fn damage_an_end(random: &mut Random, text: &mut Vec<u8>) {
 fn move_a_line(random: &mut Random, text: &mut Vec<u8>) {
     let Some(line) = some_line(random, text) else { return };
     match random.below(4) {
-        0 => insert(text, line.end, &text[line].to_vec()),
+        0 => {
+            let copy = text[line.clone()].to_vec();
+            insert(text, line.end, &copy);
+        }
         1 => drop(text.drain(line)),
         2 => {
             let moved: Vec<u8> = text.drain(line).collect();
