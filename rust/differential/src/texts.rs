@@ -23,89 +23,33 @@ const LONGEST: usize = 16_384;
 const TELLING: &[u8] = b"()- 0123456789toleranceurvpi+\t\n\r\0.,;_\x0b\x0c\x7f\x80\xa8\xad\xff";
 
 /// What is no number, or none of 32 bits.
+#[rustfmt::skip]
 const NOT_NUMBERS: &[&str] = &[
-    "",
-    "-",
-    "+",
-    "-0",
-    "+0",
-    "+7",
-    "00",
-    "01",
-    "-01",
-    "007",
-    "--7",
-    "7-",
-    "1.5",
-    "1e3",
-    "0x10",
-    "1_000",
-    "1,000",
-    "\u{2212}7",
-    "2147483648",
-    "-2147483649",
-    "4294967296",
-    "4294967297",
-    "-4294967295",
-    "9999999999",
-    "18446744073709551616",
-    "18446744073709551660",
-    "100000000000000000000000000000000000000",
+    "", "-", "+", "-0", "+0", "+7", "00", "01", "-01", "007", "--7", "7-", "1.5", "1e3", "0x10", "1_000",
+    "1,000", "\u{2212}7", "2147483648", "-2147483649", "4294967296", "4294967297", "-4294967295",
+    "9999999999", "18446744073709551616", "18446744073709551660", "100000000000000000000000000000000000000",
 ];
 
 /// Numbers about the ends of every range.
+#[rustfmt::skip]
 const NUMBERS: &[i32] = &[
-    i32::MIN,
-    i32::MIN + 1,
-    -FARTHEST - 1,
-    -FARTHEST,
-    -1_048_577,
-    -1_048_576,
-    -1,
-    0,
-    1,
-    2,
-    3,
-    9,
-    10,
-    1_048_576,
-    1_048_577,
-    FARTHEST,
-    FARTHEST + 1,
-    i32::MAX - 1,
-    i32::MAX,
+    i32::MIN, i32::MIN + 1, -FARTHEST - 1, -FARTHEST, -1_048_577, -1_048_576, -1, 0, 1, 2, 3, 9, 10,
+    1_048_576, 1_048_577, FARTHEST, FARTHEST + 1, i32::MAX - 1, i32::MAX,
 ];
 
 /// Lines that are no forms.
+#[rustfmt::skip]
 const NOT_FORMS: &[&str] = &[
-    "",
-    " ",
-    "\r",
-    "()",
-    "(tolerance)",
-    "(tolerance )",
-    "(tolerance 44) ",
-    "(curve)",
-    "(curve (0 0))",
-    "(curve (0 0) (1 1) (2 2) (3 3) (4 4))",
-    "(curve (0 0)(1 1))",
-    "(curve  (0 0) (1 1))",
-    "(curve (0 0) (1 1)",
-    "(point)",
-    "(point (0 0)))",
-    "(point (0 0) (1 1))",
-    "(point (0))",
-    "(point (0 0 0))",
-    "(point 0 0)",
-    "(Point (0 0))",
-    "(done 1 1 1)",
-    "; nothing",
+    "", " ", "\r", "()", "(tolerance)", "(tolerance )", "(tolerance 44) ", "(curve)", "(curve (0 0))",
+    "(curve (0 0) (1 1) (2 2) (3 3) (4 4))", "(curve (0 0)(1 1))", "(curve  (0 0) (1 1))",
+    "(curve (0 0) (1 1)", "(point)", "(point (0 0)))", "(point (0 0) (1 1))", "(point (0))",
+    "(point (0 0 0))", "(point 0 0)", "(Point (0 0))", "(done 1 1 1)", "; nothing",
 ];
 
 /// Lines that are forms, each for its own place.
 const FORMS: &[&str] = &["(tolerance 44)", "(tolerance 1)", "(curve (0 0) (1 1))", "(point (0 0))"];
 
-/// A text that no check of its lines refuses, unless it is too long.
+/// A text that no check of its size and lines refuses.
 pub fn text(random: &mut Random) -> Vec<u8> {
     let outline = outline(random);
     let mut text = format!("(tolerance {})\n", tolerance(random)).into_bytes();
@@ -115,7 +59,7 @@ pub fn text(random: &mut Random) -> Vec<u8> {
         text.extend(curve_line(points).bytes());
         rest = after;
     }
-    let count = if random.one_in(50) { random.below(400) } else { random.below(9) };
+    let count = if random.one_in(50) { random.below(300) } else { random.below(9) };
     for _ in 0..count {
         let (x, y) = point(random, &outline);
         text.extend(format!("(point ({x} {y}))\n").bytes());
@@ -128,7 +72,7 @@ fn curve_line(points: &[i32]) -> String {
     format!("(curve{pairs})\n")
 }
 
-/// A point on a curve of the outline, near one, anywhere, or about the ends of the range.
+/// A point on a curve of the outline, more or less near one, or about the ends of the range.
 fn point(random: &mut Random, outline: &[i32]) -> (i32, i32) {
     if random.one_in(8) {
         let ends = [FARTHEST, FARTHEST + 1, -FARTHEST, -FARTHEST - 1, i32::MIN, i32::MAX, 0];
@@ -336,19 +280,14 @@ mod tests {
     use super::*;
 
     #[test]
-    fn whole_texts_are_refused_by_no_check_of_lines() {
+    fn whole_texts_pass_the_checks() {
         let mut random = Random::new(6);
         for _ in 0..2_000 {
             let text = text(&mut random);
-            assert!(text.len() <= LONGEST);
-            let answer = String::from_utf8(plain::text::answer(&text)).expect("answers are plain letters");
-            let refused =
-                ["(refused 14", "(refused 15", "(refused 16", "(refused 1 ", "(refused 4", "(refused 6"];
-            assert!(
-                !refused.iter().any(|start| answer.starts_with(start)),
-                "{}{answer}",
-                text.escape_ascii()
-            );
+            let answer = plain::text::answer(&text);
+            let banded =
+                [&b"(leaf"[..], b"(refused 7", b"(refused 8"].iter().any(|start| answer.starts_with(start));
+            assert!(banded, "{}", text.escape_ascii());
         }
     }
 
