@@ -119,6 +119,9 @@ stored-is {B} {z} {r} h t = toZ-ofZ (fits-size {w = w64} {z = r} (record { bound
 pub each-stored : {B : ℕ} {cs : List ℤ} → Each B cs → (k : ℕ) → T (ltb B (2 ^ 63)) → stored w64 (entry cs k) ≡ entry cs k
 each-stored {B} h k t = toZ-ofZ (fits-size {w = w64} (record { bound = B; under = h .under k }) t)
 
+pub each-small : {B : ℕ} {cs : List ℤ} → Each B cs → (k : ℕ) → T (ltb B (2 ^ 63)) → Small B (stored w64 (entry cs k))
+each-small {B} h k t = record { size = subst (λ z. natAbs z ≤ B) (sym (each-stored h k t)) (h .under k) }
+
 -- ---- formulas as the definitions have them
 pub difference-is : (cs : List ℤ) (k : ℕ) → entry cs k -ℤ pos 2 *ℤ entry cs (k + 1) +ℤ entry cs (k + 2) ≡ difference cs k
 difference-is cs k = ap₂ (λ (a b : ℕ). entry cs k -ℤ pos 2 *ℤ entry cs a +ℤ entry cs b) (add-one k) (add-two k)

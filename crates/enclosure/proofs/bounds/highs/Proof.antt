@@ -3,7 +3,7 @@ use native.Mathlib.Omega.{arith}
 use lib.Dec.{lit<}
 use borrow.Author.Needs.{needs}
 use Rattle.enclosure.specs.Boxes.{highOf}
-use Rattle.enclosure.proofs.Coordinates.{bounded, small!, shift-small, four-hold, high-at}
+use Rattle.enclosure.proofs.Coordinates.{each-small, shift-small, four-hold, high-at}
 use Rattle.enclosure.proofs.bounds.highs.Statement.{statement}
 use Rattle.enclosure.proofs.bounds.highs.Tie as tie
 
@@ -27,36 +27,36 @@ array-copy-out-high c = search needs
 
 high-requires : tie.Need-high-requires
 high-requires c κs =
-    let p = c .before .before .before .before .pre in
-    let e = c .before .before .before .row-sums .ensures .size in
-    (small! (search bounded depth 40) tt, small! (search bounded depth 40) tt, small! (search (e, bounded) depth 40) tt, shift-small (p .0 .most) (p .1), lit< tt)
+    let s = c .before .before .before .before in
+    let v = s .pre .0 .values in
+    (each-small v 0 tt, each-small v (s .args .degree) tt, each-small (c .before .before .before .row-sums .ensures .size) 0 tt, shift-small (s .pre .0 .most) (s .pre .1), lit< tt)
 
 array-copy-out-high-2 : tie.Need-array-copy-out-high-2
 array-copy-out-high-2 c = search needs
 
 high-requires-2 : tie.Need-high-requires-2
 high-requires-2 c κs =
-    let p = c .before .before .before .before .before .before .pre in
-    let e = c .before .before .before .before .before .row-sums .ensures .size in
-    (small! (search bounded depth 40) tt, small! (search bounded depth 40) tt, small! (search (e, bounded) depth 40) tt, shift-small (p .0 .most) (p .1), lit< tt)
+    let s = c .before .before .before .before .before .before in
+    let v = s .pre .0 .values in
+    (each-small v 0 tt, each-small v (s .args .degree) tt, each-small (c .before .before .before .before .before .row-sums .ensures .size) 1 tt, shift-small (s .pre .0 .most) (s .pre .1), lit< tt)
 
 array-copy-out-high-3 : tie.Need-array-copy-out-high-3
 array-copy-out-high-3 c = search needs
 
 high-requires-3 : tie.Need-high-requires-3
 high-requires-3 c κs =
-    let p = c .before .before .before .before .before .before .before .before .pre in
-    let e = c .before .before .before .before .before .before .before .row-sums .ensures .size in
-    (small! (search bounded depth 40) tt, small! (search bounded depth 40) tt, small! (search (e, bounded) depth 40) tt, shift-small (p .0 .most) (p .1), lit< tt)
+    let s = c .before .before .before .before .before .before .before .before in
+    let v = s .pre .0 .values in
+    (each-small v 0 tt, each-small v (s .args .degree) tt, each-small (c .before .before .before .before .before .before .before .row-sums .ensures .size) 2 tt, shift-small (s .pre .0 .most) (s .pre .1), lit< tt)
 
 array-copy-out-high-4 : tie.Need-array-copy-out-high-4
 array-copy-out-high-4 c = search needs
 
 high-requires-4 : tie.Need-high-requires-4
 high-requires-4 c κs =
-    let p = c .before .before .before .before .before .before .before .before .before .before .pre in
-    let e = c .before .before .before .before .before .before .before .before .before .row-sums .ensures .size in
-    (small! (search bounded depth 40) tt, small! (search bounded depth 40) tt, small! (search (e, bounded) depth 40) tt, shift-small (p .0 .most) (p .1), lit< tt)
+    let s = c .before .before .before .before .before .before .before .before .before .before in
+    let v = s .pre .0 .values in
+    (each-small v 0 tt, each-small v (s .args .degree) tt, each-small (c .before .before .before .before .before .before .before .before .before .row-sums .ensures .size) 3 tt, shift-small (s .pre .0 .most) (s .pre .1), lit< tt)
 
 returns : tie.Need-returns
 returns c =
