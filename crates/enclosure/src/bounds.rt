@@ -93,16 +93,19 @@ pub fn denominator(degree: u32, depth: u32) -> i64
     1875 * (power as i64)
 }
 
-// The high at break point i from the first and the last control value and the sum there. The fraction's denominator is a power of 2, by a shift,
-// times 1875. The dividend is raised by 2^51 times 1875 and so is not negative: the quotient is then rounded down.
+// 2^51: no bound is larger in size.
+const LARGEST: i64 = 2251799813685248;
+
+// The high at break point i from the first and the last control value and the sum there, rounded up. The fraction's denominator is a power of 2, by
+// a shift, times 1875. Its negated numerator is raised by a multiple of 1875 and so is not negative: the machine's quotient is then rounded down.
 fn high(first: i64, last: i64, sum: i64, shift: u32, i: usize) -> i64
     requires { ⌜ (Small (2 ^ 44) first) × (Small (2 ^ 44) last) × (Small (8800 * 2 ^ 46) sum) × (shift ≤ 24) × (i < 4) ⌝ }
     ensures { λ r. ⌜ Holds (2 ^ 51) (ceiling (numerator i first last sum) (pos 1875 *ℤ pos (2 ^ shift))) r ⌝ }
 {
     let t = i as i64;
     let n = 10000 * ((3 - t) * first + t * last) + 3 * sum;
-    let raised = 4222124650659840000 + (-n >> shift);
-    2251799813685248 - raised / 1875
+    let raised = 1875 * LARGEST + (-n >> shift);
+    LARGEST - raised / 1875
 }
 
 // The highs at the four break points.

@@ -35,6 +35,9 @@ mul-n-4 c = let p = c .pre in fits! (search (p .2, bounded) depth 40) tt
 add-n-2 : tie.Need-add-n-2
 add-n-2 c = let p = c .pre in fits! (search (p .0, p .1, p .2, point (p .4), bounded) depth 40) tt
 
+mul-raised : tie.Need-mul-raised
+mul-raised c = fits! (search bounded depth 40) tt
+
 sub-raised : tie.Need-sub-raised
 sub-raised c = let p = c .pre in fits! (search (p .0, p .1, p .2, point (p .4), bounded) depth 40) tt
 
@@ -72,6 +75,7 @@ high-spec =
     mul-n-3
     mul-n-4
     add-n-2
+    mul-raised
     sub-raised
     cast-raised
     shr-raised
