@@ -29,7 +29,7 @@ high-requires : tie.Need-high-requires
 high-requires c κs =
     let s = c .before .before .before .before in
     let v = s .pre .0 .values in
-    (each-small v 0 tt, each-small v (s .args .degree) tt, each-small (c .before .before .before .row-sums .ensures .size) 0 tt, shift-small (s .pre .0 .most) (s .pre .1), lit< tt)
+    (each-small v _ tt, each-small v _ tt, each-small (c .before .before .before .row-sums .ensures .size) _ tt, omega (arith, shift-small (s .pre .0 .most) (s .pre .1), s .pre .1), lit< tt)
 
 array-copy-out-high-2 : tie.Need-array-copy-out-high-2
 array-copy-out-high-2 c = search needs
@@ -38,7 +38,7 @@ high-requires-2 : tie.Need-high-requires-2
 high-requires-2 c κs =
     let s = c .before .before .before .before .before .before in
     let v = s .pre .0 .values in
-    (each-small v 0 tt, each-small v (s .args .degree) tt, each-small (c .before .before .before .before .before .row-sums .ensures .size) 1 tt, shift-small (s .pre .0 .most) (s .pre .1), lit< tt)
+    (each-small v _ tt, each-small v _ tt, each-small (c .before .before .before .before .before .row-sums .ensures .size) _ tt, omega (arith, shift-small (s .pre .0 .most) (s .pre .1), s .pre .1), lit< tt)
 
 array-copy-out-high-3 : tie.Need-array-copy-out-high-3
 array-copy-out-high-3 c = search needs
@@ -47,7 +47,7 @@ high-requires-3 : tie.Need-high-requires-3
 high-requires-3 c κs =
     let s = c .before .before .before .before .before .before .before .before in
     let v = s .pre .0 .values in
-    (each-small v 0 tt, each-small v (s .args .degree) tt, each-small (c .before .before .before .before .before .before .before .row-sums .ensures .size) 2 tt, shift-small (s .pre .0 .most) (s .pre .1), lit< tt)
+    (each-small v _ tt, each-small v _ tt, each-small (c .before .before .before .before .before .before .before .row-sums .ensures .size) _ tt, omega (arith, shift-small (s .pre .0 .most) (s .pre .1), s .pre .1), lit< tt)
 
 array-copy-out-high-4 : tie.Need-array-copy-out-high-4
 array-copy-out-high-4 c = search needs
@@ -56,7 +56,7 @@ high-requires-4 : tie.Need-high-requires-4
 high-requires-4 c κs =
     let s = c .before .before .before .before .before .before .before .before .before .before in
     let v = s .pre .0 .values in
-    (each-small v 0 tt, each-small v (s .args .degree) tt, each-small (c .before .before .before .before .before .before .before .before .before .row-sums .ensures .size) 3 tt, shift-small (s .pre .0 .most) (s .pre .1), lit< tt)
+    (each-small v _ tt, each-small v _ tt, each-small (c .before .before .before .before .before .before .before .before .before .row-sums .ensures .size) _ tt, omega (arith, shift-small (s .pre .0 .most) (s .pre .1), s .pre .1), lit< tt)
 
 returns : tie.Need-returns
 returns c =
