@@ -30,10 +30,11 @@ fn put_boxes(records: &mut [i32], at: usize, curve: Curve, depth: u32)
     requires { ⌜ (at + 16 ≤ length (now records)) × (Writable depth curve) ⌝ }
     ensures { λ _. ⌜ now (records .exit) ≡ sets (now (records .entry)) at (boxesTo 4 depth curve) ⌝ }
 {
+    let boxes = enclosure::boxes_of(curve, depth);
     let mut i: usize = 0;
     while i < 4 {
         let place = at + 4 * i;
-        put_box(records, place, enclosure::box_at(curve, depth, i));
+        put_box(records, place, boxes.at(i));
         i += 1;
     }
 }

@@ -4,8 +4,12 @@ use mathlib.Core.List.{List}
 use Prim.Native.Nat.{ℕ, zero, suc, _*_, _^_, _≤_}
 use lib.IntN.{ℤ, pos, natAbs, _-ℤ_}
 use lib.Signed.{leZ}
+use Rattle.integers.specs.Entry.{entry}
 use Rattle.bezier.specs.declared.Curve.{Curve}
+use Rattle.bezier.specs.Bounds.{Each}
+use Rattle.bezier.specs.Halves.{listed}
 use Rattle.enclosure.specs.declared.Box.{Box}
+use Rattle.enclosure.specs.declared.NodeBoxes.{NodeBoxes}
 use Rattle.enclosure.specs.Rows.{pieces, thirds}
 use Rattle.enclosure.specs.Bounds.{high, low}
 
@@ -27,6 +31,25 @@ boxAt k c i = record {
   «y_low» = lowOf (c .degree) k (c .y) i;
   «y_high» = highOf (c .degree) k (c .y) i;
 }
+
+-- the boxes at all break points, and one of them
+unfoldable pub boxesOf : ℕ → Curve → NodeBoxes
+boxesOf k c = record {
+  «x_low» = listed 4 (lowOf (c .degree) k (c .x));
+  «x_high» = listed 4 (highOf (c .degree) k (c .x));
+  «y_low» = listed 4 (lowOf (c .degree) k (c .y));
+  «y_high» = listed 4 (highOf (c .degree) k (c .y));
+}
+
+unfoldable pub boxOf : NodeBoxes → ℕ → Box
+boxOf b i = record { «x_low» = entry (b .«x_low») i; «x_high» = entry (b .«x_high») i; «y_low» = entry (b .«y_low») i; «y_high» = entry (b .«y_high») i }
+
+-- every number of the boxes is at most B in size
+pub record AllSides (B : ℕ) (b : NodeBoxes) : Type 0 where
+  pub x-low : Each B (b .«x_low»)
+  pub x-high : Each B (b .«x_high»)
+  pub y-low : Each B (b .«y_low»)
+  pub y-high : Each B (b .«y_high»)
 
 -- every number of a box is at most B in size
 pub record Sides (B : ℕ) (b : Box) : Type 0 where

@@ -2,7 +2,8 @@
 ghost use mathlib.Core.Path.{_≡_};
 ghost use Prim.Native.Nat.{_<_, _≤_, _^_};
 ghost use Rattle.bezier.specs.Bounds.{Sized};
-ghost use Rattle.enclosure.specs.Boxes.{Sides, boxAt, narrow, meets};
+ghost use Rattle.enclosure.specs.Boxes.{lowOf, highOf, boxesOf, boxOf, AllSides, meets};
+ghost use Rattle.enclosure.specs.Terms.{Readable, within};
 
 mod bounds;
 mod spread;
@@ -17,19 +18,27 @@ pub struct Box {
     pub y_high: i64,
 }
 
-// The box at break point i, from 0 to 3, of a curve at a depth.
-pub fn box_at(curve: Curve, depth: u32, i: usize) -> Box
-    requires { ⌜ (Sized depth curve) × (depth ≤ 8) × (i < 4) ⌝ }
-    ensures { λ b. ⌜ (b ≡ boxAt depth curve i) × (Sides (2 ^ 51) b) ⌝ }
+// The boxes at the four break points of a node: the lows and the highs of each coordinate.
+pub struct NodeBoxes {
+    pub x_low: [i64; 4],
+    pub x_high: [i64; 4],
+    pub y_low: [i64; 4],
+    pub y_high: [i64; 4],
+}
+
+// The boxes of a curve at a depth.
+pub fn boxes_of(curve: Curve, depth: u32) -> NodeBoxes
+    requires { ⌜ (Sized depth curve) × (depth ≤ 8) ⌝ }
+    ensures { λ b. ⌜ (b ≡ boxesOf depth curve) × (AllSides (2 ^ 51) b) ⌝ }
 {
     let degree = curve.degree;
     let x = curve.x;
     let y = curve.y;
-    let x_low = bounds::low(x, degree, depth, i);
-    let x_high = bounds::high(x, degree, depth, i);
-    let y_low = bounds::low(y, degree, depth, i);
-    let y_high = bounds::high(y, degree, depth, i);
-    Box {
+    let x_low = bounds::lows(x, degree, depth);
+    let x_high = bounds::highs(x, degree, depth);
+    let y_low = bounds::lows(y, degree, depth);
+    let y_high = bounds::highs(y, degree, depth);
+    NodeBoxes {
         x_low,
         x_high,
         y_low,
@@ -37,16 +46,41 @@ pub fn box_at(curve: Curve, depth: u32, i: usize) -> Box
     }
 }
 
-impl Box {
-    // High less low is at most t in both coordinates.
-    pub fn is_narrow(self, t: i64) -> bool
-        requires { ⌜ Sides (2 ^ 51) self ⌝ }
-        ensures { λ r. ⌜ r ≡ narrow t self ⌝ }
+impl NodeBoxes {
+    // The box at break point i, from 0 to 3.
+    pub fn at(self, i: usize) -> Box
+        requires { ⌜ (AllSides (2 ^ 51) self) × (i < 4) ⌝ }
+        ensures { λ b. ⌜ b ≡ boxOf self i ⌝ }
     {
-        let width = self.x_high - self.x_low;
-        let height = self.y_high - self.y_low;
-        width <= t && height <= t
+        let x_low = self.x_low[i];
+        let x_high = self.x_high[i];
+        let y_low = self.y_low[i];
+        let y_high = self.y_high[i];
+        Box {
+            x_low,
+            x_high,
+            y_low,
+            y_high,
+        }
     }
+}
+
+// Low and high of one coordinate are at most t apart at all four break points.
+fn is_narrow(c: [i64; 4], degree: u32, depth: u32, t: i64) -> bool
+    requires { ⌜ (Readable c degree) × (depth ≤ 8) ⌝ }
+    ensures { λ r. ⌜ r ≡ within 4 t (lowOf degree depth c) (highOf degree depth c) ⌝ }
+{
+    let low = bounds::lows(c, degree, depth);
+    let high = bounds::highs(c, degree, depth);
+    let mut i: usize = 0;
+    while i < 4 {
+        let width = high[i] - low[i];
+        if t < width {
+            return false;
+        }
+        i += 1;
+    }
+    true
 }
 
 // The boxes at all four break points are narrow.
@@ -54,14 +88,10 @@ fn boxes_meet(curve: Curve, depth: u32, t: i64) -> bool
     requires { ⌜ (Sized depth curve) × (depth ≤ 8) ⌝ }
     ensures { λ r. ⌜ r ≡ meets t depth curve ⌝ }
 {
-    let mut i: usize = 0;
-    while i < 4 {
-        if !box_at(curve, depth, i).is_narrow(t) {
-            return false;
-        }
-        i += 1;
-    }
-    true
+    let degree = curve.degree;
+    let x = curve.x;
+    let y = curve.y;
+    is_narrow(x, degree, depth, t) && is_narrow(y, degree, depth, t)
 }
 
 // The node meets the tolerance: its boxes at all four break points are narrow. How far its lows and highs are apart before rounding decides

@@ -29,7 +29,7 @@ fn larger(a: i64, b: i64) -> i64
 
 // The spread of one coordinate: the gaps of its rows at break points 1 and 2, times the sizes of the second differences.
 fn spread(c: [i64; 4], degree: u32) -> i64
-    requires { ⌜ Readable c degree 0 ⌝ }
+    requires { ⌜ Readable c degree ⌝ }
     ensures { λ r. ⌜ Holds (2 ^ 60) (spread degree c) r ⌝ }
 {
     match degree {

@@ -135,6 +135,16 @@ module _ {d : ℤ} (hd : pos 0 <ℤ d) where
           above = le-by (k ∷ d ∷ n ∷ q ∷ []) ((gap< hk +₀ natural 1) ×₀ gap (f .above)) (search sides depth 20) refl;
         }))
 
+  -- whole multiples of d can be divided apart; where the sum is not negative, the machine's quotient does it
+  pub floor-raised : (k n : ℤ) → floor (k *ℤ d +ℤ n) d ≡ k +ℤ floor n d
+  floor-raised k n =
+      let q = floor n d in
+      let f = floor-is n d hd in
+      sym (floor-unique hd (record {
+        below = le-by (k ∷ d ∷ n ∷ q ∷ []) (gap (f .below)) (search sides depth 20) refl;
+        above = lt-by (k ∷ d ∷ n ∷ q ∷ []) (gap< (f .above)) (search sides depth 20) refl;
+      }))
+
 -- ---- a division in two steps, and a shift to the right by a power of 2, which divides by it
 pub floor-floor : {d e : ℤ} → pos 0 <ℤ d → pos 0 <ℤ e → (n : ℤ) → floor (floor n d) e ≡ floor n (e *ℤ d)
 floor-floor {d} {e} hd he n =
@@ -151,6 +161,12 @@ pub shift-floor : (n : ℤ) (k : ℕ) → shrZ n k ≡ floor n (pos k)
 unfolding floor
 shift-floor (pos a) k = refl
 shift-floor (negsuc a) k = refl
+
+-- the machine's quotient of a number that is not negative
+pub quotient-floor : (n : ℤ) (d : ℕ) → NonNeg n → quotZ n (pos d) ≡ floor n (pos d)
+unfolding floor
+quotient-floor (pos a) d h = refl
+quotient-floor (negsuc a) d h = absurd (h .holds)
 
 -- at most B in size where n is at most B · d
 pub floor-size : (B : ℕ) {n d : ℤ} → pos 0 <ℤ d → n ≤ℤ (pos B *ℤ d) → (negℤ (pos B) *ℤ d) ≤ℤ n → natAbs (floor n d) ≤ B

@@ -1,71 +1,85 @@
--- The high of one coordinate: the reduced fraction, rounded up.
-use mathlib.Core.Path.{_∙_, sym}
-use Prim.Native.Nat.{_*_, _^_}
-use native.Mathlib.Omega.{arith}
+-- The high of one coordinate at a break point: the reduced fraction, rounded up.
+use Prim.Native.Nat.{_^_}
 use lib.Dec.{lit<}
-use lib.IntN.{pos, _+ℤ_, _*ℤ_}
+use lib.IntN.{pos, _+ℤ_, _-ℤ_, _*ℤ_}
 use lib.Pow.{pow-pos}
-use Rattle.integers.proofs.Machine.{fits! }
-use Rattle.enclosure.specs.Rows.{thirds}
-use Rattle.enclosure.specs.Bounds.{chord, rowSum}
-use Rattle.enclosure.proofs.Reduced.{high-reduced}
-use Rattle.enclosure.proofs.Coordinates.{bounded, holds!, shift-small, floor-holds, ceiling-shifted, over-positive}
+use mir.Syntax.{w64}
+use mir.Val.{toZ}
+use Rattle.integers.proofs.Machine.{Held, fits!, is! }
+use Rattle.enclosure.proofs.Coordinates.{bounded, point, raised-holds}
 use borrow.Author.Needs.{needs}
 use Rattle.enclosure.proofs.bounds.high.Statement.{statement}
 use Rattle.enclosure.proofs.bounds.high.Tie as tie
 
-chord-at-requires : tie.Need-chord-at-requires
-chord-at-requires c κs = search needs
+cast-t : tie.Need-cast-t
+cast-t c = search needs
 
-row-sum-requires : tie.Need-row-sum-requires
-row-sum-requires c κs = search needs
+sub-n : tie.Need-sub-n
+sub-n c = let p = c .pre in fits! (search (point (p .4), bounded) depth 40) tt
 
 mul-n : tie.Need-mul-n
-mul-n c = fits! (search bounded depth 40) tt
+mul-n c = let p = c .pre in fits! (search (p .0, point (p .4), bounded) depth 40) tt
+
+mul-n-2 : tie.Need-mul-n-2
+mul-n-2 c = let p = c .pre in fits! (search (p .1, point (p .4), bounded) depth 40) tt
 
 add-n : tie.Need-add-n
-add-n c = fits! (search bounded depth 40) tt
+add-n c = let p = c .pre in fits! (search (p .0, p .1, point (p .4), bounded) depth 40) tt
 
-sub-floor-div : tie.Need-sub-floor-div
-sub-floor-div c = fits! (search bounded depth 40) tt
+mul-n-3 : tie.Need-mul-n-3
+mul-n-3 c = let p = c .pre in fits! (search (p .0, p .1, point (p .4), bounded) depth 40) tt
 
-mul-floor-div : tie.Need-mul-floor-div
-mul-floor-div c = let p = c .before .before .pre in omega (arith, shift-small (p .0 .most) (p .1))
+mul-n-4 : tie.Need-mul-n-4
+mul-n-4 c = let p = c .pre in fits! (search (p .2, bounded) depth 40) tt
 
-cast-floor-div : tie.Need-cast-floor-div
-cast-floor-div c = let p = c .before .before .pre in omega (arith, shift-small (p .0 .most) (p .1))
+add-n-2 : tie.Need-add-n-2
+add-n-2 c = let p = c .pre in fits! (search (p .0, p .1, p .2, point (p .4), bounded) depth 40) tt
 
-shr-floor-div : tie.Need-shr-floor-div
-shr-floor-div c = let p = c .before .before .pre in omega (arith, shift-small (p .0 .most) (p .1))
+mul-raised : tie.Need-mul-raised
+mul-raised c = fits! (search bounded depth 40) tt
 
-floor-div-requires : tie.Need-floor-div-requires
-floor-div-requires c κs = search needs
+sub-raised : tie.Need-sub-raised
+sub-raised c = let p = c .pre in fits! (search (p .0, p .1, p .2, point (p .4), bounded) depth 40) tt
+
+cast-raised : tie.Need-cast-raised
+cast-raised c = search needs
+
+shr-raised : tie.Need-shr-raised
+shr-raised c = search needs
+
+add-raised : tie.Need-add-raised
+add-raised c = let p = c .pre in fits! (search (p .0, p .1, p .2, point (p .4), bounded) depth 40) tt
+
+div-result : tie.Need-div-result
+div-result c = let p = c .pre in (lit< tt, fits! (search (p .0, p .1, p .2, point (p .4), bounded) depth 40) tt)
 
 sub-result : tie.Need-sub-result
-sub-result c =
-    let q = floor-holds (2 ^ 51) (c .floor-div .ensures) (search bounded depth 40) tt in
-    fits! (search (q, bounded) depth 40) tt
+sub-result c = let p = c .pre in fits! (search (p .0, p .1, p .2, point (p .4), bounded) depth 40) tt
 
 returns : tie.Need-returns
 returns c =
-    let a = c .before .before .before .args in
-    let q = floor-holds (2 ^ 51) (c .floor-div .ensures) (search bounded depth 40) tt in
-    holds! (search (q, bounded) depth 40) tt
-    (ceiling-shifted (chord 3 (a .degree) (a .i) (a .c) +ℤ pos 3 *ℤ rowSum (thirds (a .degree)) (a .i) 0 (a .c)) (2 ^ (a .degree * a .depth)) (pow-pos (a .degree * a .depth))
-    ∙ sym (high-reduced (lit< tt) (over-positive (a .degree) (a .depth)) (thirds (a .degree)) (a .degree) (a .c) (a .i)))
+    let p = c .pre in
+    let a = c .args in
+    let n : Held (pos 10000 *ℤ ((pos 3 -ℤ toZ w64 (a .i)) *ℤ a .first +ℤ toZ w64 (a .i) *ℤ a .last) +ℤ pos 3 *ℤ a .sum) = search (p .0, p .1, p .2, point (p .4), bounded) depth 40 in
+    raised-holds (2 ^ 51) n tt (2 ^ a .shift) (pow-pos (a .shift)) (is! (search (p .0, p .1, p .2, point (p .4), bounded) depth 40) tt)
 
 pub high-spec : {M : Type 1} → statement M
 high-spec =
     tie.close
     (tie.spec
-    chord-at-requires
-    row-sum-requires
+    cast-t
+    sub-n
     mul-n
+    mul-n-2
     add-n
-    sub-floor-div
-    mul-floor-div
-    cast-floor-div
-    shr-floor-div
-    floor-div-requires
+    mul-n-3
+    mul-n-4
+    add-n-2
+    mul-raised
+    sub-raised
+    cast-raised
+    shr-raised
+    add-raised
+    div-result
     sub-result
     returns)
