@@ -1,4 +1,4 @@
-/* The C interface of the contour band engine: banding an outline and judging points. */
+/* The C interface of the contour band engine: banding an outline, judging points, drawing the hull of two boxes. */
 #ifndef CONTOUR_BAND_H
 #define CONTOUR_BAND_H
 
@@ -109,6 +109,43 @@ struct contour_band_outcome {
  * the records are those of contour_band. */
 struct contour_band_outcome contour_band_and_judge(const int32_t *outline, size_t outline_length, int32_t tolerance,
                                                    int32_t *records, size_t records_length, int32_t x, int32_t y);
+/* How many numbers drawing asks for: x and y of eight vertices. */
+#define CONTOUR_BAND_VERTEX_ROOM 16
+
+/* The refusals of drawing, in the order in which they are tried. The spot stands beside each. */
+enum contour_band_drawing_refusal {
+    CONTOUR_BAND_BOX_NUMBER = 12,        /* a number of a box beyond its range, or a low above its high; its place, 0 to 7 */
+    CONTOUR_BAND_TOO_FEW_VERTICES = 13   /* vertices_length is less than 16; vertices_length */
+};
+
+/* A box: what lies from the lows to the highs, edges included, in sixteenths of a stage unit. */
+struct contour_band_box {
+    int32_t x_low;
+    int32_t x_high;
+    int32_t y_low;
+    int32_t y_high;
+};
+
+/* What drawing answers. */
+struct contour_band_drawing {
+    uint32_t refusal;  /* 0 where the boxes are accepted, else the number of the refusal */
+    uint64_t spot;     /* the refusal's spot; 0 where the boxes are accepted */
+    uint64_t vertices; /* how many vertices there are, 1 to 8; 0 where the boxes are refused */
+};
+
+/* Draws the convex hull of two boxes.
+ *
+ * first, second: boxes whose numbers are from -CONTOUR_BAND_FARTHEST to CONTOUR_BAND_FARTHEST, no low above its high. The
+ *     places of their numbers are 0 to 3 and 4 to 7, in the order of the struct; a low above its high is named by the low.
+ * vertices: where x and y of each vertex are written, counter-clockwise from the lowest, then leftmost. No three are in line.
+ *
+ * Accepted: the first 2 * vertices numbers of the list are written, and the numbers past them stay as they were.
+ * Refused: every number of the list stays as it was.
+ *
+ * Any boxes, contents and length are taken. The pointer must be aligned for int32_t and must not be NULL, also where the
+ * length is 0. The call allocates nothing, keeps nothing and always returns. */
+struct contour_band_drawing contour_draw(struct contour_band_box first, struct contour_band_box second, int32_t *vertices,
+                                         size_t vertices_length);
 
 #ifdef __cplusplus
 }

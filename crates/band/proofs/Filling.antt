@@ -9,6 +9,7 @@ use lib.ListN.{length, length-append}
 use lib.Seq.{sets, length-sets}
 use lib.IntN.{ℤ, pos}
 use lib.Signed.{_≤ℤ_}
+use Rattle.integers.proofs.Stores.{sets-append}
 use Rattle.bezier.specs.declared.Curve.{Curve}
 use Rattle.outline.specs.Curves.{nextAt, curveAt}
 use Rattle.outline.specs.Checks.{outlineFrom}
@@ -20,7 +21,6 @@ use Rattle.band.specs.Outcomes.{AllMeet}
 use Rattle.tree.proofs.Failing.{passing-none}
 use Rattle.band.proofs.Wide.{none-wide, meet-head, meet-rest}
 use Rattle.band.proofs.Outlines.{Rest, rest-start, rest-next, rest-done}
-use Rattle.band.proofs.Writing.{sets-append}
 use Rattle.band.proofs.Recording.{records-length}
 
 more-leaves : (T : ℤ) (c : Curve) (cs : List Curve) → leavesOf T (c ∷ cs) ≡ length (endsOf T c) + leavesOf T cs

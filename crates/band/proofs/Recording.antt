@@ -9,6 +9,7 @@ use lib.Dec.{lit≤}
 use lib.ListN.{length, length-append}
 use lib.Seq.{sets, length-sets}
 use lib.IntN.{ℤ}
+use Rattle.integers.proofs.Stores.{sets-append}
 use Rattle.bezier.specs.declared.Curve.{Curve}
 use Rattle.bezier.specs.Nodes.{depth, nodeCurve, after}
 use Rattle.bezier.proofs.Sizes.{node-sized}
@@ -19,7 +20,7 @@ use Rattle.band.specs.Records.{boxesTo, nodeNumbers, recordOf, recordsOf
 use Rattle.band.specs.Writing.{Writable, Ready}
 use Rattle.tree.proofs.Failing.{none-passing}
 use Rattle.tree.proofs.Walking.{Walking, walking-start, walking-half, walking-halvable, walking-leaf, walking-done, fewer-passed}
-use Rattle.band.proofs.Writing.{boxes-length, sets-append}
+use Rattle.band.proofs.Writing.{boxes-length}
 
 -- ---- lengths
 pub record-length : (k : ℕ) (c : Curve) (n : ℕ) → length (recordOf k c n) ≡ 18

@@ -8,6 +8,7 @@ use native.Mathlib.Numerals.{add-one, add-two, add-three}
 use lib.ListN.{length, set, length-append}
 use lib.Seq.{sets}
 use lib.IntN.{ℤ, pos}
+use Rattle.integers.proofs.Stores.{sets-append}
 use Rattle.bezier.specs.declared.Curve.{Curve}
 use Rattle.enclosure.specs.declared.Box.{Box}
 use Rattle.enclosure.specs.Boxes.{boxAt}
@@ -20,10 +21,6 @@ four-sets l at {a} {b} {c} {d} {c′ = u} {d′ = v} ea eb ec ed =
     ap₂ (λ x y. set (set (set (set l at x) (at + 1) y) (at + 2) u) (at + 3) v) ea eb
     ∙ ap₂ (λ x y. set (set (set (set l at a) (at + 1) b) (at + 2) x) (at + 3) y) ec ed
     ∙ rw (add-one, add-two, add-three)
-
-pub sets-append : (l : List ℤ) (i : ℕ) (xs ys : List ℤ) → sets l i (xs ++ ys) ≡ sets (sets l i xs) (i + length xs) ys
-sets-append l i [] ys = ap (λ k. sets l k ys) (sym (add-zero i))
-sets-append l i (x ∷ xs) ys = sets-append (set l i x) (suc i) xs ys ∙ ap (λ k. sets (sets (set l i x) (suc i) xs) k ys) (suc-add i (length xs) ∙ sym (add-suc i (length xs)))
 
 -- two stores in front of a run
 pub head-sets : (l : List ℤ) (at k n : ℕ) (vs : List ℤ) {a b : ℤ} {l′ : List ℤ} → a ≡ pos k → b ≡ pos n

@@ -4,3 +4,4 @@ pub mod Demand3
 pub mod Outcomes
 pub mod Starred
 pub mod Answers
+pub mod Drawings

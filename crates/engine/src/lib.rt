@@ -2,9 +2,13 @@
 ghost use mathlib.Core.Path.{_≡_};
 ghost use lib.ListN.{length};
 ghost use Rattle.band.specs.Banding.{banded, written};
+ghost use Rattle.cover.specs.Drawing.{drawn, drawnInto};
+ghost use Rattle.engine.specs.Drawings.{drawingOf};
 ghost use Rattle.engine.specs.Outcomes.{Answered};
 ghost use Rattle.engine.specs.Answers.{answerOf, judgingAnswerOf, outcomeAnswerOf, JudgedInNumbers, AnsweredInNumbers};
 use band::Banded;
+use boxes::Box;
+use cover::Drawn;
 use judge::Judgement;
 use refusals::Refusal;
 
@@ -201,6 +205,41 @@ fn in_numbers(banded: Banded) -> Answer
             curves: 0,
             leaves: 0,
             nodes: 0,
+        },
+    }
+}
+
+// What drawing answers, in numbers: a refusal's number and spot, or 0 and 0 and the count of vertices.
+#[repr(C)]
+pub struct Drawing {
+    pub refusal: u32,
+    pub spot: u64,
+    pub vertices: u64,
+}
+
+// Draws the convex hull of two boxes, and writes x and y of its vertices to the front of the list.
+#[no_mangle]
+pub extern "C" fn contour_draw(first: Box, second: Box, vertices: &mut [i32]) -> Drawing
+    ensures { λ r. ⌜ (r ≡ drawingOf (drawn first second (length (now (vertices .entry))))) × (now (vertices .exit) ≡ drawnInto first second (now (vertices .entry))) ⌝ }
+{
+    let drawn = cover::draw(first, second, vertices);
+    drawing_in_numbers(drawn)
+}
+
+// The numbers of a drawing's answer.
+fn drawing_in_numbers(drawn: Drawn) -> Drawing
+    ensures { λ r. ⌜ r ≡ drawingOf drawn ⌝ }
+{
+    match drawn {
+        Drawn::Vertices(count) => Drawing {
+            refusal: 0,
+            spot: 0,
+            vertices: count as u64,
+        },
+        Drawn::Refused(refusal) => Drawing {
+            refusal: refusal.number(),
+            spot: refusal.spot() as u64,
+            vertices: 0,
         },
     }
 }

@@ -12,3 +12,4 @@ pub mod Clash
 pub mod First
 pub mod Size
 pub mod Machine
+pub mod Stores

@@ -3,6 +3,7 @@
 #![forbid(unsafe_code)]
 
 mod banding;
+mod drawing;
 mod judging;
 mod outlines;
 mod times;
@@ -11,4 +12,6 @@ fn main() {
     banding::run();
     println!();
     judging::run();
+    println!();
+    drawing::run();
 }

@@ -4,6 +4,7 @@
 //! d + 1 control points in stage units. [`band`] encloses it in boxes that are nowhere wider than
 //! a tolerance, and writes them to a list that the caller lends. [`leaves`] reads them. [`judge`]
 //! says of a measured point whether it lies on what the boxes cover, and [`band_and_judge`] does both.
+//! [`draw`] draws the convex hull of two boxes.
 //!
 //! ```
 //! use contour_band::{band, judge, leaves, Judgement, Refusal};
@@ -28,12 +29,14 @@
 //! ```
 
 mod band;
+mod cover;
 mod judge;
 mod leaf;
 mod library;
 mod refusal;
 
 pub use band::{band, Report};
+pub use cover::{draw, VERTEX_ROOM};
 pub use judge::{band_and_judge, judge, Judgement, Outcome, FARTHEST};
 pub use leaf::{leaves, Bounds, BoxBounds, Leaf, BREAK_POINTS, RECORD};
 pub use refusal::Refusal;

@@ -1,5 +1,7 @@
 //! The archive's functions, as include/contour_band.h declares them, behind safe ones.
 
+use crate::leaf::BoxBounds;
+
 /// `struct contour_band_answer`.
 #[repr(C)]
 #[derive(Debug, Clone, Copy, PartialEq, Eq)]
@@ -41,6 +43,25 @@ pub struct Outcome {
     pub cover: u64,
 }
 
+/// `struct contour_band_box`.
+#[repr(C)]
+struct Box {
+    x_low: i32,
+    x_high: i32,
+    y_low: i32,
+    y_high: i32,
+}
+
+/// `struct contour_band_drawing`.
+#[repr(C)]
+#[derive(Debug, Clone, Copy, PartialEq, Eq)]
+pub struct Drawing {
+    /// 0 where the boxes are accepted.
+    pub refusal: u32,
+    pub spot: u64,
+    pub vertices: u64,
+}
+
 extern "C" {
     fn contour_band(
         outline: *const i32,
@@ -61,6 +82,8 @@ extern "C" {
         x: i32,
         y: i32,
     ) -> Outcome;
+
+    fn contour_draw(first: Box, second: Box, vertices: *mut i32, vertices_length: usize) -> Drawing;
 }
 
 /// The answer for an outline. Writes to `records` as the header says.
@@ -91,6 +114,13 @@ pub fn band_and_judge(outline: &[i32], tolerance: i32, records: &mut [i32], x: i
             y,
         )
     }
+}
+
+/// The answer for two boxes. Writes to `vertices` as the header says.
+pub fn draw(first: BoxBounds, second: BoxBounds, vertices: &mut [i32]) -> Drawing {
+    let numbers = |b: BoxBounds| Box { x_low: b.x.low, x_high: b.x.high, y_low: b.y.low, y_high: b.y.high };
+    // Safety: as above.
+    unsafe { contour_draw(numbers(first), numbers(second), vertices.as_mut_ptr(), vertices.len()) }
 }
 
 #[cfg(test)]

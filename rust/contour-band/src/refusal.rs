@@ -58,6 +58,17 @@ pub enum Refusal {
     PointX,
     /// 11: the point's y is beyond ±[`FARTHEST`](crate::FARTHEST), and its x is not.
     PointY,
+    /// 12: a number of two boxes is not −536,870,912 to 536,870,912, or a low is above its high.
+    BoxNumber {
+        /// The place of the first such number: x low, x high, y low, y high of the first box are 0 to
+        /// 3, those of the second 4 to 7. A low above its high is named by the low.
+        place: usize,
+    },
+    /// 13: the lent list has fewer than [`VERTEX_ROOM`](crate::VERTEX_ROOM) numbers.
+    TooFewVertices {
+        /// How many it has.
+        length: usize,
+    },
 }
 
 impl Refusal {
@@ -75,6 +86,8 @@ impl Refusal {
             Refusal::LeafListLength { .. } => 9,
             Refusal::LeafListNumber { .. } => 10,
             Refusal::PointX | Refusal::PointY => 11,
+            Refusal::BoxNumber { .. } => 12,
+            Refusal::TooFewVertices { .. } => 13,
         }
     }
 
@@ -90,6 +103,8 @@ impl Refusal {
             Refusal::CutShort { length } | Refusal::LeafListLength { length } => length as u64,
             Refusal::TooWide { curve, node } => 512 * curve as u64 + u64::from(node),
             Refusal::TooFewRecords { leaves } => leaves as u64,
+            Refusal::BoxNumber { place } => place as u64,
+            Refusal::TooFewVertices { length } => length as u64,
         }
     }
 
@@ -113,6 +128,8 @@ impl Refusal {
             10 => Refusal::LeafListNumber { index: place },
             11 if spot == 0 => Refusal::PointX,
             11 if spot == 1 => Refusal::PointY,
+            12 => Refusal::BoxNumber { place },
+            13 => Refusal::TooFewVertices { length: place },
             _ => panic!("the library answered refusal {number} at {spot}, which does not exist"),
         }
     }
@@ -140,6 +157,12 @@ impl fmt::Display for Refusal {
             }
             Refusal::PointX => write!(f, "the point's x is outside its range"),
             Refusal::PointY => write!(f, "the point's y is outside its range"),
+            Refusal::BoxNumber { place } => {
+                write!(f, "number {place} of the boxes is outside its range or above its high")
+            }
+            Refusal::TooFewVertices { length } => {
+                write!(f, "a list of {length} numbers has no room for eight vertices")
+            }
         }
     }
 }
@@ -153,7 +176,7 @@ mod tests {
     #[test]
     fn number_and_spot_are_what_the_library_answered() {
         let places = [0, 1, 17, 575, 32_767];
-        for number in 2..=10 {
+        for number in (2..=10).chain(12..=13) {
             for place in places {
                 // 6 has the spot 0 only.
                 let spot = if number == 6 { 0 } else { place };

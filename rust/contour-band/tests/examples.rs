@@ -1,7 +1,8 @@
-//! The measured examples of document 01 that banding and judging reach, through the public functions.
+//! The measured examples of document 01 that banding, judging and drawing reach, through the public functions.
 
 use contour_band::{
-    band, band_and_judge, judge, leaves, Judgement, Outcome, Refusal, Report, FARTHEST, RECORD,
+    band, band_and_judge, draw, judge, leaves, Bounds, BoxBounds, Judgement, Outcome, Refusal, Report,
+    FARTHEST, RECORD,
 };
 
 const CURVE_A: [i32; 9] = [3, 0, 0, 10, 30, 20, 30, 30, 0];
@@ -102,4 +103,21 @@ fn refusals_of_judging() {
     assert_eq!(refused, Err(Refusal::TooFewRecords { leaves: 2 }));
     assert_eq!(band_and_judge(&[], 44, &mut lent, FARTHEST + 1, 0), Err(Refusal::EmptyOutline));
     assert_eq!(lent, [7; RECORD]);
+}
+
+/// The numbers drawn for two boxes, x low, x high, y low, y high each.
+fn drawn(first: [i32; 4], second: [i32; 4]) -> Vec<i32> {
+    let bounds =
+        |b: [i32; 4]| BoxBounds { x: Bounds { low: b[0], high: b[1] }, y: Bounds { low: b[2], high: b[3] } };
+    let mut vertices = [-5; 20];
+    let count = draw(bounds(first), bounds(second), &mut vertices).expect("the boxes are accepted");
+    assert!(vertices[2 * count..].iter().all(|&n| n == -5));
+    vertices[..2 * count].to_vec()
+}
+
+#[test]
+fn covers() {
+    assert_eq!(drawn([0, 1, 0, 1], [3, 4, 3, 4]), [0, 0, 1, 0, 4, 3, 4, 4, 3, 4, 0, 1]);
+    assert_eq!(drawn([-10, 10, -1, 1], [-1, 1, -10, 10]).len(), 16);
+    assert_eq!(drawn([7, 7, -3, -3], [7, 7, -3, -3]), [7, -3]);
 }

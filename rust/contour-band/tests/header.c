@@ -1,4 +1,4 @@
-/* A C caller of the header: bands curve A, judges points, and prints the answers, to be compared by header.rs. */
+/* A C caller of the header: bands curve A, judges points, draws two boxes, and prints the answers, to be compared by header.rs. */
 #include "contour_band.h"
 
 #include <stdio.h>
@@ -37,6 +37,16 @@ static void band_and_judge(const int32_t *outline, int32_t *records) {
     print_outcome(contour_band_and_judge(outline, 9, 43, records, 2 * CONTOUR_BAND_RECORD, 0, CONTOUR_BAND_FARTHEST + 1));
 }
 
+static void draw(struct contour_band_box first, struct contour_band_box second, size_t length) {
+    int32_t vertices[CONTOUR_BAND_VERTEX_ROOM] = {0};
+    struct contour_band_drawing drawing = contour_draw(first, second, vertices, length);
+    printf("%u %llu %llu", (unsigned)drawing.refusal, (unsigned long long)drawing.spot, (unsigned long long)drawing.vertices);
+    for (int i = 0; i < CONTOUR_BAND_VERTEX_ROOM; i++) {
+        printf(" %d", (int)vertices[i]);
+    }
+    printf("\n");
+}
+
 int main(void) {
     const int32_t outline[9] = {3, 0, 0, 10, 30, 20, 30, 30, 0};
     int32_t records[2 * CONTOUR_BAND_RECORD] = {0};
@@ -50,5 +60,12 @@ int main(void) {
     print(contour_band(outline, 9, 43, records, CONTOUR_BAND_RECORD));
     judge(records, CONTOUR_BAND_RECORD);
     band_and_judge(outline, records);
+
+
+    const struct contour_band_box near = {0, 1, 0, 1}, far = {3, 4, 3, 4};
+    const struct contour_band_box beyond = {0, 0, 0, CONTOUR_BAND_FARTHEST + 1};
+    draw(near, far, CONTOUR_BAND_VERTEX_ROOM);
+    draw(near, far, CONTOUR_BAND_VERTEX_ROOM - 1);
+    draw(near, beyond, 0);
     return 0;
 }

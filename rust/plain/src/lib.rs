@@ -1,9 +1,10 @@
 //! A plain engine for contour bands, written from document 01 alone. It shares nothing with the
 //! proved engine, and the two are compared with each other, number by number.
 //!
-//! [`band`] encloses an outline of Bézier curves in boxes, and [`judge`] says whether a point lies on
-//! what they cover. The modules follow the document's sections: the checks of an outline, halving,
-//! the enclosure, the walk; the checks of a leaf list and a point, covers, judging.
+//! [`band`] encloses an outline of Bézier curves in boxes, [`judge`] says whether a point lies on
+//! what they cover, and [`draw`] draws the hull of two boxes. The modules follow the document's
+//! sections: the checks of an outline, halving, the enclosure, the walk; the checks of a leaf list and
+//! a point, covers, judging; drawing.
 
 #![forbid(unsafe_code)]
 
@@ -13,11 +14,13 @@ mod curve;
 mod enclosure;
 #[cfg(test)]
 mod examples;
+mod hull;
 mod judge;
 mod leaf_list;
 mod outline;
 mod refusal;
 
 pub use band::{band, Report, RECORD};
+pub use hull::draw;
 pub use judge::{judge, Judgement};
 pub use refusal::Refusal;

@@ -54,6 +54,16 @@ pub enum Refusal {
     PointX,
     /// 11: the point's y is beyond the range, and its x is not.
     PointY,
+    /// 12: a number of two boxes is beyond its range, or a low above its high.
+    BoxNumber {
+        /// The place of the first such number, 0 to 7.
+        place: usize,
+    },
+    /// 13: fewer than 16 numbers are lent for vertices.
+    TooFewVertices {
+        /// How many are lent.
+        length: usize,
+    },
 }
 
 impl Refusal {
@@ -71,6 +81,8 @@ impl Refusal {
             Refusal::LeafListLength { .. } => 9,
             Refusal::LeafListNumber { .. } => 10,
             Refusal::PointX | Refusal::PointY => 11,
+            Refusal::BoxNumber { .. } => 12,
+            Refusal::TooFewVertices { .. } => 13,
         }
     }
 
@@ -86,6 +98,8 @@ impl Refusal {
             Refusal::CutShort { length } | Refusal::LeafListLength { length } => length,
             Refusal::TooWide { curve, node } => 512 * curve + node,
             Refusal::TooFewRecords { leaves } => leaves,
+            Refusal::BoxNumber { place } => place,
+            Refusal::TooFewVertices { length } => length,
         };
         spot as u64
     }

@@ -1,0 +1,13 @@
+-- `cover::path::higher` meets its contract.
+use Rattle.cover.proofs.Spans.{higher-then, higher-else}
+use Rattle.cover.proofs.path.higher.Statement.{statement}
+use Rattle.cover.proofs.path.higher.Tie as tie
+
+returns : tie.Need-returns
+returns c = higher-then (c .before .fits .a) (c .before .fits .b) (c .if1 .taken)
+
+returns-2 : tie.Need-returns-2
+returns-2 c = higher-else (c .before .fits .a) (c .before .fits .b) (c .if1 .left)
+
+pub higher-spec : {M : Type 1} → statement M
+higher-spec = tie.close (tie.spec returns returns-2)

@@ -1,0 +1,13 @@
+-- `cover::path::lower` meets its contract.
+use Rattle.cover.proofs.Spans.{lower-then, lower-else}
+use Rattle.cover.proofs.path.lower.Statement.{statement}
+use Rattle.cover.proofs.path.lower.Tie as tie
+
+returns : tie.Need-returns
+returns c = lower-then (c .before .fits .a) (c .before .fits .b) (c .if1 .taken)
+
+returns-2 : tie.Need-returns-2
+returns-2 c = lower-else (c .before .fits .a) (c .before .fits .b) (c .if1 .left)
+
+pub lower-spec : {M : Type 1} → statement M
+lower-spec = tie.close (tie.spec returns returns-2)
