@@ -1,17 +1,18 @@
-//! Times the proved engine against the plain one, on the same inputs in one run.
+//! Times the proved engine against the plain one, and against the method that it replaces, on the same
+//! inputs in one run.
 
 #![forbid(unsafe_code)]
 
 mod banding;
 mod drawing;
+mod growth;
 mod judging;
-mod outlines;
+mod samples;
 mod times;
 
 fn main() {
-    banding::run();
-    println!();
-    judging::run();
-    println!();
-    drawing::run();
+    for table in [banding::run, judging::run, drawing::run, growth::run, samples::run] {
+        table();
+        println!();
+    }
 }
