@@ -10,9 +10,22 @@ mod judging;
 mod samples;
 mod times;
 
+/// The tables, in order.
+const TABLES: [(&str, fn()); 5] = [
+    ("banding", banding::run),
+    ("judging", judging::run),
+    ("drawing", drawing::run),
+    ("growth", growth::run),
+    ("samples", samples::run),
+];
+
+/// Prints the tables that are named, or all.
 fn main() {
-    for table in [banding::run, judging::run, drawing::run, growth::run, samples::run] {
-        table();
-        println!();
+    let named: Vec<String> = std::env::args().skip(1).collect();
+    for (name, table) in TABLES {
+        if named.is_empty() || named.iter().any(|n| n == name) {
+            table();
+            println!();
+        }
     }
 }
