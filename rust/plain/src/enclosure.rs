@@ -50,10 +50,11 @@ pub struct BoxBounds {
 impl Curve {
     /// The four boxes, or nothing where one of them is wider than the tolerance.
     pub fn boxes_within(&self, tolerance: i64) -> Option<[BoxBounds; BREAK_POINTS]> {
+        let x = Enclosure::new(&self.x, self.degree, self.shift);
+        let y = Enclosure::new(&self.y, self.degree, self.shift);
         let mut boxes = [BoxBounds::default(); BREAK_POINTS];
         for (i, at) in boxes.iter_mut().enumerate() {
-            at.x = bounds(&self.x, self.degree, self.shift, i);
-            at.y = bounds(&self.y, self.degree, self.shift, i);
+            *at = BoxBounds { x: x.bounds(i), y: y.bounds(i) };
             if !at.x.meets(tolerance) || !at.y.meets(tolerance) {
                 return None;
             }
@@ -62,20 +63,56 @@ impl Curve {
     }
 }
 
-/// The bounds at break point `i` of control values over 2^`shift`. The document's sum of thirds and
-/// ten-thousandths, times 16, is one fraction over 1875 × 2^shift.
-fn bounds(values: &Values, degree: usize, shift: u32, i: usize) -> Bounds {
-    let along = i as i64;
-    let chord = 10_000 * ((3 - along) * values[0] + along * values[degree]);
-    let (mut low, mut high) = (chord, chord);
-    for (rows, c) in rows(degree).iter().zip(values.windows(3)) {
-        let difference = c[0] - 2 * c[1] + c[2];
-        let (under, over) =
-            if difference > 0 { (rows.low[i], rows.high[i]) } else { (rows.high[i], rows.low[i]) };
-        low += 3 * under * difference;
-        high += 3 * over * difference;
+/// What the bounds of one coordinate are made of: control values over 2^`shift`.
+struct Enclosure {
+    first: i64,
+    last: i64,
+    differences: [Difference; 2],
+    shift: u32,
+}
+
+/// A second difference, with the rows that its sign chooses for the low and for the high.
+#[derive(Clone, Copy)]
+struct Difference {
+    value: i64,
+    low: &'static [i64; BREAK_POINTS],
+    high: &'static [i64; BREAK_POINTS],
+}
+
+impl Difference {
+    /// One that a degree does not have.
+    const NONE: Difference = Difference { value: 0, low: &[0; BREAK_POINTS], high: &[0; BREAK_POINTS] };
+
+    fn new(value: i64, rows: &'static Rows) -> Difference {
+        if value > 0 {
+            Difference { value, low: &rows.low, high: &rows.high }
+        } else {
+            Difference { value, low: &rows.high, high: &rows.low }
+        }
     }
-    Bounds { low: floor(low, shift), high: -floor(-high, shift) }
+}
+
+impl Enclosure {
+    fn new(values: &Values, degree: usize, shift: u32) -> Enclosure {
+        let mut differences = [Difference::NONE; 2];
+        for ((place, rows), c) in differences.iter_mut().zip(rows(degree)).zip(values.windows(3)) {
+            *place = Difference::new(c[0] - 2 * c[1] + c[2], rows);
+        }
+        Enclosure { first: values[0], last: values[degree], differences, shift }
+    }
+
+    /// The bounds at break point `i`. The document's sum of thirds and ten-thousandths, times 16, is one
+    /// fraction over 1875 × 2^shift.
+    fn bounds(&self, i: usize) -> Bounds {
+        let along = i as i64;
+        let chord = 10_000 * ((3 - along) * self.first + along * self.last);
+        let (mut low, mut high) = (chord, chord);
+        for difference in &self.differences {
+            low += 3 * difference.low[i] * difference.value;
+            high += 3 * difference.high[i] * difference.value;
+        }
+        Bounds { low: floor(low, self.shift), high: -floor(-high, self.shift) }
+    }
 }
 
 /// A number over 1875 × 2^shift, rounded down: first by the power of two, then by a divisor that the
@@ -146,7 +183,7 @@ mod tests {
                 let mut node = Curve { degree, x: values, y: values, shift: 0 };
                 for _ in 0..=8 {
                     for i in 0..BREAK_POINTS {
-                        let got = bounds(&node.x, degree, node.shift, i);
+                        let got = Enclosure::new(&node.x, degree, node.shift).bounds(i);
                         assert_eq!(got, formula(&node.x, degree, node.shift, i));
                         assert!(got.low <= got.high);
                     }
@@ -178,7 +215,7 @@ mod tests {
         };
         for i in 0..BREAK_POINTS {
             let (low, high) = tenthousandths(i);
-            let got = bounds(&values, 3, 0, i);
+            let got = Enclosure::new(&values, 3, 0).bounds(i);
             let expected = ((16_i64 * low).div_euclid(10_000), -(-16_i64 * high).div_euclid(10_000));
             assert_eq!((got.low, got.high), expected);
         }
@@ -189,7 +226,7 @@ mod tests {
         // The boxes at 1 and 2 are wider than those at 0 and 3.
         let curve = Curve { degree: 3, x: [0; 4], y: [0, 100, -100, 0], shift: 0 };
         let widths = |i| {
-            let b = bounds(&curve.y, 3, 0, i);
+            let b = Enclosure::new(&curve.y, 3, 0).bounds(i);
             b.high - b.low
         };
         let widest = (0..4).map(widths).max().unwrap();
