@@ -1,4 +1,5 @@
--- What follows for every hull, of whatever points: edges that follow one another turn strictly left; one vertex is one point, two are a line; and there is one hull.
+-- What follows for every hull, of whatever points: edges that follow one another turn strictly left; a point to the left of every edge lies between the ends of one that it
+-- is in line with; one vertex is one point, two are a line; and there is one hull.
 use mathlib.Core.Path.{_≡_, refl, sym, _∙_, ap, subst}
 use mathlib.Core.Logic.{_⊎_, inl, inr, ⊎-elim}
 use mathlib.Core.List.{List, [], _∷_}
@@ -6,12 +7,12 @@ use Prim.Native.Nat.{ℕ, zero, suc, _+_, _≤_, _<_}
 use native.Mathlib.Omega.{arith}
 use lib.ListN.{length, getD, List·getD-append}
 use lib.Seq.{getD-append-add, ext-getD}
-use lib.IntN.{ℤ, pos, negsuc, _-ℤ_, _*ℤ_}
-use lib.Signed.{_<ℤ_, <ℤ-irrefl}
+use lib.IntN.{ℤ, pos, negsuc, _+ℤ_, _-ℤ_, _*ℤ_}
+use lib.Signed.{_≤ℤ_, _<ℤ_, <ℤ-irrefl}
 use Rattle.integers.proofs.Ring.{ring, sides}
-use Rattle.integers.proofs.Order.{≤ℤ-antisymm, le-or-lt, lt-or-ge, clash-by, gap<, balance, _+₀_, _×₀_}
+use Rattle.integers.proofs.Order.{nonneg, gap, le-by, lt-le, *ℤ-cancel, ≤ℤ-antisymm, le-or-lt, lt-or-ge, clash-by, gap<, balance, _+₀_, _×₀_}
 use Rattle.cover.specs.declared.path.Point.{Point}
-use Rattle.cover.specs.Hull.{turn, Edge, round, Lowest, Hull, AllEqual, InLine}
+use Rattle.cover.specs.Hull.{turn, Between, Edge, round, Lowest, Hull, AllEqual, InLine}
 use Rattle.cover.proofs.Edges.{point-≡, turn-swap, turn-stay, opposite-zero, next-unique, turns-left, edge-stay}
 use Rattle.cover.proofs.Walk.{origin}
 
@@ -20,7 +21,7 @@ module _ (vs : List Point) where
   pub round-at : (k : ℕ) → k < length vs → round vs k ≡ getD vs k origin
   round-at k h = List·getD-append vs vs origin k h
 
-  round-again : (k j : ℕ) → j < length vs → k ≡ length vs + j → round vs k ≡ round vs j
+  pub round-again : (k j : ℕ) → j < length vs → k ≡ length vs + j → round vs k ≡ round vs j
   round-again k j h e = ap (round vs) e ∙ getD-append-add vs vs j origin ∙ sym (round-at j h)
 
 -- ---- turns
@@ -56,6 +57,84 @@ module _ {X : Point → Type 0} {vs : List Point} (h : Hull X vs) (three : 3 ≤
   strictly-left =
       let a = after in
       ⊎-elim (λ e. absurd (a .other e)) (λ t. t) (turns-left (h .edge k l) (a .edge) (h .each k l) (subst X (sym (a .is)) (h .each (a .place) (a .within))))
+
+-- ---- inside: a point to the left of every edge, or on it, that lies on the line of one lies between its ends
+same-sign : {d r g s : ℤ} → d *ℤ r ≡ g *ℤ s → pos 0 ≤ℤ r → pos 0 <ℤ s → (pos 0 ≤ℤ d → pos 0 ≤ℤ g) × (d ≤ℤ pos 0 → g ≤ℤ pos 0)
+same-sign {d} {r} {g} {s} e hr hs = (
+  λ h. *ℤ-cancel {k = s} hs (le-by (d ∷ r ∷ g ∷ s ∷ []) (nonneg h ×₀ nonneg hr +₀ balance (negsuc 0) e) (search sides depth 40 fits 9999) refl),
+  λ h. *ℤ-cancel {k = s} hs (le-by (d ∷ r ∷ g ∷ s ∷ []) (gap h ×₀ nonneg hr +₀ balance (pos 1) e) (search sides depth 40 fits 9999) refl),
+)
+
+between-by : {a b c : ℤ} → (pos 0 ≤ℤ (b -ℤ a) → pos 0 ≤ℤ (c -ℤ a)) × ((b -ℤ a) ≤ℤ pos 0 → (c -ℤ a) ≤ℤ pos 0)
+    → (pos 0 ≤ℤ (b -ℤ a) → pos 0 ≤ℤ (b -ℤ c)) × ((b -ℤ a) ≤ℤ pos 0 → (b -ℤ c) ≤ℤ pos 0) → Between a b c
+between-by {a} {b} {c} h k = ⊎-elim (λ l. inl (rise (h .0 l), rise (k .0 l))) (λ l. inr (fall (k .1 (lt-le l)), fall (h .1 (lt-le l)))) (le-or-lt (pos 0) (b -ℤ a))
+  where
+    rise : {d e : ℤ} → pos 0 ≤ℤ (e -ℤ d) → d ≤ℤ e
+    rise {d} {e} l = le-by (d ∷ e ∷ []) (gap l) (search sides depth 20) refl
+
+    fall : {d e : ℤ} → (e -ℤ d) ≤ℤ pos 0 → e ≤ℤ d
+    fall {d} {e} l = le-by (d ∷ e ∷ []) (gap l) (search sides depth 20) refl
+
+module _ (t u v w p : Point) (line : turn u v p ≡ pos 0) where
+  ahead-x : (v .x -ℤ u .x) *ℤ turn v w p ≡ (v .x -ℤ p .x) *ℤ turn u v w +ℤ (w .x -ℤ v .x) *ℤ turn u v p
+  unfolding turn
+  ahead-x = ring (u .x ∷ u .y ∷ v .x ∷ v .y ∷ w .x ∷ w .y ∷ p .x ∷ p .y ∷ []) (search sides depth 40 fits 9999) refl
+
+  ahead-y : (v .y -ℤ u .y) *ℤ turn v w p ≡ (v .y -ℤ p .y) *ℤ turn u v w +ℤ (w .y -ℤ v .y) *ℤ turn u v p
+  unfolding turn
+  ahead-y = ring (u .x ∷ u .y ∷ v .x ∷ v .y ∷ w .x ∷ w .y ∷ p .x ∷ p .y ∷ []) (search sides depth 40 fits 9999) refl
+
+  behind-x : (v .x -ℤ u .x) *ℤ turn t u p ≡ (p .x -ℤ u .x) *ℤ turn t u v +ℤ (u .x -ℤ t .x) *ℤ turn u v p
+  unfolding turn
+  behind-x = ring (u .x ∷ u .y ∷ v .x ∷ v .y ∷ t .x ∷ t .y ∷ p .x ∷ p .y ∷ []) (search sides depth 40 fits 9999) refl
+
+  behind-y : (v .y -ℤ u .y) *ℤ turn t u p ≡ (p .y -ℤ u .y) *ℤ turn t u v +ℤ (u .y -ℤ t .y) *ℤ turn u v p
+  unfolding turn
+  behind-y = ring (u .x ∷ u .y ∷ v .x ∷ v .y ∷ t .x ∷ t .y ∷ p .x ∷ p .y ∷ []) (search sides depth 40 fits 9999) refl
+
+  drop-line : (x c : ℤ) → x +ℤ c *ℤ turn u v p ≡ x
+  drop-line x c = ap (λ z. x +ℤ c *ℤ z) line ∙ ring (x ∷ c ∷ []) (search sides depth 20) refl
+
+  between-ends : pos 0 <ℤ turn t u v → pos 0 <ℤ turn u v w → pos 0 ≤ℤ turn t u p → pos 0 ≤ℤ turn v w p → Between (u .x) (v .x) (p .x) × Between (u .y) (v .y) (p .y)
+  between-ends st sw ht hw = (
+    between-by (same-sign (behind-x ∙ drop-line ((p .x -ℤ u .x) *ℤ turn t u v) (u .x -ℤ t .x)) ht st) (same-sign (ahead-x ∙ drop-line ((v .x -ℤ p .x) *ℤ turn u v w) (w .x -ℤ v .x)) hw sw),
+    between-by (same-sign (behind-y ∙ drop-line ((p .y -ℤ u .y) *ℤ turn t u v) (u .y -ℤ t .y)) ht st) (same-sign (ahead-y ∙ drop-line ((v .y -ℤ p .y) *ℤ turn u v w) (w .y -ℤ v .y)) hw sw),
+  )
+
+module _ {X : Point → Type 0} {vs : List Point} (h : Hull X vs) (three : 3 ≤ length vs) (p : Point)
+    (left : (k : ℕ) → k < length vs → pos 0 ≤ℤ turn (round vs k) (round vs (suc k)) p) where
+  -- the edge before edge k, and the edge after it
+  next-left : (k : ℕ) → k < length vs → pos 0 ≤ℤ turn (round vs (suc k)) (round vs (suc (suc k))) p
+  next-left k l = ⊎-elim (left (suc k))
+      (λ a. subst (λ q. pos 0 ≤ℤ turn q (round vs (suc (suc k))) p) (sym (round-again vs (suc k) 0 (omega arith) (omega arith)))
+      (subst (λ q. pos 0 ≤ℤ turn (round vs 0) q p) (sym (round-again vs (suc (suc k)) 1 (omega arith) (omega arith))) (left 0 (omega arith))))
+      (lt-or-ge (suc k) (length vs))
+
+  ends-at : (j : ℕ) → j < length vs → turn (round vs (suc j)) (round vs (suc (suc j))) p ≡ pos 0
+      → Between (round vs (suc j) .x) (round vs (suc (suc j)) .x) (p .x) × Between (round vs (suc j) .y) (round vs (suc (suc j)) .y) (p .y)
+  ends-at j l line = ⊎-elim
+      (λ a. between-ends (round vs j) (round vs (suc j)) (round vs (suc (suc j))) (round vs (suc (suc (suc j)))) p line (strictly-left h three j l) (strictly-left h three (suc j) a) (left j l) (next-left (suc j) a))
+      (λ a.
+      let e₀ = round-again vs (suc j) 0 (omega arith) (omega arith) in
+      let e₁ = round-again vs (suc (suc j)) 1 (omega arith) (omega arith) in
+      between-ends (round vs j) (round vs (suc j)) (round vs (suc (suc j))) (round vs 2) p line (strictly-left h three j l)
+      (subst (λ q. pos 0 <ℤ turn q (round vs (suc (suc j))) (round vs 2)) (sym e₀) (subst (λ q. pos 0 <ℤ turn (round vs 0) q (round vs 2)) (sym e₁) (strictly-left h three 0 (omega arith))))
+      (left j l) (subst (λ q. pos 0 ≤ℤ turn q (round vs 2) p) (sym e₁) (next-left 0 (omega arith))))
+      (lt-or-ge (suc j) (length vs))
+
+  pub inside-between : (k : ℕ) → k < length vs → turn (round vs k) (round vs (suc k)) p ≡ pos 0
+      → Between (round vs k .x) (round vs (suc k) .x) (p .x) × Between (round vs k .y) (round vs (suc k) .y) (p .y)
+  inside-between zero l line = go (length vs) refl
+    where
+      go : (n : ℕ) → length vs ≡ n → Between (round vs 0 .x) (round vs 1 .x) (p .x) × Between (round vs 0 .y) (round vs 1 .y) (p .y)
+      go zero e = absurd (omega arith)
+      go (suc j) e =
+          let e₀ = round-again vs (suc j) 0 (omega arith) (omega arith) in
+          let e₁ = round-again vs (suc (suc j)) 1 (omega arith) (omega arith) in
+          subst (λ q. Between (q .x) (round vs 1 .x) (p .x) × Between (q .y) (round vs 1 .y) (p .y)) e₀
+          (subst (λ q. Between (round vs (suc j) .x) (q .x) (p .x) × Between (round vs (suc j) .y) (q .y) (p .y)) e₁
+          (ends-at j (omega arith) (subst (λ q. turn q (round vs (suc (suc j))) p ≡ pos 0) (sym e₀) (subst (λ q. turn (round vs 0) q p ≡ pos 0) (sym e₁) line))))
+  inside-between (suc j) l line = ends-at j (omega arith) line
 
 -- ---- lines
 eq-or-not : (a b : ℤ) → (a ≡ b) ⊎ (a ≡ b → ⊥)

@@ -1,20 +1,22 @@
--- Every point of a cover, a mixture of the two boxes by two weights that are not both 0, lies on or to the left of every edge of the drawn polygon.
-use mathlib.Core.Path.{_≡_, refl}
+-- Every point of a cover, a mixture of the two boxes by two weights that are not both 0, lies to the left of every edge of the drawn polygon, or on it between its ends.
+use mathlib.Core.Path.{_≡_, refl, sym, subst}
 use mathlib.Core.Logic.{inl, inr, ⊎-elim}
-use mathlib.Core.List.{[], _∷_}
+use mathlib.Core.List.{List, [], _∷_}
 use mathlib.Core.Option.{none}
-use Prim.Native.Nat.{ℕ, suc, _+_, _<_}
+use Prim.Native.Nat.{ℕ, suc, _+_, _≤_, _<_}
+use native.Mathlib.Omega.{arith}
 use lib.ListN.{length}
 use lib.IntN.{ℤ, pos, _+ℤ_, _-ℤ_, _*ℤ_}
 use lib.Signed.{_≤ℤ_, ≤ℤ-refl}
 use Rattle.integers.proofs.Ring.{sides}
-use Rattle.integers.proofs.Order.{NonNeg, le-by, nonneg-by, gap, *ℤ-cancel, pos-lt, natural, _+₀_, _×₀_}
+use Rattle.integers.proofs.Order.{NonNeg, ≤ℤ-trans, lt-or-ge, le-by, nonneg-by, gap, *ℤ-cancel, pos-lt, natural, _+₀_, _×₀_}
 use Rattle.boxes.specs.declared.Box.{Box}
 use Rattle.cover.specs.declared.path.Point.{Point}
 use Rattle.cover.specs.Polygon.{vertices}
 use Rattle.cover.specs.Drawing.{twoBoxesFault}
-use Rattle.cover.specs.Hull.{Ordered, OfBoxes, turn, Edge, round}
+use Rattle.cover.specs.Hull.{Ordered, OfBoxes, turn, Between, Edge, round}
 use Rattle.cover.proofs.Reach.{≥-total}
+use Rattle.cover.proofs.Hulls.{round-again, inside-between, two-vertices}
 use Rattle.cover.proofs.Theorems.{ordered, hull-of-boxes}
 
 -- (m + n) × z lies from m × low₀ + n × low₁ to m × high₀ + n × high₁
@@ -58,9 +60,71 @@ module _ (u v p : Point) (m n : ℕ) (some : 0 < m + n) where
         (≥-total (u .y) (v .y)))
         (≥-total (u .x) (v .x))
 
--- ---- the theorem, for boxes that check 12 accepts
-pub cover-left : (a b : Box) → twoBoxesFault a b ≡ none → (m n : ℕ) → 0 < m + n → (p : Point)
-    → Mixture m n (a .«x_low») (a .«x_high») (b .«x_low») (b .«x_high») (p .x) → Mixture m n (a .«y_low») (a .«y_high») (b .«y_low») (b .«y_high») (p .y)
-    → (k : ℕ) → k < length (vertices a b) → pos 0 ≤ℤ turn (round (vertices a b) k) (round (vertices a b) (suc k)) p
-cover-left a b e m n some p mx my k h = let o = ordered a b e in
-    mixture-left (round (vertices a b) k) (round (vertices a b) (suc k)) p m n some (o .0) (o .1) (hull-of-boxes a b e .edge k h) mx my
+-- ---- a mixture of numbers between u and v lies between them
+module _ {m n : ℕ} (some : 0 < m + n) {l₀ h₀ l₁ h₁ z : ℤ} (mix : Mixture m n l₀ h₀ l₁ h₁ z) where
+  from-low : (u : ℤ) → u ≤ℤ l₀ → u ≤ℤ l₁ → u ≤ℤ z
+  from-low u a b = *ℤ-cancel {k = pos (m + n)} (pos-lt some)
+      (le-by (pos m ∷ pos n ∷ l₀ ∷ l₁ ∷ z ∷ u ∷ []) (gap (mix .low) +₀ natural m ×₀ gap a +₀ natural n ×₀ gap b) (search sides depth 40 fits 9999) refl)
+
+  to-high : (v : ℤ) → h₀ ≤ℤ v → h₁ ≤ℤ v → z ≤ℤ v
+  to-high v a b = *ℤ-cancel {k = pos (m + n)} (pos-lt some)
+      (le-by (pos m ∷ pos n ∷ h₀ ∷ h₁ ∷ z ∷ v ∷ []) (gap (mix .high) +₀ natural m ×₀ gap a +₀ natural n ×₀ gap b) (search sides depth 40 fits 9999) refl)
+
+  between-mix : (u v : ℤ) → Between u v l₀ → Between u v h₀ → Between u v l₁ → Between u v h₁ → Between u v z
+  between-mix u v a b c d = ⊎-elim
+      (λ o. inl (from-low u (rising o a .0) (rising o c .0), to-high v (rising o b .1) (rising o d .1)))
+      (λ o. inr (from-low v (falling o a .0) (falling o c .0), to-high u (falling o b .1) (falling o d .1)))
+      (≥-total u v)
+    where
+      rising : {c : ℤ} → u ≤ℤ v → Between u v c → (u ≤ℤ c) × (c ≤ℤ v)
+      rising o (inl h) = h
+      rising o (inr h) = (≤ℤ-trans o (h .0), ≤ℤ-trans (h .1) o)
+
+      falling : {c : ℤ} → v ≤ℤ u → Between u v c → (v ≤ℤ c) × (c ≤ℤ u)
+      falling o (inl h) = (≤ℤ-trans o (h .0), ≤ℤ-trans (h .1) o)
+      falling o (inr h) = h
+
+-- ---- the points of a cover
+pub record OfCover (a b : Box) (p : Point) : Type 0 where
+  pub m : ℕ
+  pub n : ℕ
+  pub some : 0 < m + n
+  pub in-x : Mixture m n (a .«x_low») (a .«x_high») (b .«x_low») (b .«x_high») (p .x)
+  pub in-y : Mixture m n (a .«y_low») (a .«y_high») (b .«y_low») (b .«y_high») (p .y)
+
+-- for boxes that check 12 accepts
+module _ (a b : Box) (accepted : twoBoxesFault a b ≡ none) where
+  abbrev vs : List Point
+  vs = vertices a b
+
+  pub cover-left : (p : Point) → OfCover a b p → (k : ℕ) → k < length vs → pos 0 ≤ℤ turn (round vs k) (round vs (suc k)) p
+  cover-left p c k h = let o = ordered a b accepted in
+      mixture-left (round vs k) (round vs (suc k)) p (c .m) (c .n) (c .some) (o .0) (o .1) (hull-of-boxes a b accepted .edge k h) (c .in-x) (c .in-y)
+
+  vertex-of : (k : ℕ) → k ≤ length vs → OfBoxes a b (round vs k)
+  vertex-of k h = let g = hull-of-boxes a b accepted in ⊎-elim (g .each k)
+      (λ l. subst (OfBoxes a b) (sym (round-again vs k 0 (g .some) (omega arith))) (g .each 0 (g .some))) (lt-or-ge k (length vs))
+
+  -- one or two vertices: all corners lie on the edge
+  module _ (few : length vs ≤ 2) (k : ℕ) (h : k < length vs) where
+    on-edge : (q : Point) → OfBoxes a b q → Between (round vs k .x) (round vs (suc k) .x) (q .x) × Between (round vs k .y) (round vs (suc k) .y) (q .y)
+    on-edge q x = let g = hull-of-boxes a b accepted in
+        g .edge k h .on q x (two-vertices g few (round vs k) (round vs (suc k)) q (vertex-of k (omega arith)) (vertex-of (suc k) h) x)
+
+    flat-between : (p : Point) → OfCover a b p → Between (round vs k .x) (round vs (suc k) .x) (p .x) × Between (round vs k .y) (round vs (suc k) .y) (p .y)
+    flat-between p c =
+        let o = ordered a b accepted in
+        let la = on-edge (record { x = a .«x_low»; y = a .«y_low» }) (inl (record { x-from = ≤ℤ-refl _; x-to = o .0 .x; y-from = ≤ℤ-refl _; y-to = o .0 .y })) in
+        let ha = on-edge (record { x = a .«x_high»; y = a .«y_high» }) (inl (record { x-from = o .0 .x; x-to = ≤ℤ-refl _; y-from = o .0 .y; y-to = ≤ℤ-refl _ })) in
+        let lb = on-edge (record { x = b .«x_low»; y = b .«y_low» }) (inr (record { x-from = ≤ℤ-refl _; x-to = o .1 .x; y-from = ≤ℤ-refl _; y-to = o .1 .y })) in
+        let hb = on-edge (record { x = b .«x_high»; y = b .«y_high» }) (inr (record { x-from = o .1 .x; x-to = ≤ℤ-refl _; y-from = o .1 .y; y-to = ≤ℤ-refl _ })) in (
+          between-mix (c .some) (c .in-x) (round vs k .x) (round vs (suc k) .x) (la .0) (ha .0) (lb .0) (hb .0),
+          between-mix (c .some) (c .in-y) (round vs k .y) (round vs (suc k) .y) (la .1) (ha .1) (lb .1) (hb .1),
+        )
+
+  -- Every point of the cover lies to the left of every edge of the polygon, or on it between its ends: for one and two vertices as well.
+  pub cover-edge : (k : ℕ) → k < length vs → Edge (OfCover a b) (round vs k) (round vs (suc k))
+  cover-edge k h = record {
+    left = λ p c. cover-left p c k h;
+    on = λ p c z. ⊎-elim (λ t. inside-between (hull-of-boxes a b accepted) t p (cover-left p c) k h z) (λ f. flat-between f k h p c) (lt-or-ge 2 (length vs));
+  }

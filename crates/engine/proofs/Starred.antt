@@ -1,4 +1,4 @@
--- The starred examples hold: banding's by computation, and judging's for every answer that its promise allows.
+-- The starred examples hold: banding's and drawing's by computation, and judging's for every answer that its promise allows.
 use mathlib.Core.Path.{_≡_, refl, subst}
 use mathlib.Core.Bool.{Bool, true, false}
 use mathlib.Core.List.{List, _∷_, _++_}
@@ -21,6 +21,9 @@ use Rattle.outline.specs.Checks.{faultAt, outlineFrom, outlined}
 use Rattle.tree.specs.Tree.{ends, met, firstFailing}
 use Rattle.band.specs.Records.{recordOf, recordsOf, allRecords}
 use Rattle.band.specs.Banding.{firstTooWide, leavesOf, nodesOf, bandCurves, banded, written}
+use Rattle.boxes.specs.declared.Box.{Box}
+use Rattle.cover.specs.Polygon.{reached, endsOf, pathPoint, moves, verticesOf, pathOf, vertices, numbers}
+use Rattle.cover.specs.Drawing.{drawn, drawnInto}
 use Rattle.judge.specs.declared.Judgement.{Judgement}
 use Rattle.judge.specs.declared.Judgement.the-variants.{On, Off, Refused}
 use Rattle.judge.specs.Covers.{CoverHolds}
@@ -34,6 +37,11 @@ use Rattle.engine.specs.Starred.{box, A, Starred}
 computing : ℤ → List ℤ → List ℤ → List ℤ
 unfolding written allRecords recordsOf recordOf banded bandCurves firstTooWide leavesOf nodesOf ends met firstFailing outlined outlineFrom faultAt firstBad curveAt descend descendIn depth nodeCurve meets boxAt high low rowSum floor ceiling leftHalf rightHalf left right triangle pow one
 computing T ns old = written 64 T ns old
+
+-- and those of drawing
+drawing : Box → Box → List ℤ → List ℤ
+unfolding drawnInto drawn firstBad reached endsOf pathPoint moves verticesOf pathOf vertices numbers
+drawing a b old = drawnInto a b old
 
 -- ---- the leaf of A at T 44, and a point against it
 abbrev leaf : List ℤ
@@ -90,7 +98,7 @@ judged : (y : ℤ) → checked (pos 240) y → (answer : Judgement) → Judged 6
 judged y e answer j = subst (λ o. Verdict o leaf (pos 240) y answer) e (subst (λ rs. Judged 64 rs (pos 240) y answer) a-44-leaf j)
 
 pub starred : Starred
-unfolding computing
+unfolding computing drawing
 starred = record {
   a-44 = refl;
   a-44-leaf = a-44-leaf;
@@ -106,6 +114,10 @@ starred = record {
   empty = refl;
   too-wide = refl;
   too-wide-spot = refl;
+  six-drawn = refl;
+  six-vertices = refl;
+  eight-drawn = refl;
+  one-drawn = refl;
   point-on = λ answer j. on answer (judged (pos 363) passes-363 answer j);
   point-off = λ answer j. off answer (judged (pos 364) passes-364 answer j);
 }

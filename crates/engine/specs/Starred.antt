@@ -1,4 +1,4 @@
--- The starred examples of document 01 ("Measured examples"), in one statement. The lists that are lent hold zeros.
+-- The starred examples of document 01 ("Measured examples" and "Drawing a cover"), in one statement. The lists that are lent hold zeros.
 use mathlib.Core.Path.{_≡_}
 use mathlib.Core.List.{List, [], _∷_, _++_}
 use Prim.Native.Nat.{ℕ}
@@ -11,6 +11,9 @@ use Rattle.band.specs.Banding.{banded, written}
 use Rattle.judge.specs.declared.Judgement.{Judgement}
 use Rattle.judge.specs.declared.Judgement.the-variants.{Off}
 use Rattle.judge.specs.Judging.{Judged}
+use Rattle.boxes.specs.declared.Box.{Box}
+use Rattle.cover.specs.declared.Drawn.the-variants.{Vertices}
+use Rattle.cover.specs.Drawing.{drawn, drawnInto}
 use Rattle.engine.specs.Demand3.{IsOn}
 
 abbrev zeros : ℕ → List ℤ
@@ -30,6 +33,13 @@ A = pos 3 ∷ pos 0 ∷ pos 0 ∷ pos 10 ∷ pos 30 ∷ pos 20 ∷ pos 30 ∷ po
 -- a line of x 0 to `x`, y 0 to 1
 abbrev pub line : ℕ → List ℤ
 line x = pos 1 ∷ pos 0 ∷ pos 0 ∷ pos x ∷ pos 1 ∷ []
+
+-- boxes to be drawn: from low to high in x and in y alike; and from −x to x by −y to y
+abbrev pub between : (low high : ℕ) → Box
+between low high = record { «x_low» = pos low; «x_high» = pos high; «y_low» = pos low; «y_high» = pos high }
+
+abbrev pub cross : (x y : ℤ) → Box
+cross x y = record { «x_low» = negℤ x; «x_high» = x; «y_low» = negℤ y; «y_high» = y }
 
 pub record Starred : Type 0 where
   -- A, T 44: the leaf in the listing
@@ -62,3 +72,10 @@ pub record Starred : Type 0 where
   -- (240 363) is on A's band at T 44, (240 364) off
   pub point-on : (answer : Judgement) → Judged 64 (written 64 (pos 44) A (zeros 18)) (pos 240) (pos 363) answer → IsOn answer
   pub point-off : (answer : Judgement) → Judged 64 (written 64 (pos 44) A (zeros 18)) (pos 240) (pos 364) answer → answer ≡ Off
+  -- 0–1 by 0–1 with 3–4 by 3–4: (0 0) (1 0) (4 3) (4 4) (3 4) (0 1)
+  pub six-drawn : drawn (between 0 1) (between 3 4) 16 ≡ Vertices 6
+  pub six-vertices : drawnInto (between 0 1) (between 3 4) (zeros 16) ≡ box 0 0 1 0 ++ box 4 3 4 4 ++ box 3 4 0 1 ++ zeros 4
+  -- −10–10 by −1–1 with −1–1 by −10–10: eight
+  pub eight-drawn : drawn (cross (pos 10) (pos 1)) (cross (pos 1) (pos 10)) 16 ≡ Vertices 8
+  -- equal single points: one
+  pub one-drawn : drawn (between 7 7) (between 7 7) 16 ≡ Vertices 1

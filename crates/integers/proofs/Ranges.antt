@@ -14,6 +14,10 @@ use Rattle.integers.proofs.Order.{NonNeg, natural, gap<, lt-of-gap, leZ
 abbrev pub stored : Width → ℤ → ℤ
 stored w z = toZ w (ofZ w z)
 
+-- what fits is read as it was kept
+pub read-again : (w : Width) (z : ℤ) → mag z < 2 ^ hbits w → stored w z ≡ z
+read-again w z h = toZ-ofZ {w = w} {z = z} (record { sfits = h })
+
 -- ---- what a test says
 pub lt-yes : {a b : ℤ} → ltZ a b ≡ true → a <ℤ b
 lt-yes e = ltZ-yes (subst T (sym e) tt)

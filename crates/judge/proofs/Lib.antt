@@ -5,3 +5,4 @@ pub mod Deciding
 pub mod Numbers
 pub mod Holders
 pub mod Answers
+pub mod OnBand

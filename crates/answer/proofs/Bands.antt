@@ -1,0 +1,126 @@
+-- A text's band and its lines: what each way through `band_text` and `put_band` answers.
+use mathlib.Core.Path.{_≡_, sym, ap, _∙_, subst}
+use mathlib.Core.Bool.{true, false}
+use mathlib.Core.List.{List}
+use Prim.Native.Nat.{ℕ, _+_, _*_, _^_, _≤_, _<_}
+use native.Mathlib.Omega.{arith}
+use lib.ListN.{length, take}
+use lib.Seq.{length-take-le}
+use lib.IntN.{ℤ}
+use lib.Signed.{mag}
+use mir.Syntax.{w32}
+use Rattle.integers.proofs.Ranges.{stored, read-again}
+use Rattle.refusals.specs.declared.Refusal.{Refusal}
+use Rattle.refusals.specs.declared.Refusal.the-variants.{Tolerance as WrongTolerance}
+use Rattle.outline.specs.Checks.{toleranceFine, Outlined, outlined}
+use Rattle.band.specs.declared.Banded.{Banded}
+use Rattle.band.specs.declared.Banded.the-variants.{Done, Refused}
+use Rattle.band.specs.Records.{allRecords}
+use Rattle.band.specs.Banding.{bandOutlined, banded, curvesOf, writtenBy, written}
+use Rattle.appends.specs.Appends.{Appended, Within}
+use Rattle.appends.proofs.Appends.{append-both, within, appended-front, appended-length}
+use Rattle.text.specs.declared.Checked.{Checked}
+use Rattle.text.specs.declared.Checked.the-variants.{Tolerance as Accepted, Refused as Stopped}
+use Rattle.text.specs.Lines.{linesOf}
+use Rattle.text.specs.Meaning.{Meaning, refused, means, meaning, checkedOf}
+use Rattle.text.specs.Outlines.{kept}
+use Rattle.text.proofs.Kept.{outline-kept, kept-few}
+use Rattle.render.specs.Answers.{doneLine, refusedLine}
+use Rattle.render.specs.Leaves.{leafLines}
+use Rattle.answer.specs.Bands.{bandOf, recordsOf, bandLines, roomFor}
+
+-- ---- `put_band`
+module _ (b : Banded) (records out at : ℕ) (room : roomFor b records out at) where
+  pub room-refused : (r : Refusal) → b ≡ Refused r → at + 52 ≤ out
+  room-refused r e = subst (λ (x : Banded). roomFor x records out at) e room
+
+  module _ (c l n : ℕ) (e : b ≡ Done c l n) where
+    done-room : (18 * l ≤ records) × (l ≤ 910) × (at + 231 * l + 70 ≤ out)
+    done-room = subst (λ (x : Banded). roomFor x records out at) e room
+
+    pub room-records : 18 * l ≤ records
+    room-records = done-room .0
+
+    pub room-lines : at + 231 * l ≤ out
+    room-lines = omega (arith, done-room .2)
+
+    pub room-few : l ≤ 910
+    room-few = done-room .1
+
+    pub room-done : (d xs o : List ℕ) (i : ℕ) → length o ≡ out → Within d at (231 * l) xs o i → i + 70 ≤ length o
+    room-done d xs o i z a = omega (arith, a .small, done-room .2)
+
+module _ (b : Banded) (ns : List ℤ) (d : List ℕ) (i : ℕ) where
+  pub refused-lines : (r : Refusal) (o : List ℕ) (j : ℕ) → b ≡ Refused r → Within d i 52 (refusedLine r) o j → Within d i (231 * 910 + 70) (bandLines b ns) o j
+  refused-lines r o j e a = within (subst (λ (x : Banded). Appended d i (bandLines x ns) o j) (sym e) (a .put)) (omega (arith, a .small))
+
+  pub done-lines : (out : ℕ) (room : roomFor b (length ns) out i) (c l n : ℕ) (o u : List ℕ) (j k : ℕ) → b ≡ Done c l n → Within d i (231 * l) (leafLines ns l) o j
+      → Within o j 70 (doneLine c l n) u k → Within d i (231 * 910 + 70) (bandLines b ns) u k
+  done-lines out room c l n o u j k e p q =
+      within
+      (subst (λ (x : Banded). Appended d i (bandLines x ns) u k) (sym e) (append-both d o u (leafLines ns l) (doneLine c l n) i j k (p .put) (q .put)))
+      (omega (arith, p .small, q .small, room-few b (length ns) out i room c l n e))
+
+-- ---- `band_text`: banding looks at an outline through its checks alone
+banded-same : (most : ℕ) (T : ℤ) (ns ms : List ℤ) (room : ℕ) → outlined most ns ≡ outlined most ms → banded most T ns room ≡ banded most T ms room
+unfolding banded
+banded-same most T ns ms room e = ap (λ (o : Outlined). elim (toleranceFine T) [ false ↦ Refused WrongTolerance | true ↦ bandOutlined T o room ]) e
+
+written-same : (most : ℕ) (T : ℤ) (ns ms old : List ℤ) → outlined most ns ≡ outlined most ms → written most T ns old ≡ written most T ms old
+unfolding written
+written-same most T ns ms old e =
+    ap (λ (b : Banded). writtenBy b (allRecords T 0 (curvesOf (outlined most ns))) old) (banded-same most T ns ms (length old) e)
+    ∙ ap (λ (o : Outlined). writtenBy (banded most T ms (length old)) (allRecords T 0 (curvesOf o)) old) e
+
+-- what the checks of a text say of its meaning
+record Means (m : Meaning) (T : ℤ) : Type 0 where
+  outline : List ℤ
+  points : List (ℤ × ℤ)
+  is : m ≡ means T outline points
+
+means-by : (m : Meaning) (T : ℤ) → Accepted T ≡ checkedOf m → Means m T
+means-by (refused r) T e = let z : _≡_ {A = ℕ} 0 1 = cc in absurd (omega arith)
+means-by (means U outline points) T e = record { outline = outline; points = points; is = let f : T ≡ U = cc in ap (λ (x : ℤ). means x outline points) (sym f) }
+
+refused-by : (m : Meaning) (r : Refusal) → Stopped r ≡ checkedOf m → m ≡ refused r
+refused-by (refused q) r e = cc
+refused-by (means U outline points) r e = let z : _≡_ {A = ℕ} 0 1 = cc in absurd (omega arith)
+
+-- what was kept of the outline stands in the list o, n numbers of it
+module _ (s : List ℕ) (d o : List ℤ) (n : ℕ) (a : Appended d 0 (kept 64 (linesOf s)) o n) (z : 577 ≤ length d) where
+  few : n ≤ length d
+  few = omega (arith, a .next, kept-few 64 (linesOf s))
+
+  pub kept-inside : n ≤ length o
+  kept-inside = omega (arith, few, appended-length d 0 (kept 64 (linesOf s)) o n a)
+
+  pub kept-length : n ≡ length (take n o)
+  kept-length = sym (length-take-le n o kept-inside)
+
+  lent : take n o ≡ kept 64 (linesOf s)
+  lent = appended-front d (kept 64 (linesOf s)) o n a few
+
+module _ (s : List ℕ) (c : Checked) (e : c ≡ checkedOf (meaning s)) (old : List ℤ) where
+  module _ (r : Refusal) (f : c ≡ Stopped r) where
+    pub refused-band : Refused r ≡ bandOf (meaning s) (length old)
+    refused-band = ap (λ (x : Meaning). bandOf x (length old)) (sym (refused-by (meaning s) r (sym f ∙ e)))
+
+    pub refused-records : old ≡ recordsOf (meaning s) old
+    refused-records = ap (λ (x : Meaning). recordsOf x old) (sym (refused-by (meaning s) r (sym f ∙ e)))
+
+  module _ (d o : List ℤ) (n : ℕ) (a : Appended d 0 (kept 64 (linesOf s)) o n) (z : 577 ≤ length d) (T : ℤ) (h : mag T < 2 ^ 31) (f : c ≡ Accepted T) where
+    text-means : Means (meaning s) T
+    text-means = means-by (meaning s) T (sym f ∙ e)
+
+    checks-same : outlined 64 (take n o) ≡ outlined 64 (text-means .outline)
+    checks-same = ap (outlined 64) (lent s d o n a z) ∙ outline-kept 64 s T (text-means .outline) (text-means .points) (text-means .is)
+
+    pub text-band : (b : Banded) → b ≡ banded 64 (stored w32 T) (take n o) (length old) → b ≡ bandOf (meaning s) (length old)
+    text-band b p =
+        p ∙ ap (λ (x : ℤ). banded 64 x (take n o) (length old)) (read-again w32 T h) ∙ banded-same 64 T (take n o) (text-means .outline) (length old) checks-same
+        ∙ ap (λ (x : Meaning). bandOf x (length old)) (sym (text-means .is))
+
+    pub text-records : (new : List ℤ) → new ≡ written 64 (stored w32 T) (take n o) old → new ≡ recordsOf (meaning s) old
+    text-records new q =
+        q ∙ ap (λ (x : ℤ). written 64 x (take n o) old) (read-again w32 T h) ∙ written-same 64 T (take n o) (text-means .outline) old checks-same
+        ∙ ap (λ (x : Meaning). recordsOf x old) (sym (text-means .is))

@@ -1,0 +1,29 @@
+-- The band of a text (document 01, "Text program"): its first fault, or what banding answers for its outline at its tolerance; what stands in the records afterwards; and the
+-- lines that say so. A text may have 64 curves.
+use mathlib.Core.List.{List, _++_}
+use Prim.Native.Nat.{ℕ, _+_, _*_, _≤_}
+use lib.IntN.{ℤ}
+use Rattle.band.specs.declared.Banded.{Banded}
+use Rattle.band.specs.declared.Banded.the-variants.{Done, Refused}
+use Rattle.band.specs.Banding.{banded, written}
+use Rattle.text.specs.Meaning.{Meaning, refused, means}
+use Rattle.render.specs.Answers.{doneLine, refusedLine}
+use Rattle.render.specs.Leaves.{leafLines}
+
+abbrev pub bandOf : Meaning → ℕ → Banded
+bandOf (refused r) room = Refused r
+bandOf (means T outline points) room = banded 64 T outline room
+
+abbrev pub recordsOf : Meaning → List ℤ → List ℤ
+recordsOf (refused r) old = old
+recordsOf (means T outline points) old = written 64 T outline old
+
+-- the leaves and the report, or the refusal alone
+abbrev pub bandLines : Banded → List ℤ → List ℕ
+bandLines (Refused r) records = refusedLine r
+bandLines (Done curves leaves nodes) records = leafLines records leaves ++ doneLine curves leaves nodes
+
+-- what `put_band` asks: all leaves stand in the records, no more than 910 as in 16,380 numbers, and there is room for their lines
+abbrev pub roomFor : Banded → ℕ → ℕ → ℕ → Type 0
+roomFor (Refused r) records out at = at + 52 ≤ out
+roomFor (Done curves leaves nodes) records out at = (18 * leaves ≤ records) × (leaves ≤ 910) × (at + 231 * leaves + 70 ≤ out)

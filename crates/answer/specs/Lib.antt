@@ -1,0 +1,2 @@
+-- What a reader must believe of the answer to a text.
+pub mod Bands

@@ -1,0 +1,24 @@
+-- `decimals::put_spaced` meets its contract.
+use Rattle.decimals.proofs.Digits.{spaced-number}
+use borrow.Author.Needs.{needs}
+use Rattle.decimals.proofs.put_spaced.Statement.{statement}
+use Rattle.decimals.proofs.put_spaced.Tie as tie
+use Rattle.decimals.proofs.put_spaced.Reads as reads
+use Rattle.decimals.proofs.put_spaced.Lts as lts
+use Rattle.decimals.proofs.put_byte.Reads as put-byte-reads
+use Rattle.decimals.proofs.put_number.Reads as put-number-reads
+
+put-byte-requires : tie.Need-put-byte-requires
+put-byte-requires c κs = search needs
+
+put-number-requires : tie.Need-put-number-requires
+put-number-requires c κs = search needs
+
+same-length : tie.Need-same-length
+same-length c = search needs
+
+returns : tie.Need-returns
+returns c = search spaced-number
+
+pub put-spaced-spec : {M : Type 1} → statement M
+put-spaced-spec = tie.close (tie.spec put-byte-requires put-number-requires same-length returns)

@@ -1,0 +1,24 @@
+-- `decimals::put_spaced_natural` meets its contract.
+use Rattle.decimals.proofs.Digits.{spaced-natural}
+use borrow.Author.Needs.{needs}
+use Rattle.decimals.proofs.put_spaced_natural.Statement.{statement}
+use Rattle.decimals.proofs.put_spaced_natural.Tie as tie
+use Rattle.decimals.proofs.put_spaced_natural.Reads as reads
+use Rattle.decimals.proofs.put_spaced_natural.Lts as lts
+use Rattle.decimals.proofs.put_byte.Reads as put-byte-reads
+use Rattle.decimals.proofs.put_digits.Reads as put-digits-reads
+
+put-byte-requires : tie.Need-put-byte-requires
+put-byte-requires c κs = search needs
+
+put-digits-requires : tie.Need-put-digits-requires
+put-digits-requires c κs = search needs
+
+same-length : tie.Need-same-length
+same-length c = search needs
+
+returns : tie.Need-returns
+returns c = search spaced-natural
+
+pub put-spaced-natural-spec : {M : Type 1} → statement M
+put-spaced-natural-spec = tie.close (tie.spec put-byte-requires put-digits-requires same-length returns)

@@ -1,0 +1,61 @@
+-- A point is on the band as a function says exactly where judging may answer on, and off where it may answer off.
+use mathlib.Core.Path.{_≡_, refl, sym, _∙_, ap, subst}
+use mathlib.Core.Bool.{Bool, true, false, not}
+use mathlib.Core.List.{List}
+use mathlib.Core.Option.{Option, none, some}
+use Prim.Native.Nat.{ℕ, suc, _+_, _*_, _/_, _%_, _≤_, _<_}
+use native.Mathlib.Omega.{arith}
+use lib.ListN.{length}
+use lib.IntN.{ℤ}
+use Rattle.integers.specs.First.{firstBad}
+use Rattle.integers.proofs.Clash.{clash}
+use Rattle.integers.proofs.First.{none-bad, bad-is, bad-below}
+use Rattle.boxes.specs.Records.{covers, recordLength, boxIndex, boxAtIndex}
+use Rattle.judge.specs.declared.Judgement.the-variants.{On, Off}
+use Rattle.judge.specs.Judging.{Verdict}
+use Rattle.judge.specs.Searching.{heldAt}
+use Rattle.judge.specs.OnBand.{firstHolder, onBand}
+use Rattle.judge.proofs.Deciding.{held-exactly}
+
+module _ (ns : List ℤ) (x y : ℤ) (whole : length ns % recordLength ≡ 0) where
+  abbrev missed : ℕ → Bool
+  missed j = not (heldAt ns x y (recordLength * (j / covers)) (j % covers))
+
+  held-missed : (b : Bool) → not b ≡ true → b ≡ true → ⊥
+  held-missed true e f = clash (cc)
+  held-missed false e f = clash (cc)
+
+  not-missed : (b : Bool) → not b ≡ false → b ≡ true
+  not-missed true e = refl
+  not-missed false e = clash (cc)
+
+  -- a cover that holds the point is found
+  pub on-found : (k i : ℕ) → Verdict none ns x y (On k i) → onBand ns x y ≡ true
+  unfolding firstHolder
+  on-found k i v = go (firstHolder ns x y) refl
+    where
+      inside : 3 * k + i < covers * (length ns / recordLength)
+      inside = let a = v .0 in let b = v .1 in omega arith
+
+      here : missed (0 + (3 * k + i)) ≡ true → ⊥
+      here e =
+          let n : 0 + (3 * k + i) ≡ 3 * k + i = omega arith in
+          let q : (3 * k + i) / covers ≡ k = let b = v .1 in omega arith in
+          let m : (3 * k + i) % covers ≡ i = let b = v .1 in omega arith in
+          held-missed _ (rw (n, q, m) at e) (held-exactly (boxAtIndex ns (boxIndex k i)) (boxAtIndex ns (boxIndex k (suc i))) x y .1 (v .2))
+
+      go : (o : Option ℕ) → firstHolder ns x y ≡ o → _≡_ {A = Bool} (elim o [ some j ↦ true | none ↦ false ]) true
+      go (some j) e = refl
+      go none e = absurd (here (none-bad missed (covers * (length ns / recordLength)) 0 e (3 * k + i) inside))
+
+  -- and where none holds it, none is found
+  pub off-found : Verdict none ns x y Off → onBand ns x y ≡ false
+  unfolding firstHolder
+  off-found v = go (firstHolder ns x y) refl
+    where
+      go : (o : Option ℕ) → firstHolder ns x y ≡ o → _≡_ {A = Bool} (elim o [ some j ↦ true | none ↦ false ]) false
+      go none e = refl
+      go (some j) e =
+          let h = not-missed _ (bad-is missed (covers * (length ns / recordLength)) 0 j e) in
+          let b = bad-below missed (covers * (length ns / recordLength)) 0 j e in
+          absurd (v (j / covers) (j % covers) (omega arith) (omega arith) (held-exactly (boxAtIndex ns (boxIndex (j / covers) (j % covers))) (boxAtIndex ns (boxIndex (j / covers) (suc (j % covers)))) x y .0 h))

@@ -1,0 +1,30 @@
+-- `render::leaves::put_first` meets its contract.
+use borrow.Author.Needs.{needs}
+use Rattle.render.proofs.LeafLines.{first-put}
+use Rattle.render.proofs.leaves.put_first.Statement.{statement}
+use Rattle.render.proofs.leaves.put_first.Tie as tie
+
+mul-value : tie.Need-mul-value
+mul-value c = search needs
+
+shared-slice-copy-out-value : tie.Need-shared-slice-copy-out-value
+shared-slice-copy-out-value c = search needs
+
+put-number-requires : tie.Need-put-number-requires
+put-number-requires c κs = search needs
+
+same-length : tie.Need-same-length
+same-length c = search needs
+
+returns : tie.Need-returns
+returns c = search first-put
+
+pub put-first-spec : {M : Type 1} → statement M
+put-first-spec =
+    tie.close
+    (tie.spec
+    mul-value
+    shared-slice-copy-out-value
+    put-number-requires
+    same-length
+    returns)

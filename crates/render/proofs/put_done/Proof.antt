@@ -1,0 +1,38 @@
+-- `render::put_done` meets its contract.
+use borrow.Author.Needs.{needs}
+use Rattle.render.proofs.Answers.{done-put}
+use Rattle.render.proofs.put_done.Statement.{statement}
+use Rattle.render.proofs.put_done.Tie as tie
+
+slice-aggregate-put-word : tie.Need-slice-aggregate-put-word
+slice-aggregate-put-word c = search needs
+
+put-word-requires : tie.Need-put-word-requires
+put-word-requires c κs = search needs
+
+put-three-requires : tie.Need-put-three-requires
+put-three-requires c κs = search needs
+
+slice-aggregate-put-word-2 : tie.Need-slice-aggregate-put-word-2
+slice-aggregate-put-word-2 c = search needs
+
+put-word-requires-2 : tie.Need-put-word-requires-2
+put-word-requires-2 c κs = search needs
+
+same-length : tie.Need-same-length
+same-length c = search needs
+
+returns : tie.Need-returns
+returns c = search done-put
+
+pub put-done-spec : {M : Type 1} → statement M
+put-done-spec =
+    tie.close
+    (tie.spec
+    slice-aggregate-put-word
+    put-word-requires
+    put-three-requires
+    slice-aggregate-put-word-2
+    put-word-requires-2
+    same-length
+    returns)

@@ -1,0 +1,34 @@
+-- `render::put_refused` meets its contract.
+use borrow.Author.Needs.{needs}
+use Rattle.render.proofs.Answers.{refusal-put}
+use Rattle.render.proofs.put_refused.Statement.{statement}
+use Rattle.render.proofs.put_refused.Tie as tie
+
+number-requires : tie.Need-number-requires
+number-requires c κs = search needs
+
+cast-number : tie.Need-cast-number
+cast-number c = search needs
+
+spot-requires : tie.Need-spot-requires
+spot-requires c κs = search needs
+
+put-refused-numbers-requires : tie.Need-put-refused-numbers-requires
+put-refused-numbers-requires c κs = search needs
+
+same-length : tie.Need-same-length
+same-length c = search needs
+
+returns : tie.Need-returns
+returns c = search refusal-put
+
+pub put-refused-spec : {M : Type 1} → statement M
+put-refused-spec =
+    tie.close
+    (tie.spec
+    number-requires
+    cast-number
+    spot-requires
+    put-refused-numbers-requires
+    same-length
+    returns)

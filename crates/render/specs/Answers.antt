@@ -1,0 +1,32 @@
+-- The lines of the answer as bytes (document 01, "Text program"): (done curves leaves nodes), (on), (off) and (refused number spot), each with byte 10 at its end. That
+-- a word below has the bytes that it should is seen where the code, which spells it, is proved.
+use mathlib.Core.List.{List, [], _∷_, _++_}
+use Prim.Native.Nat.{ℕ}
+use Rattle.refusals.specs.declared.Refusal.{Refusal}
+use Rattle.refusals.specs.Refusals.{numberOf, spotOf}
+use Rattle.decimals.specs.Decimals.{spacedNatural}
+
+-- ")" and the end of the line
+abbrev pub closing : List ℕ
+closing = 41 ∷ 10 ∷ []
+
+-- "(done"
+abbrev pub done : List ℕ
+done = 40 ∷ 100 ∷ 111 ∷ 110 ∷ 101 ∷ []
+
+unfoldable pub doneLine : ℕ → ℕ → ℕ → List ℕ
+doneLine curves leaves nodes = done ++ spacedNatural curves ++ spacedNatural leaves ++ spacedNatural nodes ++ closing
+
+-- "(refused"
+abbrev pub refusedWord : List ℕ
+refusedWord = 40 ∷ 114 ∷ 101 ∷ 102 ∷ 117 ∷ 115 ∷ 101 ∷ 100 ∷ []
+
+unfoldable pub refusedLine : Refusal → List ℕ
+refusedLine r = refusedWord ++ spacedNatural (numberOf r) ++ spacedNatural (spotOf r) ++ closing
+
+-- "(on)" and "(off)"
+abbrev pub onLine : List ℕ
+onLine = 40 ∷ 111 ∷ 110 ∷ 41 ∷ 10 ∷ []
+
+abbrev pub offLine : List ℕ
+offLine = 40 ∷ 111 ∷ 102 ∷ 102 ∷ 41 ∷ 10 ∷ []

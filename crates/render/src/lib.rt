@@ -1,0 +1,83 @@
+// The lines of the answer, put into a list of bytes. Each function asks for the room that it may need, and returns the place after the line.
+ghost use mathlib.Core.List.{_++_};
+ghost use Prim.Native.Nat.{_+_, _*_, _≤_};
+ghost use lib.ListN.{length};
+ghost use Rattle.appends.specs.Appends.{Appended, Within};
+ghost use Rattle.render.specs.Answers.{closing, doneLine, refusedWord, refusedLine, onLine, offLine};
+ghost use Rattle.render.specs.Leaves.{leafLines};
+ghost use Rattle.decimals.specs.Decimals.{spacedNatural};
+use decimals::put_spaced_natural;
+use decimals::put_word;
+use leaves::put_leaf;
+use refusals::Refusal;
+
+mod leaves;
+
+// The lines of the first n records of a leaf list.
+pub fn put_leaves(records: &[i32], n: usize, out: &mut [u8], from: usize) -> usize
+    requires { ⌜ (18 * n ≤ length (now records)) × (from + 231 * n ≤ length (now out)) ⌝ }
+    ensures { λ r. ⌜ Within (now (out .entry)) from (231 * n) (leafLines (now (records .entry)) n) (now (out .exit)) r ⌝ }
+{
+    let mut at = from;
+    let mut k: usize = 0;
+    while k < n {
+        at = put_leaf(records, 18 * k, out, at);
+        k += 1;
+    }
+    at
+}
+
+// What banding reports.
+pub fn put_done(out: &mut [u8], at: usize, curves: usize, leaves: usize, nodes: usize) -> usize
+    requires { ⌜ at + 70 ≤ length (now out) ⌝ }
+    ensures { λ r. ⌜ Within (now (out .entry)) at 70 (doneLine curves leaves nodes) (now (out .exit)) r ⌝ }
+{
+    let i = put_word(out, at, b"(done");
+    let j = put_three(out, i, curves as u64, leaves as u64, nodes as u64);
+    put_word(out, j, b")\n")
+}
+
+// A refusal's number and spot.
+pub fn put_refused(out: &mut [u8], at: usize, refusal: Refusal) -> usize
+    requires { ⌜ at + 52 ≤ length (now out) ⌝ }
+    ensures { λ r. ⌜ Within (now (out .entry)) at 52 (refusedLine refusal) (now (out .exit)) r ⌝ }
+{
+    let number = refusal.number() as u64;
+    let spot = refusal.spot() as u64;
+    put_refused_numbers(out, at, number, spot)
+}
+
+// A point that is on the band.
+pub fn put_on(out: &mut [u8], at: usize) -> usize
+    requires { ⌜ at + 5 ≤ length (now out) ⌝ }
+    ensures { λ r. ⌜ Appended (now (out .entry)) at onLine (now (out .exit)) r ⌝ }
+{
+    put_word(out, at, b"(on)\n")
+}
+
+// A point that is off it.
+pub fn put_off(out: &mut [u8], at: usize) -> usize
+    requires { ⌜ at + 6 ≤ length (now out) ⌝ }
+    ensures { λ r. ⌜ Appended (now (out .entry)) at offLine (now (out .exit)) r ⌝ }
+{
+    put_word(out, at, b"(off)\n")
+}
+
+fn put_three(out: &mut [u8], at: usize, a: u64, b: u64, c: u64) -> usize
+    requires { ⌜ at + 63 ≤ length (now out) ⌝ }
+    ensures { λ r. ⌜ Within (now (out .entry)) at 63 (spacedNatural a ++ spacedNatural b ++ spacedNatural c) (now (out .exit)) r ⌝ }
+{
+    let i = put_spaced_natural(out, at, a);
+    let j = put_spaced_natural(out, i, b);
+    put_spaced_natural(out, j, c)
+}
+
+fn put_refused_numbers(out: &mut [u8], at: usize, number: u64, spot: u64) -> usize
+    requires { ⌜ at + 52 ≤ length (now out) ⌝ }
+    ensures { λ r. ⌜ Within (now (out .entry)) at 52 (refusedWord ++ spacedNatural number ++ spacedNatural spot ++ closing) (now (out .exit)) r ⌝ }
+{
+    let i = put_word(out, at, b"(refused");
+    let j = put_spaced_natural(out, i, number);
+    let k = put_spaced_natural(out, j, spot);
+    put_word(out, k, b")\n")
+}

@@ -1,0 +1,225 @@
+-- What is kept of the outline of a text is enough: the checks of an outline of at most so many curves find the same in it as in the whole.
+use mathlib.Core.Path.{_≡_, refl, sym, ap, ap₂, _∙_, subst}
+use mathlib.Core.Bool.{Bool, true, false, cond}
+use mathlib.Core.List.{List, [], _∷_, _++_, append-assoc}
+use mathlib.Core.Option.{Option, none, some}
+use Prim.Native.Nat.{ℕ, zero, suc, _+_, _-_, _*_, _≤_, _<_}
+use native.Mathlib.Omega.{arith}
+use borrow.Author.Tests.{leb-true}
+use lib.Dec.{leb, ltb}
+use lib.ListN.{length, length-append, List·getD-append}
+use lib.Seq.{getD-append-seam}
+use lib.IntN.{ℤ, pos, natAbs}
+use lib.Signed.{ltZ}
+use Rattle.integers.specs.Entry.{entry}
+use Rattle.refusals.specs.declared.Refusal.{Refusal}
+use Rattle.refusals.specs.declared.Refusal.the-variants.{TooManyCurves}
+use Rattle.bezier.proofs.Values.{listed-ext}
+use Rattle.outline.specs.Curves.{coordinates, degreeAt, nextAt, values, curveAt}
+use Rattle.integers.specs.Between.{between}
+use Rattle.integers.specs.First.{firstBad}
+use Rattle.outline.specs.Checks.{coordinateFine, firstBeyond, faultAt, foundOf, faultOf, faulty, withCurve, outlineFrom, outlined}
+use Rattle.outline.proofs.Faultless.{coordinateFault, fault-degree, fault-coordinate}
+use Rattle.outline.proofs.Steps.{outline-full, outline-faulty, outline-step}
+use Rattle.forms.specs.declared.Points.{Points}
+use Rattle.forms.specs.declared.Form.{Form}
+use Rattle.forms.specs.declared.Form.the-variants.{Tolerance, Curve as CurveLine, Point, NoForm}
+use Rattle.forms.specs.Forms.{formAt}
+use Rattle.forms.proofs.Reach.{OneToThree, Reaches, form-reaches}
+use Rattle.text.specs.Lines.{onward, linesFrom, linesOf, gather}
+use Rattle.text.specs.Meaning.{numbersOf, curveNumbers, means, meaning}
+use Rattle.text.specs.Outlines.{kept}
+use Rattle.text.proofs.Filling.{few-numbers}
+use Rattle.text.proofs.Accepted.{accepted}
+
+-- ---- two lists with the same numbers before index e
+record Agree (ns ms : List ℤ) (e : ℕ) : Type 0 where
+  same : (k : ℕ) → k < e → entry ns k ≡ entry ms k
+  first : e ≤ length ns
+  second : e ≤ length ms
+
+fault-of : (o p : Option Refusal) → faultOf o ≡ faultOf p → o ≡ p
+fault-of none none e = refl
+fault-of (some a) (some b) e = cc
+fault-of none (some b) e = let z : _≡_ {A = ℕ} 0 1 = cc in absurd (omega arith)
+fault-of (some a) none e = let z : _≡_ {A = ℕ} 0 1 = cc in absurd (omega arith)
+
+module _ {ns ms : List ℤ} {e : ℕ} (a : Agree ns ms e) where
+  beyond-same : (n i : ℕ) → i + n ≤ e → firstBeyond ns n i ≡ firstBeyond ms n i
+  unfolding firstBad
+  beyond-same zero i h = refl
+  beyond-same (suc n) i h =
+      ap₂ (λ (z : ℤ) (o : Option ℕ). elim (coordinateFine z) [ true ↦ o | false ↦ some i ]) (a .same i (omega arith)) (beyond-same n (i + 1) (omega arith))
+
+  -- a curve whose degree stands at index `at`, all of it before index e
+  module _ (at : ℕ) (h : nextAt ns at ≤ e) where
+    degree-same : entry ns at ≡ entry ms at
+    degree-same = a .same at (omega arith)
+
+    next-same : nextAt ns at ≡ nextAt ms at
+    next-same = ap (λ (z : ℤ). at + 1 + coordinates (natAbs z)) degree-same
+
+    fault-same : faultAt ns at ≡ faultAt ms at
+    fault-same = either (between (pos 1) (pos 3) (entry ns at)) refl
+      where
+        either : (b : Bool) → between (pos 1) (pos 3) (entry ns at) ≡ b → faultAt ns at ≡ faultAt ms at
+        either false f = fault-degree ns at f ∙ sym (fault-degree ms at (ap (between (pos 1) (pos 3)) (sym degree-same) ∙ f))
+        either true f =
+            fault-of (faultAt ns at) (faultAt ms at)
+            (fault-coordinate ns at f (omega (arith, a .first))
+            ∙ ap (λ (o : Option ℕ). coordinateFault (foundOf o))
+            (beyond-same (nextAt ns at - (at + 1)) (at + 1) (omega arith) ∙ ap (λ (n : ℕ). firstBeyond ms (n - (at + 1)) (at + 1)) next-same)
+            ∙ sym (fault-coordinate ms at (ap (between (pos 1) (pos 3)) (sym degree-same) ∙ f) (omega (arith, a .second, next-same))))
+
+    -- i is 1 for x and 2 for y
+    values-same : (i : ℕ) → i ≤ 2 → values ns (degreeAt ns at) (at + i) ≡ values ms (degreeAt ns at) (at + i)
+    values-same i l = listed-ext 4 _ _ (λ k m. either k (leb k (degreeAt ns at)) refl)
+      where
+        either : (k : ℕ) (b : Bool) → leb k (degreeAt ns at) ≡ b → cond b (entry ns (at + i + 2 * k)) (pos 0) ≡ cond b (entry ms (at + i + 2 * k)) (pos 0)
+        either k true f = a .same (at + i + 2 * k) (omega (arith, leb-true k (degreeAt ns at) f))
+        either k false f = refl
+
+    curve-same : curveAt ns at ≡ curveAt ms at
+    unfolding curveAt
+    curve-same =
+        ap₂ (λ (x y : List ℤ). record { degree = degreeAt ns at; x = x; y = y }) (values-same 1 (omega arith)) (values-same 2 (omega arith))
+        ∙ ap (λ (z : ℤ). record { degree = natAbs z; x = values ms (natAbs z) (at + 1); y = values ms (natAbs z) (at + 2) }) degree-same
+
+-- ---- the curves of lines have degrees 1 to 3
+abbrev Degrees : List Form → Type 0
+Degrees [] = Unit
+Degrees (CurveLine p j ∷ ls) = OneToThree (p .degree) × Degrees ls
+Degrees (Tolerance t j ∷ ls) = Degrees ls
+Degrees (Point x y j ∷ ls) = Degrees ls
+Degrees (NoForm ∷ ls) = Degrees ls
+
+lines-degrees : (n : ℕ) (s : List ℕ) (i : ℕ) → Degrees (linesFrom n s i)
+unfolding linesFrom
+lines-degrees zero s i = tt
+lines-degrees (suc n) s i = either (ltb i (length s)) (formAt s i) (form-reaches s i) (lines-degrees n s)
+  where
+    either : (b : Bool) (f : Form) → Reaches i (length s) f → ((j : ℕ) → Degrees (linesFrom n s j)) → Degrees (cond b (f ∷ onward f (linesFrom n s)) [])
+    either false f r again = tt
+    either true (Tolerance t j) r again = again j
+    either true (CurveLine p j) r again = (r .1, again j)
+    either true (Point x y j) r again = again j
+    either true NoForm r again = tt
+
+-- ---- a curve's numbers are its degree and d + 1 points
+abbrev numbersBy : Points → ℤ → List ℤ
+numbersBy p z = z ∷ p .x0 ∷ p .y0 ∷ p .x1 ∷ p .y1 ∷ cond {A = List ℤ} (ltZ z (pos 2)) [] (p .x2 ∷ p .y2 ∷ cond {A = List ℤ} (ltZ z (pos 3)) [] (p .x3 ∷ p .y3 ∷ []))
+
+numbers-length : (p : Points) → OneToThree (p .degree) → length (numbersOf p) ≡ 1 + coordinates (natAbs (p .degree))
+unfolding numbersOf
+numbers-length p r = subst (λ (z : ℤ). length (numbersBy p z) ≡ 1 + coordinates (natAbs z)) (sym (r .is)) (each (r .natural) (r .least) (r .most))
+  where
+    each : (d : ℕ) → 1 ≤ d → d ≤ 3 → length (numbersBy p (pos d)) ≡ 1 + coordinates d
+    each zero l h = absurd (omega arith)
+    each (suc zero) l h = refl
+    each (suc (suc zero)) l h = refl
+    each (suc (suc (suc zero))) l h = refl
+    each (suc (suc (suc (suc d)))) l h = absurd (omega arith)
+
+-- ---- a curve after the numbers `front`, and whatever follows it
+module _ (front : List ℤ) (p : Points) (d : OneToThree (p .degree)) (xs ys : List ℤ) where
+  abbrev whole : List ℤ → List ℤ
+  whole zs = front ++ (numbersOf p ++ zs)
+
+  degree-there : (zs : List ℤ) → entry (whole zs) (length front) ≡ p .degree
+  unfolding numbersOf
+  degree-there zs = getD-append-seam front (p .degree) _ (pos 0)
+
+  inside : (zs : List ℤ) (k : ℕ) → k < length (front ++ numbersOf p) → entry (whole zs) k ≡ entry (front ++ numbersOf p) k
+  inside zs k h = ap (λ (l : List ℤ). entry l k) (sym (append-assoc front (numbersOf p) zs)) ∙ List·getD-append (front ++ numbersOf p) zs (pos 0) k h
+
+  reaches : (zs : List ℤ) → length (front ++ numbersOf p) ≤ length (whole zs)
+  reaches zs = omega (arith, ap length (append-assoc front (numbersOf p) zs), length-append (front ++ numbersOf p) zs)
+
+  agree : Agree (whole xs) (whole ys) (length (front ++ numbersOf p))
+  agree = record { same = λ k h. inside xs k h ∙ sym (inside ys k h); first = reaches xs; second = reaches ys }
+
+  next-there : (zs : List ℤ) → nextAt (whole zs) (length front) ≡ length (front ++ numbersOf p)
+  next-there zs =
+      ap (λ (z : ℤ). length front + 1 + coordinates (natAbs z)) (degree-there zs)
+      ∙ omega (arith, numbers-length p d, length-append front (numbersOf p))
+
+  -- the checks of this curve are the same, and then those of the rest
+  after-curve : (most : ℕ) → outlineFrom most ((front ++ numbersOf p) ++ xs) (length (front ++ numbersOf p)) ≡ outlineFrom most ((front ++ numbersOf p) ++ ys) (length (front ++ numbersOf p))
+      → outlineFrom (suc most) (whole xs) (length front) ≡ outlineFrom (suc most) (whole ys) (length front)
+  after-curve most again = either (faultAt (whole xs) (length front)) refl
+    where
+      reach : nextAt (whole xs) (length front) ≤ length (front ++ numbersOf p)
+      reach = omega (arith, next-there xs)
+
+      within : (zs : List ℤ) → length front < length (whole zs)
+      within zs = omega (arith, reaches zs, length-append front (numbersOf p), numbers-length p d)
+
+      moved : (zs : List ℤ) → outlineFrom most (whole zs) (nextAt (whole zs) (length front)) ≡ outlineFrom most ((front ++ numbersOf p) ++ zs) (length (front ++ numbersOf p))
+      moved zs = ap₂ (outlineFrom most) (sym (append-assoc front (numbersOf p) zs)) (next-there zs)
+
+      either : (o : Option Refusal) → faultAt (whole xs) (length front) ≡ o → outlineFrom (suc most) (whole xs) (length front) ≡ outlineFrom (suc most) (whole ys) (length front)
+      either (some r) e =
+          outline-faulty (whole xs) (length front) most r (within xs) e
+          ∙ sym (outline-faulty (whole ys) (length front) most r (within ys) (sym (fault-same agree (length front) reach) ∙ e))
+      either none e =
+          outline-step (whole xs) (length front) most e
+          ∙ ap₂ withCurve (curve-same agree (length front) reach) (moved xs ∙ again ∙ sym (moved ys))
+          ∙ sym (outline-step (whole ys) (length front) most (sym (fault-same agree (length front) reach) ∙ e))
+
+-- ---- line by line
+kept-from : (ls : List Form) → Degrees ls → (most : ℕ) (front : List ℤ)
+    → outlineFrom most (front ++ kept most ls) (length front) ≡ outlineFrom most (front ++ gather curveNumbers ls) (length front)
+unfolding kept gather
+kept-from [] d most front = refl
+kept-from (Tolerance t j ∷ ls) d most front = kept-from ls d most front
+kept-from (Point x y j ∷ ls) d most front = kept-from ls d most front
+kept-from (NoForm ∷ ls) d most front = kept-from ls d most front
+kept-from (CurveLine p j ∷ ls) d zero front = begins (p .degree ∷ []) (omega arith) ∙ sym (begins (numbersOf p ++ gather curveNumbers ls) some-there)
+  where
+    begins : (zs : List ℤ) → 0 < length zs → outlineFrom 0 (front ++ zs) (length front) ≡ faulty (TooManyCurves (length front))
+    begins zs h = outline-full (front ++ zs) (length front) (omega (arith, length-append front zs))
+
+    some-there : 0 < length (numbersOf p ++ gather curveNumbers ls)
+    some-there = omega (arith, length-append (numbersOf p) (gather curveNumbers ls), numbers-length p (d .0))
+kept-from (CurveLine p j ∷ ls) d (suc most) front = after-curve front p (d .0) (kept most ls) (gather curveNumbers ls) most (kept-from ls (d .1) most (front ++ numbersOf p))
+
+-- ---- what is kept of the lines of a text
+not-empty : (most : ℕ) (ns : List ℤ) → 0 < length ns → outlined most ns ≡ outlineFrom most ns 0
+unfolding outlined
+not-empty most [] h = absurd (omega arith)
+not-empty most (z ∷ ns) h = refl
+
+module _ (p : Points) (j : ℕ) (ls : List Form) (d : OneToThree (p .degree)) where
+  curve-some : (xs : List ℤ) → 0 < length (numbersOf p ++ xs)
+  curve-some xs = omega (arith, length-append (numbersOf p) xs, numbers-length p d)
+
+  kept-some : (most : ℕ) → 0 < length (kept most (CurveLine p j ∷ ls))
+  unfolding kept
+  kept-some zero = omega arith
+  kept-some (suc most) = curve-some (kept most ls)
+
+kept-lines : (ls : List Form) → Degrees ls → (most : ℕ) → outlined most (kept most ls) ≡ outlined most (gather curveNumbers ls)
+unfolding kept gather
+kept-lines [] d most = refl
+kept-lines (Tolerance t j ∷ ls) d most = kept-lines ls d most
+kept-lines (Point x y j ∷ ls) d most = kept-lines ls d most
+kept-lines (NoForm ∷ ls) d most = kept-lines ls d most
+kept-lines (CurveLine p j ∷ ls) d most =
+    not-empty most (kept most (CurveLine p j ∷ ls)) (kept-some p j ls (d .0) most)
+    ∙ kept-from (CurveLine p j ∷ ls) d most []
+    ∙ sym (not-empty most (numbersOf p ++ gather curveNumbers ls) (curve-some p j ls (d .0) (gather curveNumbers ls)))
+
+-- ---- and of a text that is accepted: the checks of its outline, and so banding, find the same
+pub outline-kept : (most : ℕ) (s : List ℕ) (T : ℤ) (outline : List ℤ) (points : List (ℤ × ℤ)) → meaning s ≡ means T outline points → outlined most (kept most (linesOf s)) ≡ outlined most outline
+unfolding linesOf
+outline-kept most s T outline points e = kept-lines (linesOf s) (lines-degrees (length s) s 0) most ∙ ap (outlined most) (sym (accepted s T outline points e .outline))
+
+-- ---- and it is no more than nine numbers a curve, and one
+pub kept-few : (most : ℕ) (ls : List Form) → length (kept most ls) ≤ 9 * most + 1
+unfolding kept
+kept-few most [] = omega arith
+kept-few most (Tolerance t j ∷ ls) = kept-few most ls
+kept-few most (Point x y j ∷ ls) = kept-few most ls
+kept-few most (NoForm ∷ ls) = kept-few most ls
+kept-few zero (CurveLine p j ∷ ls) = omega arith
+kept-few (suc most) (CurveLine p j ∷ ls) = omega (arith, length-append (numbersOf p) (kept most ls), few-numbers p, kept-few most ls)

@@ -1,0 +1,86 @@
+// The numbers of the curves of a text, put into a list one after the other.
+ghost use mathlib.Core.Path.{_≡_};
+ghost use mathlib.Core.List.{[], _∷_};
+ghost use Prim.Native.Nat.{_+_, _≤_, _<_};
+ghost use lib.ListN.{length};
+ghost use Rattle.appends.specs.Appends.{Appended};
+ghost use Rattle.text.specs.Lines.{linesOf};
+ghost use Rattle.text.specs.Meaning.{numbersOf};
+ghost use Rattle.text.specs.Outlines.{kept, firstNumbers};
+use forms::Form;
+use forms::Points;
+
+// The numbers of 64 curves, and the degree of one more.
+pub fn fill(text: &[u8], out: &mut [i32]) -> usize
+    requires { ⌜ 577 ≤ length (now out) ⌝ }
+    ensures { λ r. ⌜ Appended (now (out .entry)) 0 (kept 64 (linesOf (now (text .entry)))) (now (out .exit)) r ⌝ }
+{
+    let mut at: usize = 0;
+    let mut i: usize = 0;
+    let mut left: usize = 64;
+    while i < text.len() {
+        match line_reader::line_from(text, i) {
+            Form::NoForm => {
+                return at;
+            }
+            Form::Tolerance(_, next) => {
+                i = next;
+            }
+            Form::Curve(p, next) => {
+                if left == 0 {
+                    return put(out, at, p.degree);
+                }
+                at = put_curve(out, at, p);
+                left -= 1;
+                i = next;
+            }
+            Form::Point(_, _, next) => {
+                i = next;
+            }
+        }
+    }
+    at
+}
+
+// A curve: its degree, then x and y of its points.
+fn put_curve(out: &mut [i32], at: usize, p: Points) -> usize
+    requires { ⌜ at + 9 ≤ length (now out) ⌝ }
+    ensures { λ r. ⌜ Appended (now (out .entry)) at (numbersOf p) (now (out .exit)) r ⌝ }
+{
+    let degree = p.degree;
+    let i = put_first(out, at, p);
+    if degree < 2 {
+        return i;
+    }
+    let j = put_pair(out, i, p.x2, p.y2);
+    if degree < 3 {
+        return j;
+    }
+    put_pair(out, j, p.x3, p.y3)
+}
+
+// The degree, and x and y of the first two points.
+fn put_first(out: &mut [i32], at: usize, p: Points) -> usize
+    requires { ⌜ at + 5 ≤ length (now out) ⌝ }
+    ensures { λ r. ⌜ Appended (now (out .entry)) at (firstNumbers p) (now (out .exit)) r ⌝ }
+{
+    let i = put(out, at, p.degree);
+    let j = put_pair(out, i, p.x0, p.y0);
+    put_pair(out, j, p.x1, p.y1)
+}
+
+fn put_pair(out: &mut [i32], at: usize, x: i32, y: i32) -> usize
+    requires { ⌜ at + 2 ≤ length (now out) ⌝ }
+    ensures { λ r. ⌜ Appended (now (out .entry)) at (x ∷ y ∷ []) (now (out .exit)) r ⌝ }
+{
+    let i = put(out, at, x);
+    put(out, i, y)
+}
+
+fn put(out: &mut [i32], at: usize, value: i32) -> usize
+    requires { ⌜ at < length (now out) ⌝ }
+    ensures { λ r. ⌜ Appended (now (out .entry)) at (value ∷ []) (now (out .exit)) r ⌝ }
+{
+    out[at] = value;
+    at + 1
+}
