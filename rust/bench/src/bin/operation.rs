@@ -2,8 +2,9 @@
 //! `instructions` runs it under callgrind.
 //!
 //! `operation ENGINE OPERATION INPUT TIMES`. ENGINE is plain, proved or sampled. OPERATION and INPUT are
-//! band with an outline and a tolerance, as in cubics:16; judge with the place of the points; draw with the
-//! shape of the boxes.
+//! band with an outline, a number of curves or a depth where it has one, and a tolerance, as in nominal:16,
+//! cubics-64:16 and arches-3:44, which prints the number of leaves; judge with the place of the points;
+//! draw with the shape of the boxes.
 
 use bench::sampled::{self, Packing};
 use bench::{outlines, pairs, points};
@@ -32,9 +33,10 @@ fn main() -> ExitCode {
 
 fn band(engine: &str, input: &str, times: usize) -> Option<()> {
     let (name, tolerance) = input.split_once(':')?;
-    let outline = match name {
-        "cubics" => outlines::cubics(),
-        "nominal" => outlines::nominal(),
+    let outline = match name.split_once('-') {
+        Some(("cubics", curves)) => outlines::cubics().get(..9 * curves.parse::<usize>().ok()?)?.to_vec(),
+        Some(("arches", depth)) => outlines::arches(depth.parse().ok()?),
+        None if name == "nominal" => outlines::nominal(),
         _ => return None,
     };
     let tolerance = tolerance.parse().ok()?;
@@ -53,6 +55,7 @@ fn band(engine: &str, input: &str, times: usize) -> Option<()> {
             _ => return None,
         }
     }
+    println!("{}", report.leaves);
     Some(())
 }
 
