@@ -7,7 +7,8 @@
  *
  * The outline file has a line (tolerance 44), then for each curve a line with its 2 to 4 control points in stage units, as in
  * (curve (0 0) (10 30) (20 30) (30 0)). The points file has a line (point (240 363)) for each point. Tolerance and points are
- * in sixteenths of a stage unit. */
+ * in sixteenths of a stage unit. These are the forms of document 01's text program, read less strictly: leading zeros pass, and
+ * a last line without end. */
 #include "contour_band.h"
 
 #include <errno.h>

@@ -3,7 +3,8 @@
 //!
 //! The outline file has a line `(tolerance 44)`, then for each curve a line with its 2 to 4 control points
 //! in stage units, as in `(curve (0 0) (10 30) (20 30) (30 0))`. The points file has a line
-//! `(point (240 363))` for each point. Tolerance and points are in sixteenths of a stage unit.
+//! `(point (240 363))` for each point. Tolerance and points are in sixteenths of a stage unit. These are the
+//! forms of document 01's text program, read less strictly: leading zeros pass, and a last line without end.
 
 use contour_band::{band, judge, leaves, Judgement, RECORD};
 use std::process::ExitCode;
@@ -33,8 +34,8 @@ fn inspect(outline_file: &str, points_file: &str) -> Result<(), String> {
 
     // No outline has more than 64 curves, and no curve more than 256 leaves.
     let mut records = vec![0; 64 * 256 * RECORD];
-    let report = band(&outline, tolerance, &mut records)
-        .map_err(|refusal| format!("{outline_file}: {refusal}"))?;
+    let report =
+        band(&outline, tolerance, &mut records).map_err(|refusal| format!("{outline_file}: {refusal}"))?;
     // Points are judged against the records written, not against the rest of the list.
     records.truncate(RECORD * report.leaves as usize);
 
@@ -67,10 +68,7 @@ fn inspect(outline_file: &str, points_file: &str) -> Result<(), String> {
             }
         }
     }
-    println!(
-        "points {}: on {on}, off {off}, refused {refused}",
-        points.len()
-    );
+    println!("points {}: on {on}, off {off}, refused {refused}", points.len());
     Ok(())
 }
 
@@ -85,13 +83,9 @@ fn read_outline(file: &str) -> Result<(i32, Vec<i32>), String> {
         .ok_or_else(|| format!("{file}, line 1: (tolerance T) is expected"))?;
     let mut outline = Vec::new();
     for (i, line) in lines.enumerate() {
-        let points = points_of(line, "curve")
-            .filter(|points| (2..=4).contains(&points.len()))
-            .ok_or_else(|| {
-                format!(
-                    "{file}, line {}: (curve (x y) (x y) ..) of 2 to 4 points is expected",
-                    i + 2
-                )
+        let points =
+            points_of(line, "curve").filter(|points| (2..=4).contains(&points.len())).ok_or_else(|| {
+                format!("{file}, line {}: (curve (x y) (x y) ..) of 2 to 4 points is expected", i + 2)
             })?;
         outline.push(points.len() as i32 - 1);
         outline.extend(points.concat());
@@ -115,22 +109,20 @@ fn read(file: &str) -> Result<String, String> {
 
 /// The number of a line `(tolerance T)`.
 fn tolerance_of(line: &str) -> Option<i32> {
-    line.strip_prefix("(tolerance ")?
-        .strip_suffix(')')?
-        .parse()
-        .ok()
+    number(line.strip_prefix("(tolerance ")?.strip_suffix(')')?)
 }
 
 /// The points of a line `(word (x y) (x y) ..)`.
 fn points_of(line: &str, word: &str) -> Option<Vec<Point>> {
-    let points = line
-        .strip_prefix('(')?
-        .strip_prefix(word)?
-        .strip_prefix(" (")?
-        .strip_suffix("))")?;
+    let points = line.strip_prefix('(')?.strip_prefix(word)?.strip_prefix(" (")?.strip_suffix("))")?;
     let point = |text: &str| {
         let (x, y) = text.split_once(' ')?;
-        Some([x.parse().ok()?, y.parse().ok()?])
+        Some([number(x)?, number(y)?])
     };
     points.split(") (").map(point).collect()
+}
+
+/// A 32-bit number, without a plus.
+fn number(text: &str) -> Option<i32> {
+    text.parse().ok().filter(|_| !text.starts_with('+'))
 }

@@ -6,7 +6,8 @@ use std::fs;
 use std::path::{Path, PathBuf};
 use std::process::{Command, Output};
 
-/// The Rust program, which cargo builds beside the folder of the test programs.
+/// The Rust program, which `cargo test` builds beside the folder of the test programs. (`cargo test --test
+/// inspect` does not: `cargo build --examples` comes before it.)
 fn in_rust() -> PathBuf {
     let test = std::env::current_exe().expect("the test has a path");
     let build = test.ancestors().nth(2).expect("tests stand in a folder of the build");
@@ -51,6 +52,9 @@ fn both_say_what_is_wrong() {
         ("(tolerance )\n", "", NO_TOLERANCE.to_owned()),
         ("(tolerance 2147483648)\n", "", NO_TOLERANCE.to_owned()),
         ("(tolerance 2\n", "", NO_TOLERANCE.to_owned()),
+        ("(tolerance +2)\n", "", NO_TOLERANCE.to_owned()),
+        ("(tolerance  2)\n", "", NO_TOLERANCE.to_owned()),
+        ("(tolerance 2) \n", "", NO_TOLERANCE.to_owned()),
         ("(tolerance 2)\n(curve (0 0))\n", "", format!("line 2: {NO_CURVE}")),
         ("(tolerance 2)\n(curve (0 0) (1 1) (2 2) (3 3) (4 4))\n", "", format!("line 2: {NO_CURVE}")),
         ("(tolerance 2)\n(curve (0 0) (0 1))\n(curve (0 0) (0 x))\n", "", format!("line 3: {NO_CURVE}")),
