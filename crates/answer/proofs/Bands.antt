@@ -1,5 +1,5 @@
 -- A text's band and its lines: what each way through `band_text` and `put_band` answers.
-use mathlib.Core.Path.{_≡_, sym, ap, _∙_, subst}
+use mathlib.Core.Path.{_≡_, sym, ap, _∙_}
 use mathlib.Core.Bool.{true, false}
 use mathlib.Core.List.{List}
 use Prim.Native.Nat.{ℕ, _+_, _*_, _^_, _≤_, _<_}
@@ -14,7 +14,7 @@ use Rattle.refusals.specs.declared.Refusal.{Refusal}
 use Rattle.refusals.specs.declared.Refusal.the-variants.{Tolerance as WrongTolerance}
 use Rattle.outline.specs.Checks.{toleranceFine, Outlined, outlined}
 use Rattle.band.specs.declared.Banded.{Banded}
-use Rattle.band.specs.declared.Banded.the-variants.{Done, Refused}
+use Rattle.band.specs.declared.Banded.the-variants.{Refused}
 use Rattle.band.specs.Records.{allRecords}
 use Rattle.band.specs.Banding.{bandOutlined, banded, curvesOf, writtenBy, written}
 use Rattle.appends.specs.Appends.{Appended, Within}
@@ -25,41 +25,19 @@ use Rattle.text.specs.Lines.{linesOf}
 use Rattle.text.specs.Meaning.{Meaning, refused, means, meaning, checkedOf}
 use Rattle.text.specs.Outlines.{kept}
 use Rattle.text.proofs.Kept.{outline-kept, kept-few}
-use Rattle.render.specs.Answers.{doneLine, refusedLine}
+use Rattle.render.specs.Answers.{doneLine}
 use Rattle.render.specs.Leaves.{leafLines}
-use Rattle.answer.specs.Bands.{bandOf, recordsOf, bandLines, roomFor}
+use Rattle.answer.specs.Bands.{bandOf, recordsOf, bandLines, RoomFor}
 
 -- ---- `put_band`
-module _ (b : Banded) (records out at : ℕ) (room : roomFor b records out at) where
-  pub room-refused : (r : Refusal) → b ≡ Refused r → at + 52 ≤ out
-  room-refused r e = subst (λ (x : Banded). roomFor x records out at) e room
+pub room-done : (leaves records out : ℕ) → RoomFor leaves records out → (d xs o : List ℕ) (i : ℕ) → length o ≡ out → Within d 0 (231 * leaves) xs o i → i + 70 ≤ length o
+room-done leaves records out room d xs o i z a = omega (arith, a .small, room .room)
 
-  module _ (c l n : ℕ) (e : b ≡ Done c l n) where
-    done-room : (18 * l ≤ records) × (l ≤ 910) × (at + 231 * l + 70 ≤ out)
-    done-room = subst (λ (x : Banded). roomFor x records out at) e room
-
-    pub room-records : 18 * l ≤ records
-    room-records = done-room .0
-
-    pub room-lines : at + 231 * l ≤ out
-    room-lines = omega (arith, done-room .2)
-
-    pub room-few : l ≤ 910
-    room-few = done-room .1
-
-    pub room-done : (d xs o : List ℕ) (i : ℕ) → length o ≡ out → Within d at (231 * l) xs o i → i + 70 ≤ length o
-    room-done d xs o i z a = omega (arith, a .small, done-room .2)
-
-module _ (b : Banded) (ns : List ℤ) (d : List ℕ) (i : ℕ) where
-  pub refused-lines : (r : Refusal) (o : List ℕ) (j : ℕ) → b ≡ Refused r → Within d i 52 (refusedLine r) o j → Within d i (231 * 910 + 70) (bandLines b ns) o j
-  refused-lines r o j e a = within (subst (λ (x : Banded). Appended d i (bandLines x ns) o j) (sym e) (a .put)) (omega (arith, a .small))
-
-  pub done-lines : (out : ℕ) (room : roomFor b (length ns) out i) (c l n : ℕ) (o u : List ℕ) (j k : ℕ) → b ≡ Done c l n → Within d i (231 * l) (leafLines ns l) o j
-      → Within o j 70 (doneLine c l n) u k → Within d i (231 * 910 + 70) (bandLines b ns) u k
-  done-lines out room c l n o u j k e p q =
-      within
-      (subst (λ (x : Banded). Appended d i (bandLines x ns) u k) (sym e) (append-both d o u (leafLines ns l) (doneLine c l n) i j k (p .put) (q .put)))
-      (omega (arith, p .small, q .small, room-few b (length ns) out i room c l n e))
+pub done-lines : (curves leaves nodes : ℕ) (ns : List ℤ) (d o u : List ℕ) (j k : ℕ) → Within d 0 (231 * leaves) (leafLines ns leaves) o j
+    → Within o j 70 (doneLine curves leaves nodes) u k → Within d 0 (231 * leaves + 70) (bandLines curves leaves nodes ns) u k
+unfolding bandLines
+done-lines curves leaves nodes ns d o u j k p q =
+    within (append-both d o u (leafLines ns leaves) (doneLine curves leaves nodes) 0 j k (p .put) (q .put)) (omega (arith, p .small, q .small))
 
 -- ---- `band_text`: banding looks at an outline through its checks alone
 banded-same : (most : ℕ) (T : ℤ) (ns ms : List ℤ) (room : ℕ) → outlined most ns ≡ outlined most ms → banded most T ns room ≡ banded most T ms room

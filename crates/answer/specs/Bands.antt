@@ -4,10 +4,10 @@ use mathlib.Core.List.{List, _++_}
 use Prim.Native.Nat.{ℕ, _+_, _*_, _≤_}
 use lib.IntN.{ℤ}
 use Rattle.band.specs.declared.Banded.{Banded}
-use Rattle.band.specs.declared.Banded.the-variants.{Done, Refused}
+use Rattle.band.specs.declared.Banded.the-variants.{Refused}
 use Rattle.band.specs.Banding.{banded, written}
 use Rattle.text.specs.Meaning.{Meaning, refused, means}
-use Rattle.render.specs.Answers.{doneLine, refusedLine}
+use Rattle.render.specs.Answers.{doneLine}
 use Rattle.render.specs.Leaves.{leafLines}
 
 abbrev pub bandOf : Meaning → ℕ → Banded
@@ -18,12 +18,11 @@ abbrev pub recordsOf : Meaning → List ℤ → List ℤ
 recordsOf (refused r) old = old
 recordsOf (means T outline points) old = written 64 T outline old
 
--- the leaves and the report, or the refusal alone
-abbrev pub bandLines : Banded → List ℤ → List ℕ
-bandLines (Refused r) records = refusedLine r
-bandLines (Done curves leaves nodes) records = leafLines records leaves ++ doneLine curves leaves nodes
+-- the leaves and the report
+unfoldable pub bandLines : (curves leaves nodes : ℕ) → List ℤ → List ℕ
+bandLines curves leaves nodes records = leafLines records leaves ++ doneLine curves leaves nodes
 
--- what `put_band` asks: all leaves stand in the records, no more than 910 as in 16,380 numbers, and there is room for their lines
-abbrev pub roomFor : Banded → ℕ → ℕ → ℕ → Type 0
-roomFor (Refused r) records out at = at + 52 ≤ out
-roomFor (Done curves leaves nodes) records out at = (18 * leaves ≤ records) × (leaves ≤ 910) × (at + 231 * leaves + 70 ≤ out)
+-- what `put_band` asks: all leaves stand in the records, and there is room for their lines
+pub record RoomFor (leaves records out : ℕ) : Type 0 where
+  pub stand : 18 * leaves ≤ records
+  pub room : 231 * leaves + 70 ≤ out

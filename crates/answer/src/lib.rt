@@ -1,42 +1,50 @@
-// From a text to its band, and from a band to the bytes of its lines.
+// The answer to a text: its bytes in, the bytes of its answer out.
 ghost use mathlib.Core.Path.{_≡_};
 ghost use Prim.Native.Nat.{_+_, _*_, _≤_};
-ghost use lib.ListN.{length};
+ghost use lib.ListN.{length, replicate};
+ghost use lib.IntN.{pos};
 ghost use Rattle.appends.specs.Appends.{Within};
 ghost use Rattle.text.specs.Meaning.{meaning};
-ghost use Rattle.render.specs.Leaves.{leafLines};
-ghost use Rattle.answer.specs.Bands.{bandOf, recordsOf, bandLines, roomFor};
+ghost use Rattle.answer.specs.Answers.{lent, answerOf};
+ghost use Rattle.answer.specs.Bands.{bandOf, recordsOf, bandLines, RoomFor};
 use band::Banded;
+use points::put_points;
 use text::Checked;
 
-// Checks a text and bands its outline at its tolerance: the first fault of the text, or what banding answers. The leaves' records stand at the front of the list
-// afterwards, and what stood behind them stays; a refusal alters nothing there. Every text and every list may be asked about.
-pub fn band_text(text: &[u8], numbers: &mut [i32; 577], records: &mut [i32]) -> Banded
-    ensures { λ r. ⌜ (r ≡ bandOf (meaning (now (text .entry))) (length (now (records .entry)))) × (now (records .exit) ≡ recordsOf (meaning (now (text .entry))) (now (records .entry))) ⌝ }
+mod points;
+
+// Answers a text: the lines of its band and of its points, or of its first refusal, stand at the front of the list afterwards, as many bytes as are returned. Every
+// text may be asked about. Records are lent as document 01 says, 16,380 numbers.
+pub fn answer(text: &[u8], out: &mut [u8; 243100]) -> usize
+    ensures { λ r. ⌜ Within (now (out .entry)) 0 243100 (answerOf (now (text .entry))) (now (out .exit)) r ⌝ }
 {
-    band_text_in(text, numbers, records)
+    let mut numbers = [0i32; 577];
+    let mut records = [0i32; 16380];
+    answer_in(text, &mut numbers, &mut records, out)
 }
 
-// The lines of a band: the leaves and the report, or the refusal.
-pub fn put_band(band: Banded, records: &[i32], out: &mut [u8], at: usize) -> usize
-    requires { ⌜ roomFor band (length (now records)) (length (now out)) at ⌝ }
-    ensures { λ r. ⌜ Within (now (out .entry)) at (231 * 910 + 70) (bandLines band (now (records .entry))) (now (out .exit)) r ⌝ }
+// The same with the lists lent.
+fn answer_in(text: &[u8], numbers: &mut [i32], records: &mut [i32], out: &mut [u8]) -> usize
+    requires { ⌜ (577 ≤ length (now numbers)) × (now records ≡ replicate lent (pos 0)) × (243100 ≤ length (now out)) ⌝ }
+    ensures { λ r. ⌜ Within (now (out .entry)) 0 243100 (answerOf (now (text .entry))) (now (out .exit)) r ⌝ }
 {
+    let band = band_text(text, numbers, records);
     match band {
-        Banded::Refused(refusal) => render::put_refused(out, at, refusal),
+        Banded::Refused(refusal) => render::put_refused(out, 0, refusal),
         Banded::Done {
             curves,
             leaves,
             nodes,
         } => {
-            let i = render::put_leaves(records, leaves, out, at);
-            render::put_done(out, i, curves, leaves, nodes)
+            let at = put_band(curves, leaves, nodes, records, out);
+            put_points(text, &records[..18 * leaves], out, at)
         }
     }
 }
 
-// The same with room for the outline's numbers in a list.
-fn band_text_in(text: &[u8], numbers: &mut [i32], records: &mut [i32]) -> Banded
+// Checks a text and bands its outline at its tolerance: the first fault of the text, or what banding answers. The leaves' records stand at the front of the list
+// afterwards, and what stood behind them stays; a refusal alters nothing there.
+fn band_text(text: &[u8], numbers: &mut [i32], records: &mut [i32]) -> Banded
     requires { ⌜ 577 ≤ length (now numbers) ⌝ }
     ensures { λ r. ⌜ (r ≡ bandOf (meaning (now (text .entry))) (length (now (records .entry)))) × (now (records .exit) ≡ recordsOf (meaning (now (text .entry))) (now (records .entry))) ⌝ }
 {
@@ -47,4 +55,13 @@ fn band_text_in(text: &[u8], numbers: &mut [i32], records: &mut [i32]) -> Banded
             band::band(&numbers[..n], tolerance, records)
         }
     }
+}
+
+// The lines of a band that is done: its leaves and the report, from the front on.
+fn put_band(curves: usize, leaves: usize, nodes: usize, records: &[i32], out: &mut [u8]) -> usize
+    requires { ⌜ RoomFor leaves (length (now records)) (length (now out)) ⌝ }
+    ensures { λ r. ⌜ Within (now (out .entry)) 0 (231 * leaves + 70) (bandLines curves leaves nodes (now (records .entry))) (now (out .exit)) r ⌝ }
+{
+    let i = render::put_leaves(records, leaves, out, 0);
+    render::put_done(out, i, curves, leaves, nodes)
 }

@@ -33,3 +33,7 @@ appended-front d xs o j a h =
 -- a part changes no length
 pub appended-length : {A : Type 0} (d : List A) (i : ℕ) (xs o : List A) (j : ℕ) → Appended d i xs o j → length o ≡ length d
 appended-length d i xs o j a = ap length (a .list) ∙ length-sets d i xs
+
+-- what was put within the list's length stands inside of it
+pub within-fits : {A : Type 0} (d xs o : List A) (n j : ℕ) → Within d 0 n xs o j → length d ≡ n → j ≤ length o
+within-fits d xs o n j a e = omega (arith, a .small, appended-length d 0 xs o j (a .put))

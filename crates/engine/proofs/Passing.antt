@@ -27,7 +27,7 @@ use Rattle.band.proofs.Sound.{each-side}
 use Rattle.judge.specs.Judging.{lengthFine, numberFine, numberFault, pointFault, judgingFault}
 
 -- ---- 9
-length-fine : (n : ℕ) → 0 < n → n % recordLength ≡ 0 → lengthFine n ≡ true
+pub length-fine : (n : ℕ) → 0 < n → n % recordLength ≡ 0 → lengthFine n ≡ true
 length-fine zero h e = absurd (omega arith)
 length-fine (suc m) h e = rw (eqb·suc-zero m, e)
 
@@ -45,7 +45,7 @@ module _ {most : ℕ} {number : ℕ → ℤ} (s : SoundRecord most number) where
   each-fine (suc zero) h = rw (yes-le (s .node-from), yes-le (s .node-to))
   each-fine (suc (suc p)) h = box-number p (p % 2) refl h
 
-no-bad-number : {most n : ℕ} {rs : List ℤ} → SoundList most n rs → numberFault most rs ≡ none
+pub no-bad-number : {most n : ℕ} {rs : List ℤ} → SoundList most n rs → numberFault most rs ≡ none
 unfolding numberFault
 no-bad-number {most} {n} {rs} l = bad-none (λ i. numberFine most (i % recordLength) (entry rs i) (entry rs (suc i))) (length rs) 0 (λ i h.
     let k = i / recordLength in

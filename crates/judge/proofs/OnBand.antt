@@ -1,18 +1,21 @@
 -- A point is on the band as a function says exactly where judging may answer on, and off where it may answer off.
 use mathlib.Core.Path.{_≡_, refl, sym, _∙_, ap, subst}
-use mathlib.Core.Bool.{Bool, true, false, not}
+use mathlib.Core.Bool.{Bool, true, false, not, _&&_}
 use mathlib.Core.List.{List}
 use mathlib.Core.Option.{Option, none, some}
 use Prim.Native.Nat.{ℕ, suc, _+_, _*_, _/_, _%_, _≤_, _<_}
 use native.Mathlib.Omega.{arith}
+use lib.Dec.{T, eqb, eqb→eq}
 use lib.ListN.{length}
 use lib.IntN.{ℤ}
 use Rattle.integers.specs.First.{firstBad}
 use Rattle.integers.proofs.Clash.{clash}
 use Rattle.integers.proofs.First.{none-bad, bad-is, bad-below}
 use Rattle.boxes.specs.Records.{covers, recordLength, boxIndex, boxAtIndex}
-use Rattle.judge.specs.declared.Judgement.the-variants.{On, Off}
-use Rattle.judge.specs.Judging.{Verdict}
+use Rattle.refusals.specs.declared.Refusal.{Refusal}
+use Rattle.refusals.specs.declared.Refusal.the-variants.{LeafListLength, LeafListNumber}
+use Rattle.judge.specs.declared.Judgement.the-variants.{On, Off, Refused}
+use Rattle.judge.specs.Judging.{lengthFine, numberFault, pointFault, judgingFault, Verdict, Judged}
 use Rattle.judge.specs.Searching.{heldAt}
 use Rattle.judge.specs.OnBand.{firstHolder, onBand}
 use Rattle.judge.proofs.Deciding.{held-exactly}
@@ -59,3 +62,44 @@ module _ (ns : List ℤ) (x y : ℤ) (whole : length ns % recordLength ≡ 0) wh
           let h = not-missed _ (bad-is missed (covers * (length ns / recordLength)) 0 j e) in
           let b = bad-below missed (covers * (length ns / recordLength)) 0 j e in
           absurd (v (j / covers) (j % covers) (omega arith) (omega arith) (held-exactly (boxAtIndex ns (boxIndex (j / covers) (j % covers))) (boxAtIndex ns (boxIndex (j / covers) (suc (j % covers)))) x y .0 h))
+
+-- ---- what an answer of judging says of the checks and of the function
+module _ (most : ℕ) (ns : List ℤ) (x y : ℤ) where
+  none-whole : judgingFault most ns x y ≡ none → length ns % recordLength ≡ 0
+  unfolding judgingFault
+  none-whole e = whole-of (length ns) (fine (lengthFine (length ns)) (numberFault most ns) e)
+    where
+      fine : (b : Bool) (o : Option ℕ) → _≡_ {A = Option Refusal} (elim b [
+        | false ↦ some (LeafListLength (length ns))
+        | true ↦ elim o [ some i ↦ some (LeafListNumber i) | none ↦ pointFault x y ]
+      ]) none → b ≡ true
+      fine true o f = refl
+      fine false o f = clash (cc)
+
+      second : (a b : Bool) → (a && b) ≡ true → b ≡ true
+      second true b f = f
+      second false b f = clash (cc)
+
+      whole-of : (n : ℕ) → lengthFine n ≡ true → n % recordLength ≡ 0
+      whole-of n f = eqb→eq (n % recordLength) 0 (subst T (sym (second (not (eqb n 0)) (eqb (n % recordLength) 0) f)) tt)
+
+  pub answered-on : (k i : ℕ) → Judged most ns x y (On k i) → (judgingFault most ns x y ≡ none) × (onBand ns x y ≡ true)
+  answered-on k i j = go (judgingFault most ns x y) refl j
+    where
+      go : (o : Option Refusal) → judgingFault most ns x y ≡ o → Verdict o ns x y (On k i) → (judgingFault most ns x y ≡ none) × (onBand ns x y ≡ true)
+      go none e v = (e, on-found ns x y (none-whole e) k i v)
+      go (some r) e v = clash (cc)
+
+  pub answered-off : Judged most ns x y Off → (judgingFault most ns x y ≡ none) × (onBand ns x y ≡ false)
+  answered-off j = go (judgingFault most ns x y) refl j
+    where
+      go : (o : Option Refusal) → judgingFault most ns x y ≡ o → Verdict o ns x y Off → (judgingFault most ns x y ≡ none) × (onBand ns x y ≡ false)
+      go none e v = (e, off-found ns x y (none-whole e) v)
+      go (some r) e v = clash (cc)
+
+  pub answered-refused : (q : Refusal) → Judged most ns x y (Refused q) → judgingFault most ns x y ≡ some q
+  answered-refused q j = go (judgingFault most ns x y) refl j
+    where
+      go : (o : Option Refusal) → judgingFault most ns x y ≡ o → Verdict o ns x y (Refused q) → judgingFault most ns x y ≡ some q
+      go none e v = absurd v
+      go (some r) e v = let f : q ≡ r = cc in e ∙ ap some (sym f)

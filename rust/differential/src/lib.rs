@@ -10,5 +10,8 @@ pub mod drawing;
 pub mod judging;
 pub mod leaf_lists;
 pub mod outlines;
+pub mod program;
 pub mod random;
+pub mod text;
+pub mod texts;
 pub mod together;

@@ -2,9 +2,9 @@
 //! proved engine, and the two are compared with each other, number by number.
 //!
 //! [`band`] encloses an outline of Bézier curves in boxes, [`judge`] says whether a point lies on
-//! what they cover, and [`draw`] draws the hull of two boxes. The modules follow the document's
-//! sections: the checks of an outline, halving, the enclosure, the walk; the checks of a leaf list and
-//! a point, covers, judging; drawing.
+//! what they cover, and [`draw`] draws the hull of two boxes. [`text::answer`] is the text program. The
+//! modules follow the document's sections: the checks of an outline, halving, the enclosure, the walk;
+//! the checks of a leaf list and a point, covers, judging; drawing; the lines of a text, its answer.
 
 #![forbid(unsafe_code)]
 
@@ -14,11 +14,13 @@ mod curve;
 mod enclosure;
 #[cfg(test)]
 mod examples;
+mod form;
 mod hull;
 mod judge;
 mod leaf_list;
 mod outline;
 mod refusal;
+pub mod text;
 
 pub use band::{band, Report, RECORD};
 pub use hull::draw;

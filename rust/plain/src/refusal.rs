@@ -64,6 +64,21 @@ pub enum Refusal {
         /// How many are lent.
         length: usize,
     },
+    /// 14: a line of a text is not a form.
+    NotAForm {
+        /// The line, from 1.
+        line: usize,
+    },
+    /// 15: a form out of order, or an empty text.
+    OutOfOrder {
+        /// The line, from 1.
+        line: usize,
+    },
+    /// 16: a text is over the longest size.
+    TextTooLong {
+        /// The first size that is over it.
+        size: usize,
+    },
 }
 
 impl Refusal {
@@ -83,6 +98,9 @@ impl Refusal {
             Refusal::PointX | Refusal::PointY => 11,
             Refusal::BoxNumber { .. } => 12,
             Refusal::TooFewVertices { .. } => 13,
+            Refusal::NotAForm { .. } => 14,
+            Refusal::OutOfOrder { .. } => 15,
+            Refusal::TextTooLong { .. } => 16,
         }
     }
 
@@ -100,6 +118,8 @@ impl Refusal {
             Refusal::TooFewRecords { leaves } => leaves,
             Refusal::BoxNumber { place } => place,
             Refusal::TooFewVertices { length } => length,
+            Refusal::NotAForm { line } | Refusal::OutOfOrder { line } => line,
+            Refusal::TextTooLong { size } => size,
         };
         spot as u64
     }

@@ -1,10 +1,10 @@
--- `answer::band_text_in` meets its contract. What was kept of the outline is what banding is lent, and it answers as for the whole.
+-- `answer::band_text` meets its contract. What was kept of the outline is what banding is lent, and it answers as for the whole.
 use borrow.Author.Needs.{needs}
 use Rattle.answer.proofs.Bands.{kept-inside, kept-length, refused-band, refused-records, text-band, text-records}
-use Rattle.answer.proofs.band_text_in.Statement.{statement}
-use Rattle.answer.proofs.band_text_in.Tie as tie
-use Rattle.answer.proofs.band_text_in.Reads as reads
-use Rattle.answer.proofs.band_text_in.Lts as lts
+use Rattle.answer.proofs.band_text.Statement.{statement}
+use Rattle.answer.proofs.band_text.Tie as tie
+use Rattle.answer.proofs.band_text.Reads as reads
+use Rattle.answer.proofs.band_text.Lts as lts
 use Rattle.band.proofs.band.Reads as band-reads
 use Rattle.text.proofs.check_text.Reads as check-text-reads
 use Rattle.text.proofs.keep_outline.Reads as keep-outline-reads
@@ -42,8 +42,8 @@ same-length-2 c = search needs
 returns-2 : tie.Need-returns-2
 returns-2 c = (search text-band, search text-records)
 
-pub band-text-in-spec : {M : Type 1} → statement M
-band-text-in-spec =
+pub band-text-spec : {M : Type 1} → statement M
+band-text-spec =
     tie.close
     (tie.spec
     check-text-requires

@@ -1,0 +1,135 @@
+-- The whole answer: a refusal, or the lines of the band and then of the points.
+use mathlib.Core.Path.{_≡_, refl, sym, _∙_, ap, ap₂, subst}
+use mathlib.Core.Bool.{Bool, true, false, cond}
+use mathlib.Core.List.{List, [], _∷_, _++_}
+use mathlib.Core.Option.{Option, none, some}
+use Prim.Native.Nat.{ℕ, _+_, _*_, _≤_}
+use native.Mathlib.Omega.{arith}
+use lib.Dec.{ltb}
+use borrow.Author.Tests.{ltb-false}
+use lib.ListN.{length, take, replicate, length-replicate}
+use lib.IntN.{ℤ, pos}
+use Rattle.integers.proofs.Clash.{clash}
+use Rattle.refusals.specs.declared.Refusal.{Refusal}
+use Rattle.refusals.specs.declared.Refusal.the-variants.{TextTooLong}
+use Rattle.boxes.specs.Records.{recordLength}
+use Rattle.band.specs.declared.Banded.{Banded}
+use Rattle.band.specs.declared.Banded.the-variants.{Done, Refused}
+use Rattle.band.specs.Banding.{written}
+use Rattle.band.proofs.Theorems.{done-exactly, written-some, written-sound}
+use Rattle.engine.proofs.Outcomes.{done-room}
+use Rattle.engine.proofs.Passing.{length-fine, no-bad-number}
+use Rattle.appends.specs.Appends.{Appended, Within}
+use Rattle.appends.proofs.Appends.{append-both, within}
+use Rattle.forms.specs.declared.Form.{Form}
+use Rattle.forms.specs.declared.Form.the-variants.{Tolerance, Curve, Point, NoForm}
+use Rattle.text.specs.Lines.{linesOf, gather}
+use Rattle.text.specs.Meaning.{Meaning, refused, means, meaning, meaningOf, mostBytes, unless, faultFrom, curveNumbers, pointOf}
+use Rattle.render.specs.Answers.{refusedLine}
+use Rattle.answer.specs.Bands.{bandOf, recordsOf, bandLines}
+use Rattle.answer.specs.Points.{LeavesFine, pointLine, pointLines, lineAnswer}
+use Rattle.answer.specs.Answers.{lent, pointsOf, lines, answerTo, answerOf}
+
+-- ---- where a band is done
+module _ (m : Meaning) (old : List ℤ) (c l n : ℕ) (e : bandOf m (length old) ≡ Done c l n) where
+  pub leaves-stand : recordLength * l ≤ length old
+  leaves-stand = go m e
+    where
+      go : (m : Meaning) → bandOf m (length old) ≡ Done c l n → recordLength * l ≤ length old
+      go (refused r) f = clash (cc)
+      go (means T outline points) f = done-room 64 T outline (length old) f
+
+  -- the leaves written pass checks 9 and 10
+  pub leaves-fine : LeavesFine (take (recordLength * l) (recordsOf m old))
+  leaves-fine = go m e
+    where
+      go : (m : Meaning) → bandOf m (length old) ≡ Done c l n → LeavesFine (take (recordLength * l) (recordsOf m old))
+      go (refused r) f = clash (cc)
+      go (means T outline points) f =
+          let h = done-exactly 64 T outline (length old) c l n .0 f in
+          let sound = written-sound 64 T outline old (h .1) (h .2) in
+          let some = written-some 64 T outline old (h .1) (h .2) in
+          let rs = take (recordLength * l) (written 64 T outline old) in
+          record { whole = length-fine (length rs) (omega (arith, sound .whole)) (omega (arith, sound .whole)); numbers = no-bad-number sound }
+
+-- ---- a text that is not refused is short
+pub text-short : (s : List ℕ) (room c l n : ℕ) → bandOf (meaning s) room ≡ Done c l n → length s ≤ mostBytes
+unfolding meaning
+text-short s room c l n e = go (ltb mostBytes (length s)) refl e
+  where
+    le : ltb mostBytes (length s) ≡ false → length s ≤ mostBytes
+    le f = ltb-false mostBytes (length s) f
+
+    go : (b : Bool) → ltb mostBytes (length s) ≡ b → bandOf (cond b (refused (TextTooLong (mostBytes + 1))) (meaningOf (linesOf s))) room ≡ Done c l n → length s ≤ mostBytes
+    go true f g = clash (cc)
+    go false f g = le f
+
+-- ---- the lines of the points, as the text has them and as its meaning has them
+module _ (leaves : List ℤ) where
+  points-gathered : (ls : List Form) → gather (lineAnswer leaves) ls ≡ pointLines leaves (gather pointOf ls)
+  unfolding gather pointLines
+  points-gathered [] = refl
+  points-gathered (Tolerance t next ∷ ls) = points-gathered ls
+  points-gathered (Curve p next ∷ ls) = points-gathered ls
+  points-gathered (NoForm ∷ ls) = points-gathered ls
+  points-gathered (Point x y next ∷ ls) = ap (λ r. pointLine leaves x y ++ r) (points-gathered ls)
+
+  points-of-lines : (ls : List Form) (room c l n : ℕ) → bandOf (meaningOf ls) room ≡ Done c l n → gather (lineAnswer leaves) ls ≡ pointLines leaves (pointsOf (meaningOf ls))
+  unfolding meaningOf gather
+  points-of-lines [] room c l n e = clash (cc)
+  points-of-lines (NoForm ∷ ls) room c l n e = clash (cc)
+  points-of-lines (Curve p next ∷ ls) room c l n e = clash (cc)
+  points-of-lines (Point x y next ∷ ls) room c l n e = clash (cc)
+  points-of-lines (Tolerance T next ∷ ls) room c l n e = go (faultFrom false 2 ls) e
+    where
+      go : (o : Option Refusal) → bandOf (unless o (means T (gather curveNumbers ls) (gather pointOf ls))) room ≡ Done c l n
+          → gather (lineAnswer leaves) ls ≡ pointLines leaves (pointsOf (unless o (means T (gather curveNumbers ls) (gather pointOf ls))))
+      go none f = points-gathered ls
+      go (some r) f = clash (cc)
+
+  pub points-of-text : (s : List ℕ) (room c l n : ℕ) → bandOf (meaning s) room ≡ Done c l n → gather (lineAnswer leaves) (linesOf s) ≡ pointLines leaves (pointsOf (meaning s))
+  unfolding meaning
+  points-of-text s room c l n e = go (ltb mostBytes (length s)) e
+    where
+      go : (b : Bool) → bandOf (cond b (refused (TextTooLong (mostBytes + 1))) (meaningOf (linesOf s))) room ≡ Done c l n
+          → gather (lineAnswer leaves) (linesOf s) ≡ pointLines leaves (pointsOf (cond b (refused (TextTooLong (mostBytes + 1))) (meaningOf (linesOf s))))
+      go true f = clash (cc)
+      go false f = points-of-lines (linesOf s) room c l n f
+
+-- ---- the whole
+pub zeros-length : (old : List ℤ) → old ≡ replicate lent (pos 0) → length old ≡ lent
+zeros-length old z = ap length z ∙ length-replicate lent (pos 0)
+
+module _ (s : List ℕ) (old : List ℤ) (zeros : old ≡ replicate lent (pos 0)) (b : Banded) (said : b ≡ bandOf (meaning s) (length old)) where
+  band-is : bandOf (meaning s) lent ≡ b
+  band-is = sym (said ∙ ap (bandOf (meaning s)) (zeros-length old zeros))
+
+  pub answer-refused : (r : Refusal) → b ≡ Refused r → (d o : List ℕ) (k : ℕ) → Within d 0 52 (refusedLine r) o k → Within d 0 243100 (answerOf s) o k
+  unfolding answerOf answerTo
+  answer-refused r e d o k a =
+      within (subst (λ l. Appended d 0 l o k) (sym (ap (λ x. lines x (recordsOf (meaning s) (replicate lent (pos 0))) (pointsOf (meaning s))) (band-is ∙ e))) (a .put)) (omega (arith, a .small))
+
+  module _ (c l n : ℕ) (e : b ≡ Done c l n) where
+    done-is : bandOf (meaning s) (length old) ≡ Done c l n
+    done-is = sym said ∙ e
+
+    pub done-leaves : recordLength * l ≤ lent
+    done-leaves = omega (arith, leaves-stand (meaning s) old c l n done-is, zeros-length old zeros)
+
+    pub done-short : length s ≤ mostBytes
+    done-short = text-short s (length old) c l n done-is
+
+    pub done-fine : (new : List ℤ) → new ≡ recordsOf (meaning s) old → LeavesFine (take (recordLength * l) new)
+    done-fine new w = subst (λ ns. LeavesFine (take (recordLength * l) ns)) (sym w) (leaves-fine (meaning s) old c l n done-is)
+
+    pub answer-done : (new : List ℤ) → new ≡ recordsOf (meaning s) old → (d o u : List ℕ) (j k : ℕ) → Within d 0 (231 * l + 70) (bandLines c l n new) o j
+        → Within o j (2 * length s) (gather (lineAnswer (take (recordLength * l) new)) (linesOf s)) u k → Within d 0 243100 (answerOf s) u k
+    unfolding answerOf answerTo
+    answer-done new w d o u j k p q =
+        let rs = take (recordLength * l) new in
+        let f : lines (bandOf (meaning s) lent) (recordsOf (meaning s) (replicate lent (pos 0))) (pointsOf (meaning s)) ≡ bandLines c l n new ++ gather (lineAnswer rs) (linesOf s) =
+        ap₂ (λ x ns. lines x ns (pointsOf (meaning s))) (band-is ∙ e) (sym (w ∙ ap (recordsOf (meaning s)) zeros))
+        ∙ ap (λ r. bandLines c l n new ++ r) (sym (points-of-text rs s (length old) c l n done-is)) in
+        within
+        (subst (λ r. Appended d 0 r u k) (sym f) (append-both d o u (bandLines c l n new) (gather (lineAnswer rs) (linesOf s)) 0 j k (p .put) (q .put)))
+        (omega (arith, p .small, q .small, done-leaves, done-short))

@@ -1,0 +1,75 @@
+-- `answer::points::put_point` meets its contract: one law a return.
+use mir.Facts.{toZ-ofZ}
+use borrow.Author.Needs.{needs}
+use Rattle.answer.proofs.Judging.{line-on, line-off, line-refused}
+use Rattle.answer.proofs.points.put_point.Statement.{statement}
+use Rattle.answer.proofs.points.put_point.Tie as tie
+
+judge-requires : tie.Need-judge-requires
+judge-requires c κs = search needs
+
+enum-told : tie.Need-enum-told
+enum-told c = search needs
+
+put-on-requires : tie.Need-put-on-requires
+put-on-requires c κs = search needs
+
+enum-told-2 : tie.Need-enum-told-2
+enum-told-2 c = search needs
+
+put-off-requires : tie.Need-put-off-requires
+put-off-requires c κs = search needs
+
+enum-known-refusal : tie.Need-enum-known-refusal
+enum-known-refusal c = search needs
+
+put-refused-requires : tie.Need-put-refused-requires
+put-refused-requires c κs = search needs
+
+same-length : tie.Need-same-length
+same-length c = search needs
+
+returns : tie.Need-returns
+returns c =
+    let s = c .before .before .before .before .before .before .before .before in
+    let j = c .before .before .before .before .before .before .judge in
+    let l = line-on (s .args .leaves .now) _ _ (j .result) (j .ensures) _ _ _ _ _ _ (c .before .before .before .before .enum-told .given .1) (c .before .before .put-on .ensures) in
+    rw (toZ-ofZ (s .fits .x), toZ-ofZ (s .fits .y)) at l
+
+same-length-2 : tie.Need-same-length-2
+same-length-2 c = search needs
+
+returns-2 : tie.Need-returns-2
+returns-2 c =
+    let s = c .before .before .before .before .before .before .before .before in
+    let j = c .before .before .before .before .before .before .judge in
+    let l = line-off (s .args .leaves .now) _ _ (j .result) (j .ensures) _ _ _ _ (c .before .before .before .before .enum-told2 .given .1) (c .before .before .put-off .ensures) in
+    rw (toZ-ofZ (s .fits .x), toZ-ofZ (s .fits .y)) at l
+
+same-length-3 : tie.Need-same-length-3
+same-length-3 c = search needs
+
+returns-3 : tie.Need-returns-3
+returns-3 c =
+    let s = c .before .before .before .before .before .before .before .before .before in
+    let j = c .before .before .before .before .before .before .before .judge in
+    let l = line-refused (s .args .leaves .now) _ _ (j .result) (j .ensures) _ _ _ _ _ (c .before .before .before .before .before .refusal .given .1) (c .before .before .put-refused .ensures) in
+    rw (toZ-ofZ (s .fits .x), toZ-ofZ (s .fits .y)) at l
+
+pub put-point-spec : {M : Type 1} → statement M
+put-point-spec =
+    tie.close
+    (tie.spec
+    judge-requires
+    enum-told
+    put-on-requires
+    enum-told-2
+    put-off-requires
+    enum-known-refusal
+    put-refused-requires
+    same-length
+    returns
+    same-length-2
+    returns-2
+    same-length-3
+    returns-3)

@@ -1,0 +1,31 @@
+-- What the program answers to a text (document 01, "Text program"): the first fault of the text, or banding's refusal, or the leaves, the report and then the points in turn. 16,380
+-- numbers are lent; the points are judged against the first 18 × leaves of them.
+use mathlib.Core.List.{List, [], _++_}
+use Prim.Native.Nat.{ℕ, _*_}
+use lib.ListN.{take, replicate}
+use lib.IntN.{ℤ, pos}
+use Rattle.boxes.specs.Records.{recordLength}
+use Rattle.band.specs.declared.Banded.{Banded}
+use Rattle.band.specs.declared.Banded.the-variants.{Done, Refused}
+use Rattle.text.specs.Meaning.{Meaning, refused, means, meaning}
+use Rattle.render.specs.Answers.{refusedLine}
+use Rattle.answer.specs.Bands.{bandOf, recordsOf, bandLines}
+use Rattle.answer.specs.Points.{pointLines}
+
+-- how many numbers are lent for records
+abbrev pub lent : ℕ
+lent = 16380
+
+abbrev pub pointsOf : Meaning → List (ℤ × ℤ)
+pointsOf (refused r) = []
+pointsOf (means T outline points) = points
+
+abbrev pub lines : Banded → List ℤ → List (ℤ × ℤ) → List ℕ
+lines (Refused r) records points = refusedLine r
+lines (Done curves leaves nodes) records points = bandLines curves leaves nodes records ++ pointLines (take (recordLength * leaves) records) points
+
+unfoldable pub answerTo : Meaning → List ℕ
+answerTo m = lines (bandOf m lent) (recordsOf m (replicate lent (pos 0))) (pointsOf m)
+
+unfoldable pub answerOf : List ℕ → List ℕ
+answerOf s = answerTo (meaning s)

@@ -1,0 +1,47 @@
+// The lines of the points of a text, judged in turn.
+ghost use Prim.Native.Nat.{_+_, _*_, _≤_};
+ghost use lib.ListN.{length};
+ghost use Rattle.appends.specs.Appends.{Within};
+ghost use Rattle.text.specs.Lines.{linesOf, gather};
+ghost use Rattle.answer.specs.Points.{LeavesFine, pointLine, lineAnswer};
+use forms::Form;
+use judge::Judgement;
+
+// The line of one point.
+fn put_point(leaves: &[i32], x: i32, y: i32, out: &mut [u8], at: usize) -> usize
+    requires { ⌜ at + 52 ≤ length (now out) ⌝ }
+    ensures { λ r. ⌜ Within (now (out .entry)) at 52 (pointLine (now (leaves .entry)) x y) (now (out .exit)) r ⌝ }
+{
+    match judge::judge(leaves, x, y) {
+        Judgement::On { leaf: _, cover: _ } => render::put_on(out, at),
+        Judgement::Off => render::put_off(out, at),
+        Judgement::Refused(refusal) => render::put_refused(out, at, refusal),
+    }
+}
+
+// The lines of all points, from place `from` on.
+pub fn put_points(text: &[u8], leaves: &[i32], out: &mut [u8], from: usize) -> usize
+    requires { ⌜ (from + 2 * length (now text) + 52 ≤ length (now out)) × (LeavesFine (now leaves)) ⌝ }
+    ensures { λ r. ⌜ Within (now (out .entry)) from (2 * length (now (text .entry))) (gather (lineAnswer (now (leaves .entry))) (linesOf (now (text .entry)))) (now (out .exit)) r ⌝ }
+{
+    let mut at = from;
+    let mut i: usize = 0;
+    while i < text.len() {
+        match line_reader::line_from(text, i) {
+            Form::NoForm => {
+                return at;
+            }
+            Form::Tolerance(_, next) => {
+                i = next;
+            }
+            Form::Curve(_, next) => {
+                i = next;
+            }
+            Form::Point(x, y, next) => {
+                at = put_point(leaves, x, y, out, at);
+                i = next;
+            }
+        }
+    }
+    at
+}
