@@ -1,4 +1,42 @@
-/* The C interface of the contour band engine: banding an outline, judging points, drawing the hull of two boxes. */
+/* The C interface of the contour band engine: banding an outline, judging points, drawing the hull of two boxes.
+ *
+ * The library is made at the root of the repository, and a program is linked with it, by
+ *
+ *     rt staticlib engine
+ *     cc -std=c99 -Iinclude program.c target/staticlib/libengine.a -o program
+ *
+ * The library calls no other, the C library included. The program below is curve A of document 01. It prints "leaves 1, on,
+ * vertices 4"; a test compiles and runs it. examples/inspect.c is one to start from: it reads an outline and points from files.
+ *
+ *     #include "contour_band.h"
+ *     #include <stdio.h>
+ *
+ *     int main(void) {
+ *         const int32_t outline[] = {3, 0, 0, 10, 30, 20, 30, 30, 0};
+ *         int32_t records[256 * CONTOUR_BAND_RECORD];
+ *         struct contour_band_answer band = contour_band(outline, 9, 44, records, 256 * CONTOUR_BAND_RECORD);
+ *         if (band.refusal != CONTOUR_BAND_ACCEPTED) {
+ *             return 1;
+ *         }
+ *         // Only the records written are judged against.
+ *         struct contour_band_judgement point = contour_judge(records, CONTOUR_BAND_RECORD * band.leaves, 240, 363);
+ *         // The first cover of the first leaf: its boxes 0 and 1.
+ *         const struct contour_band_box first = {records[2], records[3], records[4], records[5]};
+ *         const struct contour_band_box second = {records[6], records[7], records[8], records[9]};
+ *         int32_t vertices[CONTOUR_BAND_VERTEX_ROOM];
+ *         struct contour_band_drawing cover = contour_draw(first, second, vertices, CONTOUR_BAND_VERTEX_ROOM);
+ *         printf("leaves %d, %s, vertices %d\n", (int)band.leaves, point.on ? "on" : "off", (int)cover.vertices);
+ *         return 0;
+ *     }
+ *
+ * Ownership: every list is the caller's, before and after. A call reads and writes the lists it is lent and no other memory,
+ * allocates nothing, and keeps no pointer and no state once it has returned. Every call returns.
+ *
+ * Pointers: each must be aligned for int32_t and must not be NULL, also where a length is 0. Lists that one call is lent must
+ * not overlap. Lengths count numbers, not bytes, and every length and all contents are taken.
+ *
+ * Threads: any number of calls may run at once as long as no list that one of them writes to (the records, the vertices) is
+ * lent to another. Lists that are only read (the outline, the leaves) may be shared. */
 #ifndef CONTOUR_BAND_H
 #define CONTOUR_BAND_H
 
@@ -22,8 +60,12 @@ extern "C" {
 /* The largest number of a box and of a point, in sixteenths of a stage unit; its negative is the least. */
 #define CONTOUR_BAND_FARTHEST 536870912
 
-/* The refusals, in the order in which they are tried: 1 to 8 by banding, 9 to 11 by judging, 12 and 13 by drawing. 5, 2, 3
- * and 4 are tried curve by curve. The spot stands beside each. */
+/* How many numbers drawing asks for: x and y of eight vertices. */
+#define CONTOUR_BAND_VERTEX_ROOM 16
+
+/* The refusals, each with its condition and its spot. They stand in the order in which an operation tries them: banding 1 to
+ * 8 (5, 2, 3 and 4 curve by curve), judging 9 to 11, drawing 12 and 13. A refusal leaves every lent list as it was; only
+ * contour_band_and_judge has a refusal, 11, that comes after records are written. */
 enum contour_band_refusal {
     CONTOUR_BAND_ACCEPTED = 0,         /* nothing is refused; 0 */
     CONTOUR_BAND_TOLERANCE = 1,        /* the tolerance is outside its range; 0 */
@@ -37,7 +79,7 @@ enum contour_band_refusal {
     CONTOUR_BAND_LEAVES_LENGTH = 9,    /* leaves_length is 0 or no multiple of 18; leaves_length */
     CONTOUR_BAND_LEAVES_NUMBER = 10,   /* a number of the leaves is bad, see contour_judge; the index of the first such */
     CONTOUR_BAND_POINT = 11,           /* a coordinate of the point is beyond the farthest; 0 for x, else 1 */
-    CONTOUR_BAND_BOX_NUMBER = 12,      /* a number of two boxes is bad, see contour_draw; its place, 0 to 7 */
+    CONTOUR_BAND_BOX_NUMBER = 12,      /* a number of the boxes is bad, see contour_draw; the first such's place, 0 to 7 */
     CONTOUR_BAND_TOO_FEW_VERTICES = 13 /* vertices_length is less than 16; vertices_length */
 };
 
@@ -61,10 +103,7 @@ struct contour_band_answer {
  *
  * Accepted: the first 18 * leaves numbers of the records are written, and the numbers past them stay as they were.
  * Refused: every number of the records stays as it was. With a records_length of 0 the answer is refusal 8 for any outline
- * that is otherwise accepted, so its spot says how many leaves to lend room for.
- *
- * Any contents and any lengths are taken. Both pointers must be aligned for int32_t and must not be NULL, also where a
- * length is 0. The outline and the records must not overlap. The call allocates nothing, keeps nothing and always returns. */
+ * that is otherwise accepted, so its spot says how many leaves to lend room for. */
 struct contour_band_answer contour_band(const int32_t *outline, size_t outline_length, int32_t tolerance, int32_t *records,
                                         size_t records_length);
 
@@ -77,7 +116,7 @@ struct contour_band_judgement {
     uint64_t cover;   /* the cover of that record that holds it, 0 to 2; 0 unless it is on */
 };
 
-/* Judges a point against a list of leaf records.
+/* Judges a point against a list of leaf records, which it only reads.
  *
  * leaves: records as contour_band writes them, one or more, in any order. To judge against a band give exactly the records
  *     written, without the rest of the list. A number is bad where a curve is not 0 to 63, a node not 1 to 511, a box number
@@ -86,10 +125,7 @@ struct contour_band_judgement {
  *
  * A record has covers 0, 1 and 2. Cover i is every point that lies, for some fraction s from 0 to 1, in the box
  * (1 - s) * box i + s * box i + 1. The point is on where some cover of some record holds it, edges included. One such record
- * and cover are named; where there are several, which one is left open.
- *
- * Any contents and any length are taken. The pointer must be aligned for int32_t and must not be NULL, also where the length
- * is 0. The call alters nothing, allocates nothing, keeps nothing and always returns. */
+ * and cover are named; where there are several, which one is left open. Every call checks the whole list. */
 struct contour_band_judgement contour_judge(const int32_t *leaves, size_t leaves_length, int32_t x, int32_t y);
 
 /* What banding and judging answer together. */
@@ -106,13 +142,10 @@ struct contour_band_outcome {
 
 /* Puts a band round an outline, then judges a point against the records written and nothing else of the list.
  *
- * The parameters are those of contour_band and of contour_judge, and so is what they ask of the pointers. A refusal of
- * banding leaves the report 0 and the records as they were. A refusal of the point, 11, comes after banding: the report and
- * the records are those of contour_band. */
+ * The parameters are those of contour_band and of contour_judge. A refusal of banding leaves the report 0 and the records as
+ * they were. A refusal of the point, 11, comes after banding: the report and the records are those of contour_band. */
 struct contour_band_outcome contour_band_and_judge(const int32_t *outline, size_t outline_length, int32_t tolerance,
                                                    int32_t *records, size_t records_length, int32_t x, int32_t y);
-/* How many numbers drawing asks for: x and y of eight vertices. */
-#define CONTOUR_BAND_VERTEX_ROOM 16
 
 /* A box: what lies from the lows to the highs, edges included, in sixteenths of a stage unit. */
 struct contour_band_box {
@@ -129,17 +162,15 @@ struct contour_band_drawing {
     uint64_t vertices; /* how many vertices there are, 1 to 8; 0 where the boxes are refused */
 };
 
-/* Draws the convex hull of two boxes.
+/* Draws the convex hull of two boxes, which is a cover where they are neighbours of a leaf.
  *
- * first, second: boxes whose numbers are from -CONTOUR_BAND_FARTHEST to CONTOUR_BAND_FARTHEST, no low above its high. The
- *     places of their numbers are 0 to 3 and 4 to 7, in the order of the struct; a low above its high is named by the low.
+ * first, second: boxes. A number is bad where it is beyond the farthest, or is a low above its high; the last is named by the
+ *     low. Places 0 to 3 are the numbers of first and 4 to 7 those of second, in the order of the struct.
  * vertices: where x and y of each vertex are written, counter-clockwise from the lowest, then leftmost. No three are in line.
+ *     CONTOUR_BAND_VERTEX_ROOM numbers must be lent, however few vertices there are.
  *
  * Accepted: the first 2 * vertices numbers of the list are written, and the numbers past them stay as they were.
- * Refused: every number of the list stays as it was.
- *
- * Any boxes, contents and length are taken. The pointer must be aligned for int32_t and must not be NULL, also where the
- * length is 0. The call allocates nothing, keeps nothing and always returns. */
+ * Refused: every number of the list stays as it was. */
 struct contour_band_drawing contour_draw(struct contour_band_box first, struct contour_band_box second, int32_t *vertices,
                                          size_t vertices_length);
 

@@ -1,7 +1,7 @@
 //! Banding: the inputs and the table.
 
-use crate::outlines::{cubics, nominal};
-use crate::times::{by_turns, HEADING};
+use crate::times::{by_turns, heading};
+use bench::outlines::{cubics, nominal};
 use std::hint::black_box;
 
 /// Prints the table of proved time over plain time.
@@ -11,7 +11,7 @@ pub fn run() {
     println!(
         "Banding. Times are medians in microseconds, with the least in brackets; both engines take turns."
     );
-    println!("{:<28} {:>6} {:>7} {:>7} {}  buffers", "input", "curves", "leaves", "nodes", HEADING);
+    println!("{:<28} {:>6} {:>7} {:>7} {}  buffers", "input", "curves", "leaves", "nodes", heading("plain"));
     for tolerance in [2, 16, 256, 65_536] {
         row(&format!("64 cubic curves, T {tolerance}"), &cubics, tolerance);
     }

@@ -1,17 +1,31 @@
-//! Times the proved engine against the plain one, on the same inputs in one run.
+//! Times the proved engine against the plain one, and against the method that it replaces, on the same
+//! inputs in one run.
 
 #![forbid(unsafe_code)]
 
 mod banding;
 mod drawing;
+mod growth;
 mod judging;
-mod outlines;
+mod samples;
 mod times;
 
+/// The tables, in order.
+const TABLES: [(&str, fn()); 5] = [
+    ("banding", banding::run),
+    ("judging", judging::run),
+    ("drawing", drawing::run),
+    ("growth", growth::run),
+    ("samples", samples::run),
+];
+
+/// Prints the tables that are named, or all.
 fn main() {
-    banding::run();
-    println!();
-    judging::run();
-    println!();
-    drawing::run();
+    let named: Vec<String> = std::env::args().skip(1).collect();
+    for (name, table) in TABLES {
+        if named.is_empty() || named.iter().any(|n| n == name) {
+            table();
+            println!();
+        }
+    }
 }

@@ -20,6 +20,13 @@ pub fn cubics() -> Vec<i32> {
     outline
 }
 
+/// 64 quadratic arches whose leaves at T 44 are all at one depth, 0 to 8. A halving makes the second
+/// difference of a quadratic a quarter of what it was, everywhere alike.
+pub fn arches(depth: u32) -> Vec<i32> {
+    let height = 15 * 4_i32.pow(depth);
+    (0..64).flat_map(|i| [2, 1_000 * i, 0, 1_000 * i + 500, height, 1_000 * i + 1_000, 0]).collect()
+}
+
 /// A punch of 20 curves in stage units: straight sides, round corners, and a notch with a curved
 /// floor. Each curve begins where the one before ends.
 #[rustfmt::skip]

@@ -10,25 +10,34 @@ const TIME: Duration = Duration::from_millis(400);
 /// How often each engine is timed on each input, at least.
 const RUNS: usize = 15;
 
-/// Stands above the columns that [`Comparison`] prints.
-pub const HEADING: &str = "                plain                proved proved/plain (least)";
+/// Stands above the columns that [`Comparison`] prints, the first of which has this name.
+pub fn heading(first: &str) -> String {
+    format!("{first:>21} {:>21} {:>14} {:>7}", "proved", format!("proved/{first}"), "(least)")
+}
 
-/// The times of both engines on one input.
+/// The times of the proved engine and of the other, on one input.
 #[derive(Default)]
 pub struct Comparison {
-    plain: Times,
+    other: Times,
     proved: Times,
 }
 
+impl Comparison {
+    /// The median of the other and that of the proved engine, in microseconds.
+    pub fn medians(&self) -> [f64; 2] {
+        [self.other.median(), self.proved.median()]
+    }
+}
+
 /// Times both engines by turns, and gives their last answers.
-pub fn by_turns<A, B>(mut plain: impl FnMut() -> A, mut proved: impl FnMut() -> B) -> (Comparison, A, B) {
+pub fn by_turns<A, B>(mut other: impl FnMut() -> A, mut proved: impl FnMut() -> B) -> (Comparison, A, B) {
     let mut times = Comparison::default();
     let started = Instant::now();
     loop {
-        let by_plain = times.plain.time(&mut plain);
+        let by_other = times.other.time(&mut other);
         let by_proved = times.proved.time(&mut proved);
-        if times.plain.0.len() >= RUNS && started.elapsed() >= 2 * TIME {
-            return (times, by_plain, by_proved);
+        if times.other.0.len() >= RUNS && started.elapsed() >= 2 * TIME {
+            return (times, by_other, by_proved);
         }
     }
 }
@@ -62,11 +71,11 @@ impl fmt::Display for Comparison {
         let column = |times: &Times| format!("{:.1} ({:.1})", times.median(), times.least());
         write!(
             f,
-            "{:>21} {:>21} {:>12.2} {:>7.2}",
-            column(&self.plain),
+            "{:>21} {:>21} {:>14.2} {:>7.2}",
+            column(&self.other),
             column(&self.proved),
-            self.proved.median() / self.plain.median(),
-            self.proved.least() / self.plain.least(),
+            self.proved.median() / self.other.median(),
+            self.proved.least() / self.other.least(),
         )
     }
 }

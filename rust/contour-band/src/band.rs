@@ -25,6 +25,24 @@ pub struct Report {
 /// curve and then by parameter; [`leaves`](crate::leaves) reads them. The numbers past them stay
 /// as they were. A list of 18 × 256 numbers for each curve is always long enough.
 ///
+/// ```
+/// use contour_band::{band, leaves, Refusal, RECORD};
+///
+/// let outline = [3, 0, 0, 10, 30, 20, 30, 30, 0];
+/// // An empty list asks how many leaves there are, and then there is a list for just so many.
+/// assert_eq!(band(&outline, 43, &mut []), Err(Refusal::TooFewRecords { leaves: 2 }));
+/// let mut records = [0; 2 * RECORD];
+/// let report = band(&outline, 43, &mut records)?;
+/// assert_eq!((report.curves, report.leaves, report.nodes), (1, 2, 3));
+/// let nodes: Vec<i32> = leaves(&records).map(|leaf| leaf.node).collect();
+/// assert_eq!(nodes, [2, 3]);
+///
+/// let refusal = band(&[4, 0, 0], 43, &mut records).unwrap_err();
+/// assert_eq!(refusal, Refusal::Degree { index: 0 });
+/// assert_eq!((refusal.number(), refusal.spot()), (2, 0));
+/// # Ok::<(), Refusal>(())
+/// ```
+///
 /// # Errors
 ///
 /// A [`Refusal`] where the tolerance or the outline breaks a bound, a stretch is too wide after

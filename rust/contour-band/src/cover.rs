@@ -14,6 +14,23 @@ pub const VERTEX_ROOM: usize = 16;
 /// counter-clockwise from the lowest, then leftmost; no three are in line. Their count, 1 to 8, is
 /// returned. The numbers past them stay as they were.
 ///
+/// ```
+/// use contour_band::{draw, Bounds, BoxBounds, Refusal, VERTEX_ROOM};
+///
+/// let square = |low, high| BoxBounds { x: Bounds { low, high }, y: Bounds { low, high } };
+/// let mut vertices = [0; VERTEX_ROOM];
+/// let count = draw(square(0, 1), square(3, 4), &mut vertices)?;
+/// assert_eq!(vertices[..2 * count], [0, 0, 1, 0, 4, 3, 4, 4, 3, 4, 0, 1]);
+///
+/// // Sixteen numbers are asked for, also for a single vertex.
+/// let refused = draw(square(7, 7), square(7, 7), &mut vertices[..2]);
+/// assert_eq!(refused, Err(Refusal::TooFewVertices { length: 2 }));
+/// // Place 4 is the x low of the second box.
+/// let refused = draw(square(0, 1), square(4, 3), &mut vertices);
+/// assert_eq!(refused, Err(Refusal::BoxNumber { place: 4 }));
+/// # Ok::<(), Refusal>(())
+/// ```
+///
 /// # Errors
 ///
 /// [`Refusal::BoxNumber`] where a number of a box breaks a bound, else

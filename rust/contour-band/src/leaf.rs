@@ -24,6 +24,13 @@ pub struct BoxBounds {
     pub y: Bounds,
 }
 
+impl From<[i32; 4]> for BoxBounds {
+    /// The box of x low, x high, y low and y high, as they stand in a record.
+    fn from([x_low, x_high, y_low, y_high]: [i32; 4]) -> BoxBounds {
+        BoxBounds { x: Bounds { low: x_low, high: x_high }, y: Bounds { low: y_low, high: y_high } }
+    }
+}
+
 /// A leaf: a stretch of a curve and the boxes that enclose it.
 #[derive(Debug, Clone, Copy, PartialEq, Eq, Hash)]
 pub struct Leaf {
@@ -38,13 +45,7 @@ pub struct Leaf {
 impl Leaf {
     /// The leaf that a record holds.
     pub fn from_record(record: &[i32; RECORD]) -> Leaf {
-        let at = |i: usize| {
-            let start = 2 + 4 * i;
-            BoxBounds {
-                x: Bounds { low: record[start], high: record[start + 1] },
-                y: Bounds { low: record[start + 2], high: record[start + 3] },
-            }
-        };
+        let at = |i: usize| [0, 1, 2, 3].map(|n| record[2 + 4 * i + n]).into();
         Leaf { curve: record[0], node: record[1], boxes: std::array::from_fn(at) }
     }
 }

@@ -6,6 +6,17 @@
 //! says of a measured point whether it lies on what the boxes cover, and [`band_and_judge`] does both.
 //! [`draw`] draws the convex hull of two boxes.
 //!
+//! Two lines at the root of the repository build the archive that is linked, and run a program with it:
+//!
+//! ```text
+//! rt staticlib engine
+//! cargo run --release --offline --manifest-path rust/Cargo.toml --example inspect examples/outline.txt examples/points.txt
+//! ```
+//!
+//! The engine takes any numbers and any lengths and always returns. It allocates nothing and keeps nothing:
+//! every list is the caller's, and calls from several threads do not disturb one another. What breaks a
+//! bound is a [`Refusal`], with the number and the spot that document 01 gives.
+//!
 //! ```
 //! use contour_band::{band, judge, leaves, Judgement, Refusal};
 //!

@@ -1,8 +1,7 @@
 //! The measured examples of document 01 that banding, judging and drawing reach, through the public functions.
 
 use contour_band::{
-    band, band_and_judge, draw, judge, leaves, Bounds, BoxBounds, Judgement, Outcome, Refusal, Report,
-    FARTHEST, RECORD,
+    band, band_and_judge, draw, judge, leaves, Judgement, Outcome, Refusal, Report, FARTHEST, RECORD,
 };
 
 const CURVE_A: [i32; 9] = [3, 0, 0, 10, 30, 20, 30, 30, 0];
@@ -107,10 +106,8 @@ fn refusals_of_judging() {
 
 /// The numbers drawn for two boxes, x low, x high, y low, y high each.
 fn drawn(first: [i32; 4], second: [i32; 4]) -> Vec<i32> {
-    let bounds =
-        |b: [i32; 4]| BoxBounds { x: Bounds { low: b[0], high: b[1] }, y: Bounds { low: b[2], high: b[3] } };
     let mut vertices = [-5; 20];
-    let count = draw(bounds(first), bounds(second), &mut vertices).expect("the boxes are accepted");
+    let count = draw(first.into(), second.into(), &mut vertices).expect("the boxes are accepted");
     assert!(vertices[2 * count..].iter().all(|&n| n == -5));
     vertices[..2 * count].to_vec()
 }

@@ -61,7 +61,6 @@ int main(void) {
     judge(records, CONTOUR_BAND_RECORD);
     band_and_judge(outline, records);
 
-
     const struct contour_band_box near = {0, 1, 0, 1}, far = {3, 4, 3, 4};
     const struct contour_band_box beyond = {0, 0, 0, CONTOUR_BAND_FARTHEST + 1};
     draw(near, far, CONTOUR_BAND_VERTEX_ROOM);

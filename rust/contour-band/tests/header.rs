@@ -1,12 +1,10 @@
-//! include/contour_band.h from C: a small program is compiled against it, linked with the archive
-//! and run.
+//! include/contour_band.h from C: programs are compiled against it, linked with the archive and run.
 
-use std::env;
+mod c;
+
+use std::fs;
 use std::path::{Path, PathBuf};
 use std::process::Command;
-
-/// The folder that the build script linked from.
-const LIBRARY: &str = env!("CONTOUR_BAND_LINKED");
 
 const EXPECTED: &str = "\
 0 0 1 1 1
@@ -34,21 +32,28 @@ const EXPECTED: &str = "\
 12 7 0 0 0 0 0 0 0 0 0 0 0 0 0 0 0 0 0
 ";
 
+/// What a C program prints.
+fn printed(source: &Path, name: &str) -> String {
+    let run = Command::new(c::compiled(source, name)).output().expect("the program runs");
+    assert!(run.status.success());
+    String::from_utf8(run.stdout).expect("text is printed")
+}
+
 #[test]
 fn a_c_program_gets_the_same_answers() {
-    let here = Path::new(env!("CARGO_MANIFEST_DIR"));
-    let program = PathBuf::from(env!("CARGO_TARGET_TMPDIR")).join("header");
-    let compiled = Command::new(env::var_os("CC").unwrap_or("cc".into()))
-        .args(["-std=c99", "-Wall", "-Wextra", "-Werror", "-pedantic", "-I"])
-        .arg(here.join("../../include"))
-        .arg(here.join("tests/header.c"))
-        .arg(Path::new(LIBRARY).join("libengine.a"))
-        .arg("-o")
-        .arg(&program)
-        .output()
-        .expect("the C compiler runs");
-    assert!(compiled.status.success(), "{}", String::from_utf8_lossy(&compiled.stderr));
-    let run = Command::new(&program).output().expect("the program runs");
-    assert!(run.status.success());
-    assert_eq!(String::from_utf8_lossy(&run.stdout), EXPECTED);
+    assert_eq!(printed(&c::root().join("rust/contour-band/tests/header.c"), "header"), EXPECTED);
+}
+
+#[test]
+fn the_example_in_the_header_compiles_and_runs() {
+    let header = fs::read_to_string(c::root().join("include/contour_band.h")).expect("the header is there");
+    let program: String = header
+        .lines()
+        .skip_while(|line| !line.ends_with("#include \"contour_band.h\""))
+        .take_while(|line| !line.starts_with(" * Ownership"))
+        .map(|line| line.strip_prefix(" *").unwrap_or(line).to_owned() + "\n")
+        .collect();
+    let source = PathBuf::from(env!("CARGO_TARGET_TMPDIR")).join("header_example.c");
+    fs::write(&source, program).expect("the program is written");
+    assert_eq!(printed(&source, "header_example"), "leaves 1, on, vertices 4\n");
 }

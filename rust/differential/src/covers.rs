@@ -16,9 +16,15 @@ pub struct Fraction {
 /// The fractions that do so are all those between two of them, and these two are 0, 1, or where a
 /// moving side of the box passes the point.
 pub fn witness(first: &[i32], second: &[i32], x: i32, y: i32) -> Option<Fraction> {
+    witness_at(first, second, [x, y].map(i128::from), 1)
+}
+
+/// The same for a point with fractions: its x and y are these numbers over `scale`. Two numbers of a box
+/// and of the point, times the scale, are less than 2^62 apart.
+pub fn witness_at(first: &[i32], second: &[i32], point: [i128; 2], scale: i128) -> Option<Fraction> {
     let [x_low, x_high, y_low, y_high] = [0, 1, 2, 3].map(|i| {
-        let z = if i < 2 { x } else { y };
-        Side { from: i128::from(first[i]) - i128::from(z), to: i128::from(second[i]) - i128::from(z) }
+        let from_point = |number: i32| i128::from(number) * scale - point[i / 2];
+        Side { from: from_point(first[i]), to: from_point(second[i]) }
     });
     let held = |s: &Fraction| x_low.at(s) <= 0 && x_high.at(s) >= 0 && y_low.at(s) <= 0 && y_high.at(s) >= 0;
     let passes = [x_low, x_high, y_low, y_high].into_iter().filter_map(Side::passes);

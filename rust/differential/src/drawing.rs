@@ -1,7 +1,6 @@
 //! Two boxes and a lent list to both engines, and what they answer compared.
 
 use crate::random::Random;
-use contour_band::{Bounds, BoxBounds};
 use std::io::Write;
 
 /// Numbers on each side of a lent list, which no engine may touch.
@@ -46,7 +45,7 @@ impl Comparison {
         let before: Vec<i32> = (0..length + 2 * MARGIN).map(|_| self.random.bits() as i32).collect();
         let (mut by_proved, mut by_plain) = (before.clone(), before.clone());
         let lent = MARGIN..MARGIN + length;
-        let proved = contour_band::draw(bounds(first), bounds(second), &mut by_proved[lent.clone()])
+        let proved = contour_band::draw(first.into(), second.into(), &mut by_proved[lent.clone()])
             .map_err(|refusal| (refusal.number(), refusal.spot()));
         let plain = plain::draw(first, second, &mut by_plain[lent])
             .map_err(|refusal| (refusal.number(), refusal.spot()));
@@ -87,10 +86,6 @@ impl Comparison {
         )
         .expect("standard output takes a line");
     }
-}
-
-fn bounds([x_low, x_high, y_low, y_high]: Numbers) -> BoxBounds {
-    BoxBounds { x: Bounds { low: x_low, high: x_high }, y: Bounds { low: y_low, high: y_high } }
 }
 
 /// A low and a high from −size to size, often equal.

@@ -4,19 +4,19 @@
 pub type Values = [i64; 4];
 
 /// A curve, or a part of one that was halved some times. Every control value is a whole number
-/// over `scale`.
+/// over 2^`shift`.
 #[derive(Debug, Clone, Copy, PartialEq, Eq)]
 pub struct Curve {
     pub degree: usize,
     pub x: Values,
     pub y: Values,
-    pub scale: i64,
+    pub shift: u32,
 }
 
 impl Curve {
     /// A curve from x and y of each control point in turn.
     pub fn new(degree: usize, points: &[i32]) -> Curve {
-        let mut curve = Curve { degree, x: [0; 4], y: [0; 4], scale: 1 };
+        let mut curve = Curve { degree, x: [0; 4], y: [0; 4], shift: 0 };
         for (i, point) in points.chunks_exact(2).enumerate() {
             curve.x[i] = i64::from(point[0]);
             curve.y[i] = i64::from(point[1]);
@@ -28,9 +28,9 @@ impl Curve {
     pub fn halves(&self) -> (Curve, Curve) {
         let (left_x, right_x) = halves(self.x, self.degree);
         let (left_y, right_y) = halves(self.y, self.degree);
-        let (degree, scale) = (self.degree, self.scale << self.degree);
-        let left = Curve { degree, x: left_x, y: left_y, scale };
-        let right = Curve { degree, x: right_x, y: right_y, scale };
+        let (degree, shift) = (self.degree, self.shift + self.degree as u32);
+        let left = Curve { degree, x: left_x, y: left_y, shift };
+        let right = Curve { degree, x: right_x, y: right_y, shift };
         (left, right)
     }
 }
@@ -78,7 +78,7 @@ mod tests {
     fn sample(values: Values, degree: usize) -> Curve {
         let mut x = values;
         x[degree + 1..].fill(0);
-        Curve { degree, x, y: x.map(|c| -c), scale: 1 }
+        Curve { degree, x, y: x.map(|c| -c), shift: 0 }
     }
 
     #[test]
@@ -87,7 +87,7 @@ mod tests {
         for degree in 1..=3 {
             for curve in SAMPLES.map(|s| sample(s, degree)) {
                 let (left, right) = curve.halves();
-                assert_eq!((left.scale, right.scale), (1 << degree, 1 << degree));
+                assert_eq!((left.shift, right.shift), (degree as u32, degree as u32));
                 for p in 0..=q {
                     let whole = |p| value(curve.x, degree, p, 2 * q);
                     let mirrored = |p| value(curve.y, degree, p, 2 * q);
@@ -123,7 +123,7 @@ mod tests {
                 for curve in nodes {
                     let (left, right) = curve.halves();
                     for half in [left, right] {
-                        // Over the half's scale this is a quarter of the whole's.
+                        // Over the half's power of two this is a quarter of the whole's.
                         let quarter = largest(curve.x, degree) << (degree - 2);
                         assert!(largest(half.x, degree) <= quarter);
                         next.push(half);

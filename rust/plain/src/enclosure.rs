@@ -50,10 +50,11 @@ pub struct BoxBounds {
 impl Curve {
     /// The four boxes, or nothing where one of them is wider than the tolerance.
     pub fn boxes_within(&self, tolerance: i64) -> Option<[BoxBounds; BREAK_POINTS]> {
+        let x = Enclosure::new(&self.x, self.degree, self.shift);
+        let y = Enclosure::new(&self.y, self.degree, self.shift);
         let mut boxes = [BoxBounds::default(); BREAK_POINTS];
         for (i, at) in boxes.iter_mut().enumerate() {
-            at.x = bounds(&self.x, self.degree, self.scale, i);
-            at.y = bounds(&self.y, self.degree, self.scale, i);
+            *at = BoxBounds { x: x.bounds(i), y: y.bounds(i) };
             if !at.x.meets(tolerance) || !at.y.meets(tolerance) {
                 return None;
             }
@@ -62,34 +63,70 @@ impl Curve {
     }
 }
 
-/// The bounds at break point `i` of control values over `scale`. The document's sum of thirds and
-/// ten-thousandths, times 16, is one fraction over 1875 × scale.
-fn bounds(values: &Values, degree: usize, scale: i64, i: usize) -> Bounds {
-    let along = i as i64;
-    let chord = 10_000 * ((3 - along) * values[0] + along * values[degree]);
-    let (mut low, mut high) = (chord, chord);
-    for (rows, c) in rows(degree).iter().zip(values.windows(3)) {
-        let difference = c[0] - 2 * c[1] + c[2];
-        let (under, over) =
-            if difference > 0 { (rows.low[i], rows.high[i]) } else { (rows.high[i], rows.low[i]) };
-        low += 3 * under * difference;
-        high += 3 * over * difference;
-    }
-    let divisor = 1875 * scale;
-    Bounds { low: floor(low, divisor), high: -floor(-high, divisor) }
+/// What the bounds of one coordinate are made of: control values over 2^`shift`.
+struct Enclosure {
+    first: i64,
+    last: i64,
+    differences: [Difference; 2],
+    shift: u32,
 }
 
-/// The quotient rounded down, for a positive divisor.
-fn floor(number: i64, divisor: i64) -> i64 {
-    number.div_euclid(divisor)
+/// A second difference, with the rows that its sign chooses for the low and for the high.
+#[derive(Clone, Copy)]
+struct Difference {
+    value: i64,
+    low: &'static [i64; BREAK_POINTS],
+    high: &'static [i64; BREAK_POINTS],
+}
+
+impl Difference {
+    /// One that a degree does not have.
+    const NONE: Difference = Difference { value: 0, low: &[0; BREAK_POINTS], high: &[0; BREAK_POINTS] };
+
+    fn new(value: i64, rows: &'static Rows) -> Difference {
+        if value > 0 {
+            Difference { value, low: &rows.low, high: &rows.high }
+        } else {
+            Difference { value, low: &rows.high, high: &rows.low }
+        }
+    }
+}
+
+impl Enclosure {
+    fn new(values: &Values, degree: usize, shift: u32) -> Enclosure {
+        let mut differences = [Difference::NONE; 2];
+        for ((place, rows), c) in differences.iter_mut().zip(rows(degree)).zip(values.windows(3)) {
+            *place = Difference::new(c[0] - 2 * c[1] + c[2], rows);
+        }
+        Enclosure { first: values[0], last: values[degree], differences, shift }
+    }
+
+    /// The bounds at break point `i`. The document's sum of thirds and ten-thousandths, times 16, is one
+    /// fraction over 1875 × 2^shift.
+    fn bounds(&self, i: usize) -> Bounds {
+        let along = i as i64;
+        let chord = 10_000 * ((3 - along) * self.first + along * self.last);
+        let (mut low, mut high) = (chord, chord);
+        for difference in &self.differences {
+            low += 3 * difference.low[i] * difference.value;
+            high += 3 * difference.high[i] * difference.value;
+        }
+        Bounds { low: floor(low, self.shift), high: -floor(-high, self.shift) }
+    }
+}
+
+/// A number over 1875 × 2^shift, rounded down: first by the power of two, then by a divisor that the
+/// compiler knows.
+fn floor(number: i64, shift: u32) -> i64 {
+    (number >> shift).div_euclid(1875)
 }
 
 #[cfg(test)]
 mod tests {
     use super::*;
 
-    /// The document's formula, kept over 3 × 10000 × scale in wide numbers.
-    fn formula(values: &Values, degree: usize, scale: i64, i: usize) -> Bounds {
+    /// The document's formula, kept over 3 × 10000 × 2^shift in wide numbers.
+    fn formula(values: &Values, degree: usize, shift: u32, i: usize) -> Bounds {
         let c: Vec<i128> = values[..=degree].iter().map(|&v| i128::from(v)).collect();
         let i_wide = i as i128;
         let chord = ((3 - i_wide) * c[0] + i_wide * c[degree]) * 10_000;
@@ -103,7 +140,7 @@ mod tests {
                 })
                 .sum()
         };
-        let over = 30_000 * i128::from(scale);
+        let over = 30_000_i128 << shift;
         let low = (16 * (chord + sum(false))).div_euclid(over);
         let high = -(-16 * (chord + sum(true))).div_euclid(over);
         Bounds { low: low as i64, high: high as i64 }
@@ -143,11 +180,11 @@ mod tests {
             for choice in 0..SOME.len().pow(4) {
                 let mut values = [0, 1, 2, 3].map(|place| SOME[choice / SOME.len().pow(place) % SOME.len()]);
                 values[degree + 1..].fill(0);
-                let mut node = Curve { degree, x: values, y: values, scale: 1 };
+                let mut node = Curve { degree, x: values, y: values, shift: 0 };
                 for _ in 0..=8 {
                     for i in 0..BREAK_POINTS {
-                        let got = bounds(&node.x, degree, node.scale, i);
-                        assert_eq!(got, formula(&node.x, degree, node.scale, i));
+                        let got = Enclosure::new(&node.x, degree, node.shift).bounds(i);
+                        assert_eq!(got, formula(&node.x, degree, node.shift, i));
                         assert!(got.low <= got.high);
                     }
                     node = node.halves().1;
@@ -158,9 +195,12 @@ mod tests {
 
     #[test]
     fn a_low_is_rounded_down_below_zero() {
-        assert_eq!(floor(-376, 10), -38);
-        assert_eq!(floor(376, 10), 37);
-        assert_eq!(floor(-380, 10), -38);
+        // -37.6, 37.6 and -38, over 1875 and over 7500.
+        for shift in [0, 2] {
+            assert_eq!(floor(-70_500 << shift, shift), -38);
+            assert_eq!(floor(70_500 << shift, shift), 37);
+            assert_eq!(floor(-71_250 << shift, shift), -38);
+        }
     }
 
     #[test]
@@ -175,8 +215,8 @@ mod tests {
         };
         for i in 0..BREAK_POINTS {
             let (low, high) = tenthousandths(i);
-            let got = bounds(&values, 3, 1, i);
-            let expected = (floor(16 * low, 10_000), -floor(-16 * high, 10_000));
+            let got = Enclosure::new(&values, 3, 0).bounds(i);
+            let expected = ((16_i64 * low).div_euclid(10_000), -(-16_i64 * high).div_euclid(10_000));
             assert_eq!((got.low, got.high), expected);
         }
     }
@@ -184,9 +224,9 @@ mod tests {
     #[test]
     fn a_box_too_wide_in_the_middle_is_noticed() {
         // The boxes at 1 and 2 are wider than those at 0 and 3.
-        let curve = Curve { degree: 3, x: [0; 4], y: [0, 100, -100, 0], scale: 1 };
+        let curve = Curve { degree: 3, x: [0; 4], y: [0, 100, -100, 0], shift: 0 };
         let widths = |i| {
-            let b = bounds(&curve.y, 3, 1, i);
+            let b = Enclosure::new(&curve.y, 3, 0).bounds(i);
             b.high - b.low
         };
         let widest = (0..4).map(widths).max().unwrap();

@@ -1,89 +1,101 @@
 //! Drawing a cover: the convex hull of two boxes, as Andrew's monotone chain on their eight corners.
 
 use crate::refusal::Refusal;
+use std::ops::RangeInclusive;
 
-/// The greatest size of a box number.
-const FARTHEST: i64 = 536_870_912;
+/// Box numbers that are taken, in sixteenths of a stage unit.
+const SIXTEENTHS: RangeInclusive<i32> = -536_870_912..=536_870_912;
 
 /// How many numbers must be lent: x and y of eight vertices.
 const ROOM: usize = 16;
 
-type Point = (i64, i64);
+type Point = (i32, i32);
 
 /// Writes x and y of the vertices of the convex hull of two boxes to the front of `vertices`,
 /// counter-clockwise from the lowest, then leftmost, and returns their count. A box is x low,
 /// x high, y low, y high. Numbers past the vertices stay as they were, and so do all where the
 /// answer is a refusal.
 pub fn draw(first: [i32; 4], second: [i32; 4], vertices: &mut [i32]) -> Result<usize, Refusal> {
-    let numbers = [first, second].concat();
-    if let Some(place) = (0..numbers.len()).find(|&place| is_bad(&numbers, place)) {
+    if let Some(place) = first_bad(first).or_else(|| first_bad(second).map(|place| 4 + place)) {
         return Err(Refusal::BoxNumber { place });
     }
     if vertices.len() < ROOM {
         return Err(Refusal::TooFewVertices { length: vertices.len() });
     }
-    let hull = hull(corners(&numbers));
-    for (pair, &(x, y)) in vertices.chunks_exact_mut(2).zip(&hull) {
-        pair[0] = x as i32;
-        pair[1] = y as i32;
+    let hull = Way::round(corners(first, second));
+    for (pair, &(x, y)) in vertices.chunks_exact_mut(2).zip(hull.points()) {
+        pair.copy_from_slice(&[x, y]);
     }
-    Ok(hull.len())
+    Ok(hull.count)
 }
 
-/// Whether the number at a place is beyond the range, or a low above its high.
-fn is_bad(numbers: &[i32], place: usize) -> bool {
-    let number = i64::from(numbers[place]);
-    let is_low = place % 2 == 0;
-    !(-FARTHEST..=FARTHEST).contains(&number) || is_low && numbers[place] > numbers[place + 1]
+/// The place of a box's first number that is beyond the range, or a low above its high.
+fn first_bad(numbers: [i32; 4]) -> Option<usize> {
+    let is_bad = |&place: &usize| {
+        !SIXTEENTHS.contains(&numbers[place]) || place % 2 == 0 && numbers[place] > numbers[place + 1]
+    };
+    (0..4).find(is_bad)
 }
 
-/// The corners of the boxes.
-fn corners(numbers: &[i32]) -> Vec<Point> {
-    let mut corners = Vec::new();
-    for b in numbers.chunks_exact(4) {
-        for x in [b[0], b[1]] {
-            for y in [b[2], b[3]] {
-                corners.push((i64::from(x), i64::from(y)));
-            }
-        }
-    }
+/// The corners of two boxes, from the lowest, then leftmost.
+fn corners(first: [i32; 4], second: [i32; 4]) -> [Point; 8] {
+    let of = |[x_low, x_high, y_low, y_high]: [i32; 4]| {
+        [(x_low, y_low), (x_high, y_low), (x_low, y_high), (x_high, y_high)]
+    };
+    let ([a, b, c, d], [e, f, g, h]) = (of(first), of(second));
+    let mut corners = [a, b, c, d, e, f, g, h];
+    corners.sort_unstable_by_key(|&(x, y)| (y, x));
     corners
 }
 
-/// The hull of some points: the chain from the lowest, then leftmost to the highest, then rightmost
-/// on the right side, and the chain back on the left side.
-fn hull(mut points: Vec<Point>) -> Vec<Point> {
-    points.sort_unstable_by_key(|&(x, y)| (y, x));
-    points.dedup();
-    if points.len() == 1 {
-        return points;
-    }
-    let mut up = chain(points.iter().copied());
-    let down = chain(points.iter().rev().copied());
-    up.pop();
-    up.extend(&down[..down.len() - 1]);
-    up
+/// A way that only turns left. The hull of eight points returns to the first of them, which is then
+/// there twice.
+struct Way {
+    points: [Point; 9],
+    count: usize,
 }
 
-/// The points of a sorted list at which the way along its right side turns left.
-fn chain(points: impl Iterator<Item = Point>) -> Vec<Point> {
-    let mut chain: Vec<Point> = Vec::new();
-    for point in points {
-        while let [.., before, last] = chain[..] {
-            if turn(before, last, point) > 0 {
-                break;
-            }
-            chain.pop();
+impl Way {
+    /// The hull of points in order: up on the right side, and back down on the left side.
+    fn round(points: [Point; 8]) -> Way {
+        let mut way = Way { points: [points[0]; 9], count: 1 };
+        for &point in &points[1..] {
+            way.go(point, 1);
         }
-        chain.push(point);
+        let top = way.count;
+        for &point in points[..7].iter().rev() {
+            way.go(point, top);
+        }
+        // Without the first point at the end, unless the way never left it.
+        way.count = (way.count - 1).max(1);
+        way
     }
-    chain
+
+    fn points(&self) -> &[Point] {
+        &self.points[..self.count]
+    }
+
+    /// Goes on to a point. Points after the first `kept` at which the way would not turn left are left
+    /// out, and so is a point where it is already.
+    fn go(&mut self, point: Point, kept: usize) {
+        if self.points[self.count - 1] == point {
+            return;
+        }
+        while self.count > kept && turn(self.points[self.count - 2], self.points[self.count - 1], point) <= 0
+        {
+            self.count -= 1;
+        }
+        self.points[self.count] = point;
+        self.count += 1;
+    }
 }
 
 /// Positive where the way from a by b to c turns left. The sizes are at most 2^30, so each product
 /// and the difference fit i64.
 fn turn(a: Point, b: Point, c: Point) -> i64 {
-    (b.0 - a.0) * (c.1 - a.1) - (b.1 - a.1) * (c.0 - a.0)
+    let from_a = |p: Point| (i64::from(p.0) - i64::from(a.0), i64::from(p.1) - i64::from(a.1));
+    let ((to_b_x, to_b_y), (to_c_x, to_c_y)) = (from_a(b), from_a(c));
+    to_b_x * to_c_y - to_b_y * to_c_x
 }
 
 #[cfg(test)]

@@ -24,12 +24,13 @@ pub fn check_leaves(leaves: &[i32]) -> Result<(), Refusal> {
     if length == 0 || length % RECORD != 0 {
         return Err(Refusal::LeafListLength { length });
     }
-    for (leaf, record) in records(leaves).enumerate() {
-        if let Some(bad) = first_bad(record) {
-            return Err(Refusal::LeafListNumber { index: RECORD * leaf + bad });
+    match records(leaves).position(|record| !is_good(record)) {
+        None => Ok(()),
+        Some(leaf) => {
+            let record = &leaves[RECORD * leaf..][..RECORD];
+            Err(Refusal::LeafListNumber { index: RECORD * leaf + first_bad(record) })
         }
     }
-    Ok(())
 }
 
 /// Check 11.
@@ -43,24 +44,24 @@ pub fn check_point(x: i32, y: i32) -> Result<(), Refusal> {
     }
 }
 
-/// The place of a record's first bad number.
-fn first_bad(record: &[i32; RECORD]) -> Option<usize> {
-    if !CURVES.contains(&record[0]) {
-        return Some(0);
-    }
-    if !NODES.contains(&record[1]) {
-        return Some(1);
-    }
-    for (i, bounds) in record[2..].chunks_exact(2).enumerate() {
+/// Whether a record has no bad number. A low that is not above its high needs only its lower limit
+/// looked at, and the high its upper one; nothing here branches.
+fn is_good(record: &[i32; RECORD]) -> bool {
+    let boxes = record[2..].chunks_exact(2).fold(true, |good, bounds| {
         let (low, high) = (bounds[0], bounds[1]);
-        if !SIXTEENTHS.contains(&low) || low > high {
-            return Some(2 + 2 * i);
-        }
-        if !SIXTEENTHS.contains(&high) {
-            return Some(3 + 2 * i);
-        }
-    }
-    None
+        good & (*SIXTEENTHS.start() <= low) & (low <= high) & (high <= *SIXTEENTHS.end())
+    });
+    CURVES.contains(&record[0]) & NODES.contains(&record[1]) & boxes
+}
+
+/// The place of the first bad number of a record that has one.
+fn first_bad(record: &[i32]) -> usize {
+    let is_bad = |&place: &usize| match place {
+        0 => !CURVES.contains(&record[0]),
+        1 => !NODES.contains(&record[1]),
+        _ => !SIXTEENTHS.contains(&record[place]) || place % 2 == 0 && record[place] > record[place + 1],
+    };
+    (0..RECORD).find(is_bad).expect("the record has a bad number")
 }
 
 #[cfg(test)]

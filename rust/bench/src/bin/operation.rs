@@ -1,0 +1,103 @@
+//! Repeats one operation of one engine on one input, so that its instructions can be counted. The script
+//! `instructions` runs it under callgrind.
+//!
+//! `operation ENGINE OPERATION INPUT TIMES`. ENGINE is plain, proved or sampled. OPERATION and INPUT are
+//! band with an outline, a number of curves or a depth where it has one, and a tolerance, as in nominal:16,
+//! cubics-64:16 and arches-3:44, which prints the number of leaves; judge with the place of the points;
+//! draw with the shape of the boxes.
+
+use bench::sampled::{self, Packing};
+use bench::{outlines, pairs, points};
+use contour_band::RECORD;
+use std::hint::black_box;
+use std::process::ExitCode;
+
+fn main() -> ExitCode {
+    let arguments: Vec<String> = std::env::args().skip(1).collect();
+    let arguments: Vec<&str> = arguments.iter().map(String::as_str).collect();
+    let done = match arguments[..] {
+        [engine, operation, input, times] => times.parse().ok().and_then(|times| match operation {
+            "band" => band(engine, input, times),
+            "judge" => judge(engine, input, times),
+            "draw" => draw(engine, input, times),
+            _ => None,
+        }),
+        _ => None,
+    };
+    if done.is_none() {
+        eprintln!("usage: operation plain|proved|sampled band|judge|draw INPUT TIMES");
+        return ExitCode::FAILURE;
+    }
+    ExitCode::SUCCESS
+}
+
+fn band(engine: &str, input: &str, times: usize) -> Option<()> {
+    let (name, tolerance) = input.split_once(':')?;
+    let outline = match name.split_once('-') {
+        Some(("cubics", curves)) => outlines::cubics().get(..9 * curves.parse::<usize>().ok()?)?.to_vec(),
+        Some(("arches", depth)) => outlines::arches(depth.parse().ok()?),
+        None if name == "nominal" => outlines::nominal(),
+        _ => return None,
+    };
+    let tolerance = tolerance.parse().ok()?;
+    let mut records = vec![0; 64 * 256 * RECORD];
+    let report = contour_band::band(&outline, tolerance, &mut records).ok()?;
+    let mut leaves = vec![0; report.curves as usize];
+    for record in records.chunks_exact(RECORD).take(report.leaves as usize) {
+        leaves[record[0] as usize] += 1;
+    }
+    for _ in 0..times {
+        let (outline, records) = (black_box(&outline[..]), black_box(&mut records[..]));
+        match engine {
+            "plain" => plain::band(outline, tolerance, records).map(|_| ()).ok()?,
+            "proved" => contour_band::band(outline, tolerance, records).map(|_| ()).ok()?,
+            "sampled" => sampled::band(outline, &leaves, Packing::TowardsZero, records),
+            _ => return None,
+        }
+    }
+    println!("{}", report.leaves);
+    Some(())
+}
+
+/// Judges one point at a time.
+fn judge(engine: &str, input: &str, times: usize) -> Option<()> {
+    let leaves = points::leaves();
+    let points = match input {
+        "near" => points::near(&leaves),
+        "beside" => points::beside(&leaves),
+        "far" => points::far(),
+        "refused" => points::refused(),
+        _ => return None,
+    };
+    for &(x, y) in points.iter().cycle().take(times) {
+        let leaves = black_box(&leaves[..]);
+        let refused = match engine {
+            "plain" => plain::judge(leaves, x, y).is_err(),
+            "proved" => contour_band::judge(leaves, x, y).is_err(),
+            _ => return None,
+        };
+        assert_eq!(refused, input == "refused");
+    }
+    Some(())
+}
+
+/// Draws one pair of boxes at a time.
+fn draw(engine: &str, input: &str, times: usize) -> Option<()> {
+    let pairs = match input {
+        "neighbours" => pairs::neighbours(),
+        "crossing" => pairs::crossing(),
+        "nested" => pairs::nested(),
+        "single" => pairs::single(),
+        _ => return None,
+    };
+    let mut vertices = [0; 16];
+    for &[first, second] in pairs.iter().cycle().take(times) {
+        let (first, second, vertices) = (black_box(first), black_box(second), black_box(&mut vertices));
+        match engine {
+            "plain" => plain::draw(first, second, vertices).ok()?,
+            "proved" => contour_band::draw(first.into(), second.into(), vertices).ok()?,
+            _ => return None,
+        };
+    }
+    Some(())
+}

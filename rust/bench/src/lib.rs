@@ -1,0 +1,8 @@
+//! What both programs of the benchmark share: the inputs, and the method that the engine replaces.
+
+#![forbid(unsafe_code)]
+
+pub mod outlines;
+pub mod pairs;
+pub mod points;
+pub mod sampled;
