@@ -62,7 +62,7 @@ module _ {B : ℕ} {b : Box} (h : Sides B b) where
 pub ruleset box-sizes = (size-x-low, size-x-high, size-y-low, size-y-high, tests)
 
 -- ---- the test of several boxes
-pub and-false : (a : Bool) → (a && false) ≡ false
+and-false : (a : Bool) → (a && false) ≡ false
 and-false true = refl
 and-false false = refl
 

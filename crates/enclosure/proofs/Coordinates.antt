@@ -171,7 +171,7 @@ held-shift s h = record {
   under = λ t. pow-mono h;
 }
 
--- ---- a quotient by 1875, and what its caller holds of it
+-- ---- what a caller holds of a result, and a quotient by 1875
 pub restored : {B : ℕ} {z r : ℤ} → Holds B z r → T (ltb B (2 ^ 63)) → Holds B z (stored w64 r)
 restored {B} {z} {r} h t = record { is = stored-is h t; size = subst (λ x. natAbs x ≤ B) (h .is ∙ sym (stored-is h t)) (h .size) }
 
@@ -179,16 +179,6 @@ quotient-size : (B : ℕ) (n : ℤ) → natAbs n ≤ B * 1875 → natAbs (floor 
 quotient-size B n h = floor-size B {d = pos 1875} (ltZ-yes tt)
     (le-by (pos B ∷ n ∷ []) (gap (abs-high n h)) (search sides depth 20) refl)
     (le-by (pos B ∷ n ∷ []) (gap (abs-low n h)) (search sides depth 20) refl)
-
-pub floor-holds : (B : ℕ) {n r : ℤ} → r ≡ floor n (pos 1875) → (s : Held n) → T (s .test && leb (s .bound) (B * 1875)) → Holds B (floor (s .value) (pos 1875)) r
-floor-holds B e s t =
-    let u = and-left (s .test) (leb (s .bound) (B * 1875)) t in
-    let f = e ∙ ap (λ z. floor z (pos 1875)) (s .is u) in
-    record {
-      is = f;
-      size = subst (λ x. natAbs x ≤ B) (sym f)
-          (quotient-size B (s .value) (le-trans (s .under u) (leb→le (s .bound) (B * 1875) (and-right (s .test) (leb (s .bound) (B * 1875)) t))));
-    }
 
 -- the ceiling that the code computes: by a shift, then by 1875
 pub ceiling-shifted : (n : ℤ) (k : ℕ) → 0 < k → pos 0 -ℤ floor (shrZ (pos 0 -ℤ n) k) (pos 1875) ≡ ceiling n (pos 1875 *ℤ pos k)
