@@ -21,9 +21,16 @@ inRange z = between (negℤ (pos farthest)) (pos farthest) z
 abbrev pub lowFine : ℤ → ℤ → Bool
 lowFine low high = inRange low && leZ low high
 
+-- a low and a high that are both fine, in three comparisons; for a private function
+abbrev pub sideFine : ℤ → ℤ → Bool
+sideFine low high = leZ (negℤ (pos farthest)) low && leZ low high && leZ high (pos farthest)
+
 -- The number z at place p of a list of boxes, in front of `next`: at an even place stands a low, and next is its high; at an odd place stands a high.
 abbrev pub boxNumberFine : ℕ → ℤ → ℤ → Bool
 boxNumberFine p z next = elim (p % 2) [ zero ↦ lowFine z next | suc _ ↦ inRange z ]
+
+abbrev pub boxOf : ℤ → ℤ → ℤ → ℤ → Box
+boxOf a b c d = record { «x_low» = a; «x_high» = b; «y_low» = c; «y_high» = d }
 
 abbrev pub numbersOf : Box → List ℤ
 numbersOf b = b .«x_low» ∷ b .«x_high» ∷ b .«y_low» ∷ b .«y_high» ∷ []

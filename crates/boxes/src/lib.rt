@@ -1,6 +1,6 @@
 // Boxes in whole sixteenths, as callers hand them over, and the range of their numbers and of a point's.
 ghost use mathlib.Core.Path.{_≡_};
-ghost use Rattle.boxes.specs.Ranges.{inRange, lowFine, boxFault, placeOr};
+ghost use Rattle.boxes.specs.Ranges.{inRange, lowFine, sideFine, boxOf, boxFault, placeOr};
 
 // A box: what lies from the lows to the highs, edges included.
 #[repr(C)]
@@ -31,8 +31,22 @@ fn low_fine(low: i32, high: i32) -> bool
     low <= high
 }
 
+// Whether a low and a high are fine, by three comparisons.
+fn side_fine(low: i32, high: i32) -> bool
+    ensures { λ r. ⌜ r ≡ sideFine low high ⌝ }
+{
+    if low < -536870912 {
+        return false;
+    }
+    if high < low {
+        return false;
+    }
+    high <= 536870912
+}
+
 impl Box {
-    // The place of the first bad number, 0 to 3 in the order of the fields, or 4 where all are fine. A low above its high is named by the low.
+    // The place of the first bad number, 0 to 3 in the order of the fields, or 4 where all are fine. A low above its high is named by the low. The numbers are looked
+    // at one by one only where one is bad.
     pub fn fault(self) -> usize
         ensures { λ r. ⌜ r ≡ placeOr 4 (boxFault self) ⌝ }
     {
@@ -40,18 +54,30 @@ impl Box {
         let x_high = self.x_high;
         let y_low = self.y_low;
         let y_high = self.y_high;
-        if !low_fine(x_low, x_high) {
-            return 0;
+        if side_fine(x_low, x_high) {
+            if side_fine(y_low, y_high) {
+                return 4;
+            }
         }
-        if !in_range(x_high) {
-            return 1;
-        }
-        if !low_fine(y_low, y_high) {
-            return 2;
-        }
-        if !in_range(y_high) {
-            return 3;
-        }
-        4
+        first_bad(x_low, x_high, y_low, y_high)
     }
+}
+
+// The same number by number.
+fn first_bad(x_low: i32, x_high: i32, y_low: i32, y_high: i32) -> usize
+    ensures { λ r. ⌜ r ≡ placeOr 4 (boxFault (boxOf «x_low» «x_high» «y_low» «y_high»)) ⌝ }
+{
+    if !low_fine(x_low, x_high) {
+        return 0;
+    }
+    if !in_range(x_high) {
+        return 1;
+    }
+    if !low_fine(y_low, y_high) {
+        return 2;
+    }
+    if !in_range(y_high) {
+        return 3;
+    }
+    4
 }

@@ -1,91 +1,32 @@
--- `boxes::Box::fault` meets its contract: each return is one of the four tests, behind those before it.
-use mathlib.Core.Path.{_≡_, sym, _∙_}
-use mathlib.Core.Bool.{true}
+-- `boxes::Box::fault` meets its contract: both sides are fine, or the numbers are looked at one by one.
+use mathlib.Core.Path.{sym, _∙_}
 use mir.Facts.{toZ-ofZ}
 use borrow.Author.Needs.{needs}
-use borrow.Author.Tests.{not-true, not-false}
 use Rattle.integers.proofs.Between.{number-fits}
-use Rattle.boxes.specs.Ranges.{inRange, lowFine}
-use Rattle.boxes.proofs.Faults.{at-x-low, at-x-high, at-y-low, at-y-high, all-fine}
+use Rattle.boxes.proofs.Faults.{sides-fine}
 use Rattle.boxes.proofs.Box.fault.Statement.{statement}
 use Rattle.boxes.proofs.Box.fault.Tie as tie
 
-low-fine-requires : tie.Need-low-fine-requires
-low-fine-requires c κs = search needs
+side-fine-requires : tie.Need-side-fine-requires
+side-fine-requires c κs = search needs
+
+side-fine-requires-2 : tie.Need-side-fine-requires-2
+side-fine-requires-2 c κs = search needs
 
 returns : tie.Need-returns
 returns c =
-    let e = sym (c .before .low-fine .ensures) ∙ not-true (c .before .low-fine .result) (c .if1 .taken) in
-    let f = c .before .before .struct-told4 .given in
-    at-x-low _ (rw (toZ-ofZ (number-fits _ (f .0 .1)), toZ-ofZ (number-fits _ (f .1 .0 .1))) at e)
+    let f = c .before .before .before .before .struct-told4 .given in
+    let x = rw (toZ-ofZ (number-fits _ (f .0 .1)), toZ-ofZ (number-fits _ (f .1 .0 .1))) at (sym (c .before .before .before .side-fine .ensures) ∙ c .before .before .if1 .taken) in
+    let y = rw (toZ-ofZ (number-fits _ (f .1 .1 .0 .1)), toZ-ofZ (number-fits _ (f .1 .1 .1 .0 .1))) at (sym (c .before .side-fine2 .ensures) ∙ c .if2 .taken) in
+    sides-fine (c .before .before .before .before .before .before .before .before .args .self) x y
 
-in-range-requires : tie.Need-in-range-requires
-in-range-requires c κs = search needs
-
-x-low-fine : (c : tie.Else1) → lowFine (c .before .before .before .before .before .before .args .self .«x_low») (c .before .before .before .before .before .before .args .self .«x_high») ≡ true
-x-low-fine c =
-    let e = sym (c .before .low-fine .ensures) ∙ not-false (c .before .low-fine .result) (c .if1 .left) in
-    let f = c .before .before .struct-told4 .given in
-    rw (toZ-ofZ (number-fits _ (f .0 .1)), toZ-ofZ (number-fits _ (f .1 .0 .1))) at e
+first-bad-requires : tie.Need-first-bad-requires
+first-bad-requires c κs = search needs
 
 returns-2 : tie.Need-returns-2
 returns-2 c =
-    let e = sym (c .before .in-range .ensures) ∙ not-true (c .before .in-range .result) (c .if2 .taken) in
-    let f = c .before .before .before .before .struct-told4 .given in
-    at-x-high _ (x-low-fine (c .before .before)) (rw (toZ-ofZ (number-fits _ (f .1 .0 .1))) at e)
-
-low-fine-requires-2 : tie.Need-low-fine-requires-2
-low-fine-requires-2 c κs = search needs
-
-x-high-fine : (c : tie.Else2) → inRange (c .before .before .before .before .before .before .before .before .args .self .«x_high») ≡ true
-x-high-fine c =
-    let e = sym (c .before .in-range .ensures) ∙ not-false (c .before .in-range .result) (c .if2 .left) in
-    let f = c .before .before .before .before .struct-told4 .given in
-    rw (toZ-ofZ (number-fits _ (f .1 .0 .1))) at e
-
-returns-3 : tie.Need-returns-3
-returns-3 c =
-    let e = sym (c .before .low-fine2 .ensures) ∙ not-true (c .before .low-fine2 .result) (c .if3 .taken) in
-    let f = c .before .before .before .before .before .before .struct-told4 .given in
-    at-y-low _ (x-low-fine (c .before .before .before .before)) (x-high-fine (c .before .before))
-    (rw (toZ-ofZ (number-fits _ (f .1 .1 .0 .1)), toZ-ofZ (number-fits _ (f .1 .1 .1 .0 .1))) at e)
-
-in-range-requires-2 : tie.Need-in-range-requires-2
-in-range-requires-2 c κs = search needs
-
-y-low-fine : (c : tie.Else3)
-    → lowFine (c .before .before .before .before .before .before .before .before .before .before .args .self .«y_low») (c .before .before .before .before .before .before .before .before .before .before .args .self .«y_high») ≡ true
-y-low-fine c =
-    let e = sym (c .before .low-fine2 .ensures) ∙ not-false (c .before .low-fine2 .result) (c .if3 .left) in
-    let f = c .before .before .before .before .before .before .struct-told4 .given in
-    rw (toZ-ofZ (number-fits _ (f .1 .1 .0 .1)), toZ-ofZ (number-fits _ (f .1 .1 .1 .0 .1))) at e
-
-returns-4 : tie.Need-returns-4
-returns-4 c =
-    let e = sym (c .before .in-range2 .ensures) ∙ not-true (c .before .in-range2 .result) (c .if4 .taken) in
-    let f = c .before .before .before .before .before .before .before .before .struct-told4 .given in
-    let l = c .before .before in
-    at-y-high _ (x-low-fine (l .before .before .before .before)) (x-high-fine (l .before .before)) (y-low-fine l)
-    (rw (toZ-ofZ (number-fits _ (f .1 .1 .1 .0 .1))) at e)
-
-returns-5 : tie.Need-returns-5
-returns-5 c =
-    let e = sym (c .before .in-range2 .ensures) ∙ not-false (c .before .in-range2 .result) (c .if4 .left) in
-    let f = c .before .before .before .before .before .before .before .before .struct-told4 .given in
-    let l = c .before .before in
-    all-fine _ (x-low-fine (l .before .before .before .before)) (x-high-fine (l .before .before)) (y-low-fine l)
-    (rw (toZ-ofZ (number-fits _ (f .1 .1 .1 .0 .1))) at e)
+    let f = c .before .before .before .struct-told4 .given in
+    rw (toZ-ofZ (number-fits _ (f .0 .1)), toZ-ofZ (number-fits _ (f .1 .0 .1)), toZ-ofZ (number-fits _ (f .1 .1 .0 .1)), toZ-ofZ (number-fits _ (f .1 .1 .1 .0 .1))) at (c .first-bad .ensures)
 
 pub fault-spec : {M : Type 1} → statement M
-fault-spec =
-    tie.close
-    (tie.spec
-    low-fine-requires
-    returns
-    in-range-requires
-    returns-2
-    low-fine-requires-2
-    returns-3
-    in-range-requires-2
-    returns-4
-    returns-5)
+fault-spec = tie.close (tie.spec side-fine-requires side-fine-requires-2 returns first-bad-requires returns-2)
