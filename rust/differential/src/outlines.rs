@@ -32,6 +32,14 @@ pub fn tolerance(random: &mut Random) -> i32 {
     random.magnitude().max(2)
 }
 
+/// A cubic anywhere in range that has 256 leaves at a tolerance of 2: its second differences are
+/// -40,000 and -40,000.
+pub fn deepest(random: &mut Random) -> [i32; 9] {
+    let x = random.between(-EDGE, EDGE);
+    let y = random.between(-EDGE, EDGE - 40_000);
+    [3, x, y, x, y + 40_000, x, y + 40_000, x, y]
+}
+
 /// Mostly 1 to 6 curves, at times up to 64, of mixed degrees and shapes. At times each curve
 /// begins where the one before ended, at times there are gaps.
 pub fn outline(random: &mut Random) -> Vec<i32> {

@@ -2,16 +2,8 @@
 
 use differential::banding::Answer::{Accepted, Refused};
 use differential::banding::Comparison;
-use differential::outlines::EDGE;
+use differential::outlines::{deepest, EDGE};
 use differential::random::Random;
-
-/// A cubic somewhere on the stage that has 256 leaves at a tolerance of 2: its second differences
-/// are -40,000 and -40,000.
-fn deepest(random: &mut Random) -> [i32; 9] {
-    let x = random.between(-EDGE, EDGE);
-    let y = random.between(-EDGE, EDGE - 40_000);
-    [3, x, y, x, y + 40_000, x, y + 40_000, x, y]
-}
 
 #[test]
 fn the_most_leaves() {

@@ -3,15 +3,8 @@
 use differential::curves::curves;
 use differential::judging::{Answer, Comparison};
 use differential::leaf_lists::LeafList;
-use differential::outlines::EDGE;
+use differential::outlines::deepest;
 use differential::random::Random;
-
-/// A cubic with 256 leaves at a tolerance of 2.
-fn deepest(random: &mut Random) -> [i32; 9] {
-    let x = random.between(-EDGE, EDGE);
-    let y = random.between(-EDGE, EDGE - 40_000);
-    [3, x, y, x, y + 40_000, x, y + 40_000, x, y]
-}
 
 #[test]
 fn the_most_leaves() {
