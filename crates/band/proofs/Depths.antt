@@ -16,7 +16,7 @@ use Rattle.bezier.specs.Nodes.{depth, nodeCurve}
 use Rattle.bezier.proofs.Coordinates.{node-degree}
 use Rattle.bezier.proofs.Numbers.{depth-one}
 use Rattle.bezier.proofs.Quarter.{quarter-x, quarter-y}
-use Rattle.enclosure.proofs.Narrow.{width-meets}
+use Rattle.node_boxes.proofs.Narrow.{width-meets}
 use Rattle.tree.specs.Tree.{ends, firstFailing}
 use Rattle.tree.specs.Leaves.{Leaf}
 use Rattle.tree.specs.Walked.{deepest, nodeMeets, endsOf}

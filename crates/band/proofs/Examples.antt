@@ -10,7 +10,7 @@ use Rattle.refusals.specs.Refusals.{numberOf, spotOf}
 use Rattle.bezier.specs.Halves.{triangle, left, right, leftHalf, rightHalf}
 use Rattle.bezier.specs.Nodes.{descendIn, descend, depth, nodeCurve}
 use Rattle.enclosure.specs.Bounds.{rowSum, high, low}
-use Rattle.enclosure.specs.Boxes.{boxAt, meets}
+use Rattle.node_boxes.specs.Boxes.{boxAt, meets}
 use Rattle.outline.specs.Curves.{curveAt}
 use Rattle.integers.specs.First.{firstBad}
 use Rattle.outline.specs.Checks.{faultAt, outlineFrom, outlined}

@@ -13,8 +13,8 @@ use Rattle.integers.proofs.Stores.{sets-append}
 use Rattle.bezier.specs.declared.Curve.{Curve}
 use Rattle.bezier.specs.Nodes.{depth, nodeCurve, after}
 use Rattle.bezier.proofs.Sizes.{node-sized}
-use Rattle.enclosure.specs.Boxes.{Sides, boxAt}
-use Rattle.enclosure.proofs.Leaf.{leaf-box}
+use Rattle.node_boxes.specs.Boxes.{Sides, boxAt}
+use Rattle.node_boxes.proofs.Leaf.{leaf-box}
 use Rattle.tree.specs.Walked.{deepest, nodeMeets, endsOf}
 use Rattle.band.specs.Records.{boxesTo, nodeNumbers, recordOf, recordsOf}
 use Rattle.band.specs.Writing.{Writable, Ready}

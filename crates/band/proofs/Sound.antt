@@ -20,8 +20,8 @@ use Rattle.bezier.specs.Bounds.{Sized}
 use Rattle.bezier.specs.Nodes.{depth, nodeCurve}
 use Rattle.bezier.proofs.Sizes.{node-sized}
 use Rattle.enclosure.specs.Rows.{pieces}
-use Rattle.enclosure.specs.Boxes.{boxAt}
-use Rattle.enclosure.proofs.Leaf.{Sound, leaf-box}
+use Rattle.node_boxes.specs.Boxes.{boxAt}
+use Rattle.node_boxes.proofs.Leaf.{Sound, leaf-box}
 use Rattle.outline.specs.Checks.{toleranceFine, curves, outlined}
 use Rattle.integers.proofs.Between.{between-high}
 use Rattle.outline.proofs.Accepted.{outlined-from, accepted-most, accepted-some, accepted-all}

@@ -10,8 +10,8 @@ use lib.Seq.{sets}
 use lib.IntN.{ℤ, pos}
 use Rattle.integers.proofs.Stores.{sets-append}
 use Rattle.bezier.specs.declared.Curve.{Curve}
-use Rattle.enclosure.specs.declared.Box.{Box}
-use Rattle.enclosure.specs.Boxes.{boxAt}
+use Rattle.node_boxes.specs.declared.Box.{Box}
+use Rattle.node_boxes.specs.Boxes.{boxAt}
 use Rattle.band.specs.Records.{boxNumbers, boxesTo, nodeNumbers}
 
 -- four stores, one after the other

@@ -4,9 +4,9 @@ use Prim.Native.Nat.{ℕ, zero, suc}
 use lib.IntN.{ℤ, pos}
 use Rattle.bezier.specs.declared.Curve.{Curve}
 use Rattle.bezier.specs.Nodes.{depth, nodeCurve}
-use Rattle.enclosure.specs.declared.Box.{Box}
+use Rattle.node_boxes.specs.declared.Box.{Box}
 use Rattle.enclosure.specs.Rows.{pieces}
-use Rattle.enclosure.specs.Boxes.{boxAt}
+use Rattle.node_boxes.specs.Boxes.{boxAt}
 use Rattle.tree.specs.Walked.{endsOf}
 
 abbrev pub boxNumbers : Box → List ℤ

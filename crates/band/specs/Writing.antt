@@ -7,7 +7,7 @@ use lib.IntN.{ℤ, pos}
 use lib.Signed.{_≤ℤ_}
 use Rattle.bezier.specs.declared.Curve.{Curve}
 use Rattle.bezier.specs.Bounds.{Sized}
-use Rattle.enclosure.specs.Boxes.{Sides, boxAt}
+use Rattle.node_boxes.specs.Boxes.{Sides, boxAt}
 use Rattle.tree.specs.Tree.{firstFailing}
 use Rattle.tree.specs.Walked.{nodeMeets, endsOf}
 use Rattle.band.specs.Banding.{firstTooWide, leavesOf}

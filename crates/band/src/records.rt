@@ -4,11 +4,11 @@ ghost use Prim.Native.Nat.{_+_, _≤_, _<_, _^_};
 ghost use lib.ListN.{length};
 ghost use lib.Seq.{sets};
 ghost use Rattle.bezier.specs.Nodes.{depth};
-ghost use Rattle.enclosure.specs.Boxes.{Sides};
+ghost use Rattle.node_boxes.specs.Boxes.{Sides};
 ghost use Rattle.band.specs.Records.{boxNumbers, boxesTo, nodeNumbers};
 ghost use Rattle.band.specs.Writing.{Writable};
 use bezier::Curve;
-use enclosure::Box;
+use node_boxes::Box;
 
 // The four numbers of a box, from place `at` on.
 fn put_box(records: &mut [i32], at: usize, b: Box)
@@ -30,7 +30,7 @@ fn put_boxes(records: &mut [i32], at: usize, curve: Curve, depth: u32)
     requires { ⌜ (at + 16 ≤ length (now records)) × (Writable depth curve) ⌝ }
     ensures { λ _. ⌜ now (records .exit) ≡ sets (now (records .entry)) at (boxesTo 4 depth curve) ⌝ }
 {
-    let boxes = enclosure::boxes_of(curve, depth);
+    let boxes = node_boxes::boxes_of(curve, depth);
     let mut i: usize = 0;
     while i < 4 {
         let place = at + 4 * i;

@@ -22,7 +22,7 @@ pub fn write_curve(records: &mut [i32], at: usize, number: u32, curve: Curve, t:
     let mut place = at;
     loop {
         let depth = bezier::depth(node);
-        if enclosure::meets(part, depth, t) {
+        if node_boxes::meets(part, depth, t) {
             put_record(records, place, number, node, part);
             place += 18;
             node = bezier::after(node);

@@ -1,28 +1,14 @@
--- Document 01's measured examples that concern one node, by computation; and the table of rows, read off the bounds of three coordinates.
+-- Document 01's measured examples that concern one coordinate, by computation; and the table of rows, read off the bounds of three coordinates.
 use mathlib.Core.Path.{_≡_, refl}
-use mathlib.Core.Bool.{true, false}
 use mathlib.Core.List.{List, [], _∷_}
 use Prim.Native.Nat.{ℕ, _*_}
-use lib.IntN.{ℤ, pos, negℤ, pow, one}
+use lib.IntN.{ℤ, pos, negℤ}
 use Rattle.integers.specs.Rounding.{floor, ceiling}
-use Rattle.bezier.specs.declared.Curve.{Curve}
-use Rattle.bezier.specs.Halves.{triangle, left, right, leftHalf, rightHalf}
-use Rattle.bezier.specs.Nodes.{descendIn, descend, depth, nodeCurve}
-use Rattle.enclosure.specs.declared.Box.{Box}
 use Rattle.enclosure.specs.Bounds.{rowSum, high, low}
-use Rattle.enclosure.specs.Boxes.{lowOf, highOf, boxAt, meets}
+use Rattle.enclosure.specs.Thirds.{lowOf, highOf}
 
 abbrev pub minus : ℕ → ℤ
 minus n = negℤ (pos n)
-
-abbrev pub box : (a b c d : ℕ) → Box
-box a b c d = record { «x_low» = pos a; «x_high» = pos b; «y_low» = pos c; «y_high» = pos d }
-
--- the four boxes of node n
-abbrev pub boxes : Curve → ℕ → List Box
-boxes c n =
-    let at : ℕ → Box = boxAt (depth n) (nodeCurve c n) in
-    at 0 ∷ at 1 ∷ at 2 ∷ at 3 ∷ []
 
 -- low and high of an undivided coordinate at the four break points
 abbrev pub bounds : ℕ → List ℤ → List ℤ
@@ -30,31 +16,6 @@ bounds d cs =
     let l : ℕ → ℤ = lowOf d 0 cs in
     let h : ℕ → ℤ = highOf d 0 cs in
     l 0 ∷ h 0 ∷ l 1 ∷ h 1 ∷ l 2 ∷ h 2 ∷ l 3 ∷ h 3 ∷ []
-
-abbrev pub A : Curve
-A = record { degree = 3; x = pos 0 ∷ pos 10 ∷ pos 20 ∷ pos 30 ∷ []; y = pos 0 ∷ pos 30 ∷ pos 30 ∷ pos 0 ∷ [] }
-
--- ---- A at T 44 is the leaf of the listing
-pub a-boxes : boxes A 1 ≡ box 0 0 0 38 ∷ box 160 160 319 363 ∷ box 320 320 319 363 ∷ box 480 480 0 38 ∷ []
-unfolding nodeCurve depth descend descendIn boxAt high low rowSum floor ceiling
-a-boxes = refl
-
-pub a-meets-44 : meets (pos 44) 0 A ≡ true
-unfolding meets boxAt high low rowSum floor ceiling
-a-meets-44 = refl
-
--- ---- at T 43 it is halved, for its middle boxes alone are too wide; both halves meet 43
-pub a-too-wide-43 : meets (pos 43) 0 A ≡ false
-unfolding meets boxAt high low rowSum floor ceiling
-a-too-wide-43 = refl
-
-pub node-2-boxes : boxes A 2 ≡ box 0 0 0 10 ∷ box 80 80 199 211 ∷ box 160 160 319 331 ∷ box 240 240 360 370 ∷ []
-unfolding nodeCurve depth descend descendIn leftHalf left triangle pow one boxAt high low rowSum floor ceiling
-node-2-boxes = refl
-
-pub halves-meet-43 : (meets (pos 43) 1 (nodeCurve A 2) ≡ true) × (meets (pos 43) 1 (nodeCurve A 3) ≡ true)
-unfolding nodeCurve descend descendIn leftHalf rightHalf left right triangle pow one meets boxAt high low rowSum floor ceiling
-halves-meet-43 = (refl, refl)
 
 -- ---- A with y negated: −37.6 gives −38
 pub negated-y : bounds 3 (pos 0 ∷ minus 30 ∷ minus 30 ∷ pos 0 ∷ []) ≡ minus 38 ∷ pos 0 ∷ minus 363 ∷ minus 319 ∷ minus 363 ∷ minus 319 ∷ minus 38 ∷ pos 0 ∷ []

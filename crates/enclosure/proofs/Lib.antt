@@ -1,4 +1,4 @@
--- Laws of the rows, the bounds and the boxes. Each file opens with what it holds.
+-- Laws of the rows and the bounds. Each file opens with what it holds.
 pub mod Negated
 pub mod Degrees
 pub mod Hats
@@ -11,9 +11,4 @@ pub mod Negation
 pub mod Places
 pub mod Enclosure
 pub mod Width
-pub mod Narrow
-pub mod Leaf
 pub mod Reduced
-pub mod Coordinates
-pub mod Boxes
-pub mod Apart

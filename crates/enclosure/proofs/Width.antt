@@ -19,7 +19,7 @@ use Rattle.integers.proofs.Table.{and-left, and-right, below}
 use Rattle.bezier.specs.Differences.{difference}
 use Rattle.enclosure.specs.Rows.{Row, pieces, thirds}
 use Rattle.enclosure.specs.Bounds.{exchanged, chord, rowSum, high, low}
-use Rattle.enclosure.specs.Boxes.{highOf, lowOf}
+use Rattle.enclosure.specs.Thirds.{highOf, lowOf}
 use Rattle.enclosure.proofs.Gaps.{gapSum, ordered, apart, table-apart}
 use Rattle.enclosure.proofs.Rows.{table-count}
 

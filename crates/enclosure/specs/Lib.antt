@@ -1,9 +1,7 @@
--- What a reader must believe of the bounds: the rows, low and high at a break point, boxes, the test that a node meets the tolerance, and what it
--- means that rows bound their polynomial and that bounds enclose a curve. `Terms` and `Spread` are only for the contracts of private functions.
+-- What a reader must believe of the enclosure of a coordinate: the rows, the polynomials that they bound, low and high at a break point, and what it
+-- means that rows bound their polynomial and that bounds enclose a curve.
 pub mod Rows
-pub mod Bounds
-pub mod Boxes
 pub mod Hats
+pub mod Bounds
+pub mod Thirds
 pub mod Enclosed
-pub mod Terms
-pub mod Spread

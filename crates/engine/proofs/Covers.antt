@@ -15,9 +15,10 @@ use Rattle.bezier.specs.Nodes.{depth, start, nodeCurve}
 use Rattle.bezier.specs.Points.{Equals, Within}
 use Rattle.bezier.proofs.Coordinates.{nodeValues, node-curve}
 use Rattle.enclosure.specs.Rows.{pieces}
-use Rattle.enclosure.specs.Boxes.{lowOf, highOf, boxAt}
+use Rattle.enclosure.specs.Thirds.{lowOf, highOf}
+use Rattle.node_boxes.specs.Boxes.{boxAt}
 use Rattle.enclosure.proofs.Places.{located}
-use Rattle.enclosure.proofs.Narrow.{Narrow, meets-narrow}
+use Rattle.node_boxes.proofs.Narrow.{Narrow, meets-narrow}
 use Rattle.tree.specs.Leaves.{Covers}
 use Rattle.tree.specs.Walked.{nodeMeets}
 use Rattle.boxes.specs.declared.Box.{Box}

@@ -17,7 +17,7 @@ use Rattle.bezier.proofs.Coordinates.{nodeValues}
 use Rattle.bezier.proofs.Parameters.{remaining, values-up, up-sum, pAt, rAt, same-sum, values-down, denominator}
 use Rattle.enclosure.specs.Rows.{Row, pieces, thirds}
 use Rattle.enclosure.specs.Bounds.{low, high}
-use Rattle.enclosure.specs.Boxes.{lowOf, highOf}
+use Rattle.enclosure.specs.Thirds.{lowOf, highOf}
 use Rattle.enclosure.specs.Enclosed.{Place, Encloses}
 use Rattle.enclosure.proofs.Places.{Located, place-at}
 use Rattle.enclosure.proofs.Enclosure.{enclosure, enclosure-between}

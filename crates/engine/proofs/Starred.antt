@@ -15,7 +15,7 @@ use Rattle.bezier.specs.Halves.{triangle, left, right, leftHalf, rightHalf}
 use Rattle.bezier.specs.Nodes.{descendIn, descend, depth, nodeCurve}
 use Rattle.boxes.specs.Records.{boxIndex, boxAtIndex}
 use Rattle.enclosure.specs.Bounds.{rowSum, high, low}
-use Rattle.enclosure.specs.Boxes.{boxAt, meets}
+use Rattle.node_boxes.specs.Boxes.{boxAt, meets}
 use Rattle.outline.specs.Curves.{curveAt}
 use Rattle.outline.specs.Checks.{faultAt, outlineFrom, outlined}
 use Rattle.tree.specs.Tree.{ends, met, firstFailing}

@@ -18,7 +18,7 @@ use Rattle.bezier.specs.Bounds.{Sized, Halvable}
 use Rattle.bezier.proofs.Nodes.{node-induction}
 use Rattle.bezier.proofs.Numbers.{depth-half, node-one, node-half, after-one, after-left, after-right}
 use Rattle.bezier.proofs.Sizes.{node-sized, sized-halvable}
-use Rattle.enclosure.specs.Boxes.{meets}
+use Rattle.node_boxes.specs.Boxes.{meets}
 use Rattle.tree.specs.Leaves.{Ancestor}
 use Rattle.tree.specs.Walked.{deepest, nodeMeets}
 use Rattle.tree.proofs.Halves.{half-induction}

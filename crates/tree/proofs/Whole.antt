@@ -6,7 +6,7 @@ use lib.ListN.{length}
 use lib.IntN.{ℤ}
 use Rattle.bezier.specs.declared.Curve.{Curve}
 use Rattle.bezier.proofs.Numbers.{depth-one, node-one}
-use Rattle.enclosure.specs.Boxes.{meets}
+use Rattle.node_boxes.specs.Boxes.{meets}
 use Rattle.tree.specs.declared.Walked.the-variants.{Leaves}
 use Rattle.tree.specs.Walked.{deepest, nodeMeets, endsOf, walkedOf}
 use Rattle.tree.specs.Passing.{AllPass}

@@ -7,7 +7,7 @@ use lib.ListN.{length}
 use lib.IntN.{ℤ}
 use Rattle.bezier.specs.declared.Curve.{Curve}
 use Rattle.bezier.specs.Nodes.{depth, nodeCurve}
-use Rattle.enclosure.specs.Boxes.{meets}
+use Rattle.node_boxes.specs.Boxes.{meets}
 use Rattle.tree.specs.declared.Walked.{Walked}
 use Rattle.tree.specs.declared.Walked.the-variants.{Leaves, TooWide}
 use Rattle.tree.specs.Tree.{ends, firstFailing}

@@ -2,7 +2,7 @@
 use native.Mathlib.Omega.{arith}
 use lib.ListN.{length-set}
 use Rattle.integers.proofs.Machine.{fits!, is! }
-use Rattle.enclosure.proofs.Boxes.{box-sizes}
+use Rattle.node_boxes.proofs.Boxes.{box-sizes}
 use Rattle.band.proofs.Writing.{four-sets}
 use borrow.Author.Needs.{needs}
 use Rattle.band.proofs.records.put_box.Statement.{statement}

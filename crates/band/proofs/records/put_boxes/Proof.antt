@@ -8,8 +8,8 @@ use lib.ListN.{length}
 use lib.IntN.{ℤ}
 use lib.Seq.{sets, length-sets}
 use Rattle.bezier.specs.declared.Curve.{Curve}
-use Rattle.enclosure.specs.Boxes.{boxesOf, boxOf}
-use Rattle.enclosure.proofs.Boxes.{box-of}
+use Rattle.node_boxes.specs.Boxes.{boxesOf, boxOf}
+use Rattle.node_boxes.proofs.Boxes.{box-of}
 use Rattle.band.specs.Records.{boxNumbers, boxesTo}
 use Rattle.band.proofs.Writing.{boxes-more}
 use Rattle.band.proofs.records.put_boxes.Statement.{statement}

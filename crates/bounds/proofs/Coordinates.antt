@@ -1,0 +1,263 @@
+-- The code of one coordinate: what each function holds is its formula, within its bound.
+--     mul-result c = fits! (search bounded depth 40) tt
+--     returns c = holds! (search bounded depth 40) tt refl
+use mathlib.Core.Path.{_≡_, refl, sym, _∙_, ap, ap₂, subst}
+use mathlib.Core.Bool.{Bool, true, false, _&&_, cond}
+use mathlib.Core.List.{List, [], _∷_}
+use Prim.Native.Nat.{ℕ, zero, suc, _+_, _*_, _%_, _^_, _≤_, _<_, zero-le}
+use native.Mathlib.Nat.{le-trans, lt-of-le-of-lt, mul-le-mul, one-mul, mod-eq-of-lt}
+use native.Mathlib.Omega.{arith}
+use native.Mathlib.Numerals.{add-one, add-two}
+use lib.Dec.{T, leb, ltb, leb→le, lit<}
+use lib.Pow.{pow-mono, pow-pos}
+use lib.ListN.{length}
+use lib.IntN.{ℤ, pos, natAbs, negℤ, _+ℤ_, _-ℤ_, _*ℤ_, +ℤ-idl, +ℤ-idr}
+use lib.Signed.{ltZ, shrZ, quotZ, _<ℤ_, ltZ-yes}
+use mir.Syntax.{w64}
+use mir.Val.{toZ}
+use mir.Facts.{toZ-ofZ, toZ-pos}
+use Rattle.integers.specs.Entry.{entry}
+use Rattle.integers.specs.Rounding.{floor, ceiling}
+use Rattle.integers.proofs.Table.{every, at, and-left, and-right}
+use Rattle.integers.proofs.Ring.{ring, sides}
+use Rattle.integers.proofs.Ranges.{stored}
+use Rattle.integers.proofs.Size.{fits-size, abs-neg, abs-high, abs-low}
+use Rattle.integers.proofs.Rounding.{floor-size, floor-floor, floor-raised, quotient-floor, shift-floor}
+use Rattle.integers.proofs.Order.{gap, nonneg-by, le-by, pos-lt}
+use Rattle.integers.proofs.Machine.{Held, Count, abs-shift, tests}
+use Rattle.bezier.specs.Differences.{difference}
+use Rattle.bezier.specs.Bounds.{Each}
+use Rattle.bezier.specs.Halves.{listed, four}
+use Rattle.bezier.proofs.Values.{listed-ext}
+use Rattle.bezier.proofs.Halving.{held-entry}
+use Rattle.enclosure.specs.Rows.{pieces, thirds}
+use Rattle.enclosure.specs.Bounds.{rowSum, high}
+use Rattle.enclosure.specs.Thirds.{over, highOf, lowOf}
+use Rattle.bounds.specs.Terms.{Readable, Small, Holds, HoldsFour, numerator, highs, lows, term, opposite}
+use Rattle.enclosure.proofs.Negated.{negated, entry-negated}
+use Rattle.enclosure.proofs.Negation.{low-is}
+use Rattle.enclosure.proofs.Reduced.{high-reduced}
+
+pub holds! : {B : ℕ} {z r : ℤ} (s : Held r) → T (s .test && leb (s .bound) B) → s .value ≡ z → Holds B z r
+holds! {B} {z} {r} s t e =
+    let u = and-left (s .test) (leb (s .bound) B) t in
+    record {
+      is = s .is u ∙ e;
+      size = subst (λ x. natAbs x ≤ B) (sym (s .is u)) (le-trans (s .under u) (leb→le (s .bound) B (and-right (s .test) (leb (s .bound) B) t)));
+    }
+
+pub small! : {B : ℕ} {z : ℤ} (s : Held z) → T (s .test && leb (s .bound) B) → Small B z
+small! s t = record { size = holds! s t refl .size }
+
+pub holds-as : {B : ℕ} {y z r : ℤ} → z ≡ y → Holds B z r → Holds B y r
+holds-as e h = record { is = h .is ∙ e; size = h .size }
+
+-- ---- what the code starts from
+abbrev pub point : {i : ℕ} → i < 4 → Count i
+point h = record { bound = 4; under = h }
+
+abbrev pub held-holds : {B : ℕ} {z r : ℤ} → Holds B z r → Held r
+held-holds {B} {z} {r} h = record { value = z; bound = B; test = true; is = λ t. h .is; under = λ t. subst (λ x. natAbs x ≤ B) (h .is) (h .size) }
+
+abbrev pub held-small : {B : ℕ} {z : ℤ} → Small B z → Held z
+held-small {B} {z} h = record { value = z; bound = B; test = true; is = λ t. refl; under = λ t. h .size }
+
+abbrev pub small? : ℕ → ℤ → Bool
+small? k x = leb (natAbs x) 4400
+
+pub small-at : (xs : List ℤ) → T (every small? 0 xs) → (k : ℕ) → k < length xs → natAbs (entry xs k) ≤ 4400
+small-at xs t k h = leb→le (natAbs (entry xs k)) 4400 (at small? xs (pos 0) t k h)
+
+abbrev pub held-table : (xs : List ℤ) → T (every small? 0 xs) → (k : ℕ) → k < length xs → Held (entry xs k)
+held-table xs t k h = record { value = entry xs k; bound = 4400; test = true; is = λ _. refl; under = λ _. small-at xs t k h }
+
+abbrev pub held-low : (place : ℕ) → place < 12 → Held (entry lows place)
+held-low place h = held-table lows tt place h
+
+abbrev pub held-high : (place : ℕ) → place < 12 → Held (entry highs place)
+held-high place h = held-table highs tt place h
+
+pub ruleset bounded = (held-entry, held-holds, held-small, held-low, held-high, tests)
+
+-- ---- four numbers
+pub each-four : {B : ℕ} {a b c d : ℤ} → natAbs a ≤ B → natAbs b ≤ B → natAbs c ≤ B → natAbs d ≤ B → Each B (a ∷ b ∷ c ∷ d ∷ [])
+each-four {B} {a} {b} {c} {d} ha hb hc hd = record { under = under }
+  where
+    under : (k : ℕ) → natAbs (entry (a ∷ b ∷ c ∷ d ∷ []) k) ≤ B
+    under zero = ha
+    under (suc zero) = hb
+    under (suc (suc zero)) = hc
+    under (suc (suc (suc zero))) = hd
+    under (suc (suc (suc (suc k)))) = zero-le
+
+pub four-hold : {B : ℕ} (f : ℕ → ℤ) {a b c d : ℤ} → Holds B (f 0) a → Holds B (f 1) b → Holds B (f 2) c → Holds B (f 3) d → HoldsFour B f (a ∷ b ∷ c ∷ d ∷ [])
+four-hold f ha hb hc hd = record {
+  is = λ j. ha .is j ∷ hb .is j ∷ hc .is j ∷ hd .is j ∷ [];
+  size = each-four (ha .size) (hb .size) (hc .size) (hd .size);
+}
+
+pub each-more : {B C : ℕ} {cs : List ℤ} → B ≤ C → Each B cs → Each C cs
+each-more l h = record { under = λ k. le-trans (h .under k) l }
+
+pub four-as : {B C : ℕ} {f g : ℕ → ℤ} {rs : List ℤ} → T (leb B C) → ((i : ℕ) → i < 4 → f i ≡ g i) → HoldsFour B f rs → HoldsFour C g rs
+four-as {B} {C} {f} {g} t e h = record { is = h .is ∙ listed-ext 4 f g e; size = each-more (leb→le B C t) (h .size) }
+
+pub entry-listed : (f : ℕ → ℤ) (i : ℕ) → i < 4 → entry (listed 4 f) i ≡ f i
+entry-listed f zero h = refl
+entry-listed f (suc zero) h = refl
+entry-listed f (suc (suc zero)) h = refl
+entry-listed f (suc (suc (suc zero))) h = refl
+entry-listed f (suc (suc (suc (suc i)))) h = absurd (omega arith)
+
+pub one-of : {B : ℕ} {f : ℕ → ℤ} {rs : List ℤ} → HoldsFour B f rs → (i : ℕ) → i < 4 → Holds B (f i) (entry rs i)
+one-of {B} {f} {rs} h i l = record { is = ap (λ xs. entry xs i) (h .is) ∙ entry-listed f i l; size = h .size .under i }
+
+-- what a function returned, as its caller holds it
+pub stored-is : {B : ℕ} {z r : ℤ} → Holds B z r → T (ltb B (2 ^ 63)) → stored w64 r ≡ z
+stored-is {B} {z} {r} h t = toZ-ofZ (fits-size {w = w64} {z = r} (record { bound = B; under = h .size }) t) ∙ h .is
+
+pub each-stored : {B : ℕ} {cs : List ℤ} → Each B cs → (k : ℕ) → T (ltb B (2 ^ 63)) → stored w64 (entry cs k) ≡ entry cs k
+each-stored {B} h k t = toZ-ofZ (fits-size {w = w64} (record { bound = B; under = h .under k }) t)
+
+pub each-small : {B : ℕ} {cs : List ℤ} → Each B cs → (k : ℕ) → T (ltb B (2 ^ 63)) → Small B (stored w64 (entry cs k))
+each-small {B} h k t = record { size = subst (λ z. natAbs z ≤ B) (sym (each-stored h k t)) (h .under k) }
+
+-- ---- formulas as the definitions have them
+pub difference-is : (cs : List ℤ) (k : ℕ) → entry cs k -ℤ pos 2 *ℤ entry cs (k + 1) +ℤ entry cs (k + 2) ≡ difference cs k
+difference-is cs k = ap₂ (λ (a b : ℕ). entry cs k -ℤ pos 2 *ℤ entry cs a +ℤ entry cs b) (add-one k) (add-two k)
+
+pub term-negative : (place : ℕ) (δ : ℤ) → ltZ δ (pos 0) ≡ true → entry lows place *ℤ δ ≡ term place δ
+unfolding term
+term-negative place δ t = ap (λ (b : Bool). cond b (entry lows place) (entry highs place) *ℤ δ) (sym t)
+
+pub term-other : (place : ℕ) (δ : ℤ) → ltZ δ (pos 0) ≡ false → entry highs place *ℤ δ ≡ term place δ
+unfolding term
+term-other place δ t = ap (λ (b : Bool). cond b (entry lows place) (entry highs place) *ℤ δ) (sym t)
+
+-- ---- the sums, by the degree
+pub sum-line : (i : ℕ) (cs : List ℤ) → pos 0 ≡ rowSum (thirds 1) i 0 cs
+unfolding rowSum
+sum-line i cs = refl
+
+pub sum-quadratic : (i : ℕ) (cs : List ℤ) → i < 4 → term i (difference cs 0) ≡ rowSum (thirds 2) i 0 cs
+unfolding rowSum term
+sum-quadratic zero cs h = sym (+ℤ-idr (term 0 (difference cs 0)))
+sum-quadratic (suc zero) cs h = sym (+ℤ-idr (term 1 (difference cs 0)))
+sum-quadratic (suc (suc zero)) cs h = sym (+ℤ-idr (term 2 (difference cs 0)))
+sum-quadratic (suc (suc (suc zero))) cs h = sym (+ℤ-idr (term 3 (difference cs 0)))
+sum-quadratic (suc (suc (suc (suc i)))) cs h = absurd (omega arith)
+
+pub sum-cubic : (i : ℕ) (cs : List ℤ) → i < 4 → term (4 + i) (difference cs 0) +ℤ term (8 + i) (difference cs 1) ≡ rowSum (thirds 3) i 0 cs
+unfolding rowSum term
+sum-cubic zero cs h = ap (λ z. term 4 (difference cs 0) +ℤ z) (sym (+ℤ-idr (term 8 (difference cs 1))))
+sum-cubic (suc zero) cs h = ap (λ z. term 5 (difference cs 0) +ℤ z) (sym (+ℤ-idr (term 9 (difference cs 1))))
+sum-cubic (suc (suc zero)) cs h = ap (λ z. term 6 (difference cs 0) +ℤ z) (sym (+ℤ-idr (term 10 (difference cs 1))))
+sum-cubic (suc (suc (suc zero))) cs h = ap (λ z. term 7 (difference cs 0) +ℤ z) (sym (+ℤ-idr (term 11 (difference cs 1))))
+sum-cubic (suc (suc (suc (suc i)))) cs h = absurd (omega arith)
+
+-- ---- the denominator: a power of 2 by a shift
+pub shift-small : {d k : ℕ} → d ≤ 3 → k ≤ 8 → d * k ≤ 24
+shift-small h l = mul-le-mul h l
+
+pub shifted : (s : ℕ) → s ≤ 24 → (1 * 2 ^ s) % 2 ^ 64 ≡ 2 ^ s
+shifted s h = ap (λ (x : ℕ). x % 2 ^ 64) (one-mul (2 ^ s)) ∙ mod-eq-of-lt (lt-of-le-of-lt (pow-mono h) (lit< tt))
+
+abbrev pub held-shift : (s : ℕ) → s ≤ 24 → Held (toZ w64 ((1 * 2 ^ s) % 2 ^ 64))
+held-shift s h = record {
+  value = pos (2 ^ s);
+  bound = 2 ^ 24;
+  test = true;
+  is = λ t. ap (toZ w64) (shifted s h) ∙ toZ-pos w64 (lt-of-le-of-lt (pow-mono h) (lit< tt));
+  under = λ t. pow-mono h;
+}
+
+-- ---- what a caller holds of a result, and a quotient by 1875
+pub restored : {B : ℕ} {z r : ℤ} → Holds B z r → T (ltb B (2 ^ 63)) → Holds B z (stored w64 r)
+restored {B} {z} {r} h t = record { is = stored-is h t; size = subst (λ x. natAbs x ≤ B) (h .is ∙ sym (stored-is h t)) (h .size) }
+
+quotient-size : (B : ℕ) (n : ℤ) → natAbs n ≤ B * 1875 → natAbs (floor n (pos 1875)) ≤ B
+quotient-size B n h = floor-size B {d = pos 1875} (ltZ-yes tt)
+    (le-by (pos B ∷ n ∷ []) (gap (abs-high n h)) (search sides depth 20) refl)
+    (le-by (pos B ∷ n ∷ []) (gap (abs-low n h)) (search sides depth 20) refl)
+
+-- the ceiling that the code computes: by a shift, then by 1875
+pub ceiling-shifted : (n : ℤ) (k : ℕ) → 0 < k → pos 0 -ℤ floor (shrZ (pos 0 -ℤ n) k) (pos 1875) ≡ ceiling n (pos 1875 *ℤ pos k)
+unfolding ceiling
+ceiling-shifted n k some =
+    +ℤ-idl (negℤ (floor (shrZ (pos 0 -ℤ n) k) (pos 1875)))
+    ∙ ap negℤ (ap (λ z. floor (shrZ z k) (pos 1875)) (+ℤ-idl (negℤ n)) ∙ ap (λ z. floor z (pos 1875)) (shift-floor (negℤ n) k)
+    ∙ floor-floor {d = pos k} {e = pos 1875} (pos-lt some) (ltZ-yes tt) (negℤ n))
+
+-- raised by B times 1875 the dividend is not negative, and the quotient towards zero is the floor
+pub ceiling-raised : (B : ℕ) (n : ℤ) (k : ℕ) → 0 < k → natAbs (shrZ (pos 0 -ℤ n) k) ≤ B * 1875
+    → pos B -ℤ quotZ (pos B *ℤ pos 1875 +ℤ shrZ (pos 0 -ℤ n) k) (pos 1875) ≡ ceiling n (pos 1875 *ℤ pos k)
+ceiling-raised B n k some h =
+    let x = shrZ (pos 0 -ℤ n) k in
+    let q = floor x (pos 1875) in
+    ap (λ z. pos B -ℤ z) (quotient-floor (pos B *ℤ pos 1875 +ℤ x) 1875 (nonneg-by (pos B ∷ x ∷ []) (gap (abs-low x h)) (search sides depth 20) refl) ∙ floor-raised {d = pos 1875} (ltZ-yes tt) (pos B) x)
+    ∙ ring (pos B ∷ q ∷ []) (search sides depth 20) refl
+    ∙ ceiling-shifted n k some
+
+pub raised-holds : (B : ℕ) {m r : ℤ} (s : Held m) → T (s .test && leb (s .bound) (B * 1875)) → (k : ℕ) → 0 < k
+    → r ≡ pos B -ℤ quotZ (pos B *ℤ pos 1875 +ℤ shrZ (pos 0 -ℤ s .value) k) (pos 1875) → Holds B (ceiling (s .value) (pos 1875 *ℤ pos k)) r
+raised-holds B {m} {r} s t k some e =
+    let n = s .value in
+    let x = shrZ (pos 0 -ℤ n) k in
+    let u = and-left (s .test) (leb (s .bound) (B * 1875)) t in
+    let h = le-trans (s .under u) (leb→le (s .bound) (B * 1875) (and-right (s .test) (leb (s .bound) (B * 1875)) t)) in
+    let l = le-trans (abs-shift (pos 0 -ℤ n) k) (subst (λ z. natAbs z ≤ B * 1875) (sym (+ℤ-idl (negℤ n))) (rw abs-neg h)) in
+    let f = e ∙ ceiling-raised B n k some l in
+    record {
+      is = f;
+      size = subst (λ z. natAbs z ≤ B) (sym (f ∙ sym (ceiling-shifted n k some) ∙ +ℤ-idl (negℤ (floor x (pos 1875))))) (rw abs-neg (quotient-size B x l));
+    }
+
+-- the denominator of the control values is positive
+pub over-positive : (d k : ℕ) → pos 0 <ℤ over d k
+over-positive d k = pos-lt (pow-pos (d * k))
+
+-- ---- the control values negated
+pub each-opposite : {B : ℕ} {cs : List ℤ} → Each B cs → Each B (opposite cs)
+each-opposite {B} {cs} h = each-four (size 0) (size 1) (size 2) (size 3)
+  where
+    size : (k : ℕ) → natAbs (negℤ (entry cs k)) ≤ B
+    size k = rw abs-neg (h .under k)
+
+pub readable-opposite : {cs : List ℤ} {d : ℕ} → Readable cs d → Readable (opposite cs) d
+readable-opposite h = record { least = h .least; most = h .most; values = each-opposite (h .values) }
+
+-- a high looks at no control value past the fourth
+high-four : (d k : ℕ) (cs : List ℤ) (i : ℕ) → d ≤ 3 → highOf d k (four cs) i ≡ highOf d k cs i
+unfolding high rowSum
+high-four zero k cs i h = refl
+high-four (suc zero) k cs i h = refl
+high-four (suc (suc zero)) k cs i h = refl
+high-four (suc (suc (suc zero))) k cs i h = refl
+high-four (suc (suc (suc (suc d)))) k cs i h = absurd (omega arith)
+
+pub low-opposite : (d k : ℕ) (cs : List ℤ) (i : ℕ) → d ≤ 3 → negℤ (highOf d k (opposite cs) i) ≡ lowOf d k cs i
+low-opposite d k cs i h =
+    ap negℤ (ap (λ xs. highOf d k xs i) (listed-ext 4 (λ j. negℤ (entry cs j)) (entry (negated cs)) (λ j l. sym (entry-negated cs j))) ∙ high-four d k (negated cs) i h)
+    ∙ sym (low-is pieces (thirds d) (over d k) d cs i)
+
+-- ---- from what the code called
+pub lows-from : {B : ℕ} (d k : ℕ) (cs : List ℤ) {os hs rs : List ℤ} → d ≤ 3
+    → os ≡ opposite cs → HoldsFour B (highOf d k os) hs → rs ≡ opposite hs → HoldsFour B (lowOf d k cs) rs
+lows-from {B} d k cs {os} {hs} {rs} l e h f = record {
+  is = f ∙ ap opposite (h .is) ∙ listed-ext 4 (λ i. negℤ (highOf d k os i)) (lowOf d k cs)
+      (λ i _. ap (λ xs. negℤ (highOf d k xs i)) e ∙ low-opposite d k cs i l);
+  size = subst (Each B) (sym f) (each-opposite (h .size));
+}
+
+high-from : {B : ℕ} (d k : ℕ) (cs : List ℤ) (i : ℕ) {first last sum r : ℤ} → first ≡ entry cs 0 → last ≡ entry cs d → sum ≡ rowSum (thirds d) i 0 cs
+    → Holds B (ceiling (numerator i first last sum) (pos 1875 *ℤ over d k)) r → Holds B (highOf d k cs i) r
+high-from d k cs i {first} {last} {sum} e f g = holds-as
+    (ap (λ x. ceiling (numerator i x last sum) (pos 1875 *ℤ over d k)) e
+    ∙ ap₂ (λ y z. ceiling (numerator i (entry cs 0) y z) (pos 1875 *ℤ over d k)) f g
+    ∙ sym (high-reduced (lit< tt) (over-positive d k) (thirds d) d cs i))
+
+pub high-at : (d k : ℕ) (cs : List ℤ) (i : ℕ) → i < 4 → Each (2 ^ 44) cs → {sums : List ℤ} → HoldsFour (8800 * 2 ^ 46) (λ j. rowSum (thirds d) j 0 cs) sums
+    → {r : ℤ} → Holds (2 ^ 51) (ceiling (numerator i (stored w64 (entry cs 0)) (stored w64 (entry cs d)) (stored w64 (entry sums i))) (pos 1875 *ℤ over d k)) r
+    → Holds (2 ^ 51) (highOf d k cs i) (stored w64 r)
+high-at d k cs i l v e h =
+    restored (high-from d k cs i (each-stored v 0 tt) (each-stored v d tt) (stored-is (one-of e i l) tt) h) tt

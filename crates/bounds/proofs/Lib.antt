@@ -1,0 +1,2 @@
+-- Laws of the code of one coordinate.
+pub mod Coordinates

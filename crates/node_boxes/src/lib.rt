@@ -1,0 +1,117 @@
+// The boxes of a node at its break points, in whole sixteenths, and the test that it meets the tolerance.
+ghost use mathlib.Core.Path.{_≡_};
+ghost use Prim.Native.Nat.{_<_, _≤_, _^_};
+ghost use Rattle.bezier.specs.Bounds.{Sized};
+ghost use Rattle.enclosure.specs.Thirds.{lowOf, highOf};
+ghost use Rattle.node_boxes.specs.Boxes.{boxesOf, boxOf, AllSides, meets};
+ghost use Rattle.bounds.specs.Terms.{Readable};
+ghost use Rattle.node_boxes.specs.Spread.{within};
+
+mod spread;
+
+use bezier::Curve;
+
+// A box at a break point, in sixteenths of a stage unit.
+pub struct Box {
+    pub x_low: i64,
+    pub x_high: i64,
+    pub y_low: i64,
+    pub y_high: i64,
+}
+
+// The boxes at the four break points of a node: the lows and the highs of each coordinate.
+pub struct NodeBoxes {
+    pub x_low: [i64; 4],
+    pub x_high: [i64; 4],
+    pub y_low: [i64; 4],
+    pub y_high: [i64; 4],
+}
+
+// The boxes of a curve at a depth.
+pub fn boxes_of(curve: Curve, depth: u32) -> NodeBoxes
+    requires { ⌜ (Sized depth curve) × (depth ≤ 8) ⌝ }
+    ensures { λ b. ⌜ (b ≡ boxesOf depth curve) × (AllSides (2 ^ 51) b) ⌝ }
+{
+    let degree = curve.degree;
+    let x = curve.x;
+    let y = curve.y;
+    let x_low = bounds::lows(x, degree, depth);
+    let x_high = bounds::highs(x, degree, depth);
+    let y_low = bounds::lows(y, degree, depth);
+    let y_high = bounds::highs(y, degree, depth);
+    NodeBoxes {
+        x_low,
+        x_high,
+        y_low,
+        y_high,
+    }
+}
+
+impl NodeBoxes {
+    // The box at break point i, from 0 to 3.
+    pub fn at(self, i: usize) -> Box
+        requires { ⌜ (AllSides (2 ^ 51) self) × (i < 4) ⌝ }
+        ensures { λ b. ⌜ b ≡ boxOf self i ⌝ }
+    {
+        let x_low = self.x_low[i];
+        let x_high = self.x_high[i];
+        let y_low = self.y_low[i];
+        let y_high = self.y_high[i];
+        Box {
+            x_low,
+            x_high,
+            y_low,
+            y_high,
+        }
+    }
+}
+
+// Low and high of one coordinate are at most t apart at all four break points.
+fn is_narrow(c: [i64; 4], degree: u32, depth: u32, t: i64) -> bool
+    requires { ⌜ (Readable c degree) × (depth ≤ 8) ⌝ }
+    ensures { λ r. ⌜ r ≡ within 4 t (lowOf degree depth c) (highOf degree depth c) ⌝ }
+{
+    let low = bounds::lows(c, degree, depth);
+    let high = bounds::highs(c, degree, depth);
+    let mut i: usize = 0;
+    while i < 4 {
+        let width = high[i] - low[i];
+        if t < width {
+            return false;
+        }
+        i += 1;
+    }
+    true
+}
+
+// The boxes at all four break points are narrow.
+fn boxes_meet(curve: Curve, depth: u32, t: i64) -> bool
+    requires { ⌜ (Sized depth curve) × (depth ≤ 8) ⌝ }
+    ensures { λ r. ⌜ r ≡ meets t depth curve ⌝ }
+{
+    let degree = curve.degree;
+    let x = curve.x;
+    let y = curve.y;
+    is_narrow(x, degree, depth, t) && is_narrow(y, degree, depth, t)
+}
+
+// The node meets the tolerance: its boxes at all four break points are narrow. How far its lows and highs are apart before rounding decides
+// most nodes, and rounding adds less than two units. t is tested first, so that no product wraps.
+pub fn meets(curve: Curve, depth: u32, t: i64) -> bool
+    requires { ⌜ (Sized depth curve) × (depth ≤ 8) ⌝ }
+    ensures { λ r. ⌜ r ≡ meets t depth curve ⌝ }
+{
+    if t < 1 || 1048576 < t {
+        return boxes_meet(curve, depth, t);
+    }
+    let apart = spread::widest(curve);
+    let unit = bounds::denominator(curve.degree, depth);
+    let limit = unit * t;
+    if apart <= limit - unit {
+        return true;
+    }
+    if limit < apart {
+        return false;
+    }
+    boxes_meet(curve, depth, t)
+}
