@@ -15,8 +15,9 @@ use Rattle.refusals.specs.declared.Refusal.the-variants.{Tolerance as WrongTole
 use Rattle.outline.specs.Checks.{toleranceFine, Outlined, outlined}
 use Rattle.band.specs.declared.Banded.{Banded}
 use Rattle.band.specs.declared.Banded.the-variants.{Refused}
-use Rattle.band.specs.Records.{allRecords}
-use Rattle.band.specs.Banding.{bandOutlined, banded, curvesOf, writtenBy, written}
+use Rattle.records.specs.Records.{allRecords}
+use Rattle.passes.specs.Leaves.{curvesOf}
+use Rattle.band.specs.Banding.{bandOutlined, banded, writtenBy, written}
 use Rattle.appends.specs.Appends.{Appended, Within}
 use Rattle.appends.proofs.Appends.{append-both, within, appended-front, appended-length}
 use Rattle.text.specs.declared.Checked.{Checked}

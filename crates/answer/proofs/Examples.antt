@@ -12,9 +12,10 @@ use Rattle.outline.specs.Curves.{curveAt}
 use Rattle.integers.specs.First.{firstBad}
 use Rattle.outline.specs.Checks.{faultAt, outlineFrom, outlined}
 use Rattle.tree.specs.Tree.{ends, met, firstFailing}
-use Rattle.band.specs.Records.{recordOf, allRecords}
-use Rattle.band.specs.Records as Records
-use Rattle.band.specs.Banding.{firstTooWide, leavesOf, nodesOf, bandCurves, banded, written}
+use Rattle.records.specs.Records.{recordOf, allRecords}
+use Rattle.records.specs.Records as Records
+use Rattle.passes.specs.Leaves.{firstTooWide, leavesOf, nodesOf}
+use Rattle.band.specs.Banding.{bandCurves, banded, written}
 use Rattle.numerals.specs.Numerals.{valueFrom, digitCount, naturalAt, numberAt}
 use Rattle.forms.specs.Forms as Forms
 use Rattle.text.specs.Lines.{linesFrom, linesOf, gather}

@@ -21,14 +21,15 @@ use Rattle.outline.proofs.Steps.{outline-begins, outline-ends, outline-ended, o
 use Rattle.outline.proofs.Accepted.{Accepted, checked-curves, checked-refused, outlined-from, accepted-most}
 use Rattle.band.specs.declared.Banded.{Banded}
 use Rattle.band.specs.declared.Banded.the-variants.{Done, Refused}
-use Rattle.band.specs.declared.count.Counted.the-variants.{Leaves, Refused as Stopped}
+use Rattle.passes.specs.declared.Counted.the-variants.{Leaves, Refused as Stopped}
 use Rattle.tree.specs.Walked.{endsOf}
-use Rattle.band.specs.Records.{recordsOf, allRecords}
-use Rattle.band.specs.Banding.{curvesOf, firstTooWide, leavesOf, nodesOf, bandCurves, writtenBy, banded, written}
-use Rattle.band.specs.Counted.{Readable, countedOf}
-use Rattle.band.specs.Writing.{Fillable}
-use Rattle.band.proofs.Counting.{nodes-of-curves, few-leaves}
-use Rattle.band.proofs.Recording.{records-length}
+use Rattle.records.specs.Records.{recordsOf, allRecords}
+use Rattle.passes.specs.Leaves.{curvesOf, firstTooWide, leavesOf, nodesOf}
+use Rattle.band.specs.Banding.{bandCurves, writtenBy, banded, written}
+use Rattle.passes.specs.Counted.{Readable, countedOf}
+use Rattle.passes.specs.Writing.{Fillable}
+use Rattle.passes.proofs.Counting.{nodes-of-curves, few-leaves}
+use Rattle.records.proofs.Lengths.{records-length}
 
 -- ---- what the first pass says
 counted-leaves : (o : Option Refusal) (l m : ℕ) → Leaves m ≡ elim o [ some r ↦ Stopped r | none ↦ Leaves l ] → (o ≡ none) × (m ≡ l)

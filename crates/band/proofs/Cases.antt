@@ -14,9 +14,11 @@ use Rattle.bezier.specs.declared.Curve.{Curve}
 use Rattle.band.specs.declared.Banded.{Banded}
 use Rattle.band.specs.declared.Banded.the-variants.{Done, Refused}
 use Rattle.boxes.specs.Records.{recordLength}
-use Rattle.band.specs.Banding.{firstTooWide, leavesOf, nodesOf, bandCurves}
-use Rattle.band.specs.Outcomes.{FirstWide, Few, Report}
-use Rattle.band.proofs.Wide.{none-wide, first-wide, only-wide}
+use Rattle.passes.specs.Leaves.{firstTooWide, leavesOf, nodesOf}
+use Rattle.band.specs.Banding.{bandCurves}
+use Rattle.passes.specs.Meeting.{FirstWide}
+use Rattle.band.specs.Outcomes.{Few, Report}
+use Rattle.passes.proofs.Wide.{none-wide, first-wide, only-wide}
 
 module _ (T : ℤ) (cs : List Curve) (room : ℕ) where
   pub wide-said : {k n : ℕ} → FirstWide T 0 cs k n → bandCurves T cs room ≡ Refused (TooWide k n)

@@ -17,8 +17,9 @@ use Rattle.outline.specs.Checks.{faultAt, outlineFrom, outlined}
 use Rattle.band.specs.declared.Banded.{Banded}
 use Rattle.band.specs.declared.Banded.the-variants.{Done, Refused}
 use Rattle.tree.specs.Tree.{ends, met, firstFailing}
-use Rattle.band.specs.Records.{recordOf, recordsOf, allRecords}
-use Rattle.band.specs.Banding.{firstTooWide, leavesOf, nodesOf, bandCurves, banded, written}
+use Rattle.records.specs.Records.{recordOf, recordsOf, allRecords}
+use Rattle.passes.specs.Leaves.{firstTooWide, leavesOf, nodesOf}
+use Rattle.band.specs.Banding.{bandCurves, banded, written}
 
 -- with at most 64 curves
 abbrev answer : ℤ → List ℤ → ℕ → Banded

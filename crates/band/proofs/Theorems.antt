@@ -19,17 +19,18 @@ use Rattle.band.specs.declared.Banded.{Banded}
 use Rattle.band.specs.declared.Banded.the-variants.{Done, Refused}
 use Rattle.tree.specs.Leaves.{Leaf, Covers, EndToEnd}
 use Rattle.tree.specs.Walked.{deepest, nodeMeets, endsOf}
-use Rattle.band.specs.Records.{allRecords}
+use Rattle.records.specs.Records.{allRecords}
 use Rattle.boxes.specs.Records.{recordLength}
 use Rattle.band.specs.Banding.{bandCurves, banded, written}
-use Rattle.band.specs.Ranges.{SoundList}
-use Rattle.band.specs.Outcomes.{AllMeet, FirstWide, Faultless, Few, Report, Flat}
+use Rattle.records.specs.Ranges.{SoundList}
+use Rattle.passes.specs.Meeting.{AllMeet, FirstWide}
+use Rattle.band.specs.Outcomes.{Faultless, Few, Report, Flat}
 use Rattle.tree.proofs.Leaves.{all-leaves}
 use Rattle.tree.proofs.Covering.{some-end-covers, ends-end-to-end, neighbours-meet, in-order}
-use Rattle.band.proofs.Counting.{nodes-of-curves}
+use Rattle.passes.proofs.Counting.{nodes-of-curves}
 use Rattle.band.proofs.Depths.{end-depth, none-too-wide}
 use Rattle.tree.proofs.Failing.{none-passing}
-use Rattle.band.proofs.Wide.{none-wide}
+use Rattle.passes.proofs.Wide.{none-wide}
 use Rattle.band.proofs.Sound.{some-leaves, records-sound}
 use Rattle.band.proofs.Faults.{banded-curves, faultless-or}
 use Rattle.band.proofs.Answers.{written-refused}

@@ -1,35 +1,19 @@
 -- What banding answers, and what it leaves in the caller's list (document 01). The most curves that an outline may have is a parameter.
 use mathlib.Core.Bool.{true, false}
-use mathlib.Core.List.{List, [], _∷_, _++_}
-use mathlib.Core.Option.{Option, none, some}
-use Prim.Native.Nat.{ℕ, suc, _+_, _*_}
+use mathlib.Core.List.{List, _++_}
+use mathlib.Core.Option.{none, some}
+use Prim.Native.Nat.{ℕ, _*_}
 use lib.Dec.{ltb}
 use lib.ListN.{length, drop}
 use lib.IntN.{ℤ}
-use Rattle.refusals.specs.declared.Refusal.{Refusal}
 use Rattle.boxes.specs.Records.{recordLength}
-use Rattle.refusals.specs.declared.Refusal.the-variants.{Tolerance, TooWide, TooFewRecords}
+use Rattle.refusals.specs.declared.Refusal.the-variants.{Tolerance, TooFewRecords}
 use Rattle.bezier.specs.declared.Curve.{Curve}
 use Rattle.outline.specs.Checks.{toleranceFine, Outlined, curves, faulty, outlined}
 use Rattle.band.specs.declared.Banded.{Banded}
 use Rattle.band.specs.declared.Banded.the-variants.{Done, Refused}
-use Rattle.tree.specs.Tree.{met, firstFailing}
-use Rattle.tree.specs.Walked.{deepest, nodeMeets, endsOf}
-use Rattle.band.specs.Records.{allRecords}
-
--- ---- 7: the first node at the last depth, in the order of the walk, that does not meet T; of the curves numbered from k on
-unfoldable pub firstTooWide : ℤ → ℕ → List Curve → Option Refusal
-firstTooWide T k [] = none
-firstTooWide T k (c ∷ cs) = elim (firstFailing (nodeMeets T c) (endsOf T c)) [ some n ↦ some (TooWide k n) | none ↦ firstTooWide T (suc k) cs ]
-
--- ---- the report
-unfoldable pub leavesOf : ℤ → List Curve → ℕ
-leavesOf T [] = 0
-leavesOf T (c ∷ cs) = length (endsOf T c) + leavesOf T cs
-
-unfoldable pub nodesOf : ℤ → List Curve → ℕ
-nodesOf T [] = 0
-nodesOf T (c ∷ cs) = met (nodeMeets T c) deepest 1 + nodesOf T cs
+use Rattle.records.specs.Records.{allRecords}
+use Rattle.passes.specs.Leaves.{firstTooWide, leavesOf, nodesOf, curvesOf}
 
 -- ---- the answer, with `room` numbers lent: 7, then 8, then the report
 unfoldable pub bandCurves : ℤ → List Curve → ℕ → Banded
@@ -51,10 +35,6 @@ unfoldable pub banded : ℕ → ℤ → List ℤ → ℕ → Banded
 banded most T ns room = elim (toleranceFine T) [ false ↦ Refused Tolerance | true ↦ bandOutlined T (outlined most ns) room ]
 
 -- ---- the caller's list afterwards: the records in front of what stood behind them; a refusal alters nothing
-abbrev pub curvesOf : Outlined → List Curve
-curvesOf (curves cs) = cs
-curvesOf (faulty r) = []
-
 abbrev pub writtenBy : Banded → List ℤ → List ℤ → List ℤ
 writtenBy (Refused r) records old = old
 writtenBy (Done a b c) records old = records ++ drop (length records) old

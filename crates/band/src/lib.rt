@@ -5,19 +5,15 @@ ghost use lib.ListN.{length};
 ghost use lib.IntN.{pos};
 ghost use lib.Signed.{_≤ℤ_};
 ghost use Rattle.outline.specs.Checks.{outlineFrom};
-ghost use Rattle.band.specs.Records.{allRecords};
-ghost use Rattle.band.specs.Banding.{curvesOf, bandCurves, writtenBy, banded, written};
-ghost use Rattle.band.specs.Counted.{Readable};
-
-mod count;
-mod records;
-mod write;
-
-use count::Counted;
-use count::count;
+ghost use Rattle.records.specs.Records.{allRecords};
+ghost use Rattle.passes.specs.Leaves.{curvesOf};
+ghost use Rattle.band.specs.Banding.{bandCurves, writtenBy, banded, written};
+ghost use Rattle.passes.specs.Counted.{Readable};
 use outline::Checked;
+use passes::Counted;
+use passes::count;
+use passes::write_all;
 use refusals::Refusal;
-use write::write_all;
 
 // What banding answers: the report, or the first fault.
 pub enum Banded {

@@ -23,9 +23,9 @@ use Rattle.tree.specs.Leaves.{Covers}
 use Rattle.tree.specs.Walked.{nodeMeets}
 use Rattle.boxes.specs.declared.Box.{Box}
 use Rattle.boxes.specs.Records.{recordLength, boxIndex, boxAtIndex}
-use Rattle.band.specs.Records.{boxNumbers, recordOf}
-use Rattle.band.proofs.Sound.{record-box}
-use Rattle.band.proofs.Standing.{Stands}
+use Rattle.records.specs.Records.{boxNumbers, recordOf}
+use Rattle.records.proofs.Sound.{record-box}
+use Rattle.records.proofs.Standing.{Stands}
 use Rattle.judge.specs.Covers.{Holds}
 use Rattle.engine.proofs.Mixtures.{upP, upR, down-sum, point-mixed, mixed-near}
 

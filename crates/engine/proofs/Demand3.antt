@@ -21,12 +21,13 @@ use Rattle.outline.proofs.Accepted.{outlined-from, accepted-all}
 use Rattle.tree.specs.Walked.{deepest, nodeMeets}
 use Rattle.tree.proofs.Leaves.{end-facts}
 use Rattle.band.specs.declared.Banded.the-variants.{Done}
-use Rattle.band.specs.Records.{recordOf, allRecords}
+use Rattle.records.specs.Records.{recordOf, allRecords}
 use Rattle.band.specs.Banding.{banded, written}
-use Rattle.band.specs.Ranges.{SoundList}
-use Rattle.band.specs.Outcomes.{AllMeet, Faultless, Flat}
-use Rattle.band.proofs.Sound.{record-curve, record-node}
-use Rattle.band.proofs.Standing.{Found, every-end-stands, every-record-stands}
+use Rattle.records.specs.Ranges.{SoundList}
+use Rattle.passes.specs.Meeting.{AllMeet}
+use Rattle.band.specs.Outcomes.{Faultless, Flat}
+use Rattle.records.proofs.Sound.{record-curve, record-node}
+use Rattle.records.proofs.Standing.{Found, every-end-stands, every-record-stands}
 use Rattle.band.proofs.Theorems.{done-exactly, records-written, written-some, written-sound, leaves-exactly, every-parameter, leaf-at-most}
 use Rattle.judge.specs.declared.Judgement.{Judgement}
 use Rattle.judge.specs.declared.Judgement.the-variants.{On, Off, Refused}

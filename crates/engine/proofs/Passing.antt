@@ -22,8 +22,8 @@ use Rattle.bezier.proofs.Values.{value-high, value-low}
 use Rattle.boxes.specs.Ranges.{farthest, inRange, lowFine, boxNumberFine}
 use Rattle.boxes.specs.Records.{recordLength}
 use Rattle.boxes.proofs.Faults.{interval-low, interval-high}
-use Rattle.band.specs.Ranges.{SoundRecord, SoundList}
-use Rattle.band.proofs.Sound.{each-side}
+use Rattle.records.specs.Ranges.{SoundRecord, SoundList}
+use Rattle.records.proofs.Sound.{each-side}
 use Rattle.judge.specs.Judging.{lengthFine, numberFine, numberFault, pointFault, judgingFault}
 
 -- ---- 9

@@ -19,8 +19,9 @@ use Rattle.node_boxes.specs.Boxes.{boxAt, meets}
 use Rattle.outline.specs.Curves.{curveAt}
 use Rattle.outline.specs.Checks.{faultAt, outlineFrom, outlined}
 use Rattle.tree.specs.Tree.{ends, met, firstFailing}
-use Rattle.band.specs.Records.{recordOf, recordsOf, allRecords}
-use Rattle.band.specs.Banding.{firstTooWide, leavesOf, nodesOf, bandCurves, banded, written}
+use Rattle.records.specs.Records.{recordOf, recordsOf, allRecords}
+use Rattle.passes.specs.Leaves.{firstTooWide, leavesOf, nodesOf}
+use Rattle.band.specs.Banding.{bandCurves, banded, written}
 use Rattle.boxes.specs.declared.Box.{Box}
 use Rattle.cover.specs.Polygon.{reached, endsOf, pathPoint, moves, verticesOf, pathOf, vertices, numbers}
 use Rattle.cover.specs.Drawing.{drawn, drawnInto}

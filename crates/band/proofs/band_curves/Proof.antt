@@ -3,9 +3,9 @@ use mathlib.Core.Path.{_≡_, sym, _∙_}
 use native.Mathlib.Omega.{arith}
 use borrow.Author.Needs.{needs}
 use mir.Facts.{toZ-ofZ}
-use Rattle.band.specs.declared.count.Counted.the-variants.{Leaves}
-use Rattle.band.specs.Banding.{curvesOf}
-use Rattle.band.specs.Counted.{countedOf}
+use Rattle.passes.specs.declared.Counted.the-variants.{Leaves}
+use Rattle.passes.specs.Leaves.{curvesOf}
+use Rattle.passes.specs.Counted.{countedOf}
 use Rattle.outline.specs.Checks.{outlineFrom}
 use Rattle.band.proofs.Answers.{answer-too-wide, answer-few, answer-nodes, answer-too-few, answer-list, read-count, fillable, report-done}
 use Rattle.band.proofs.band_curves.Statement.{statement}
