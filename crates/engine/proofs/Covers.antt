@@ -27,7 +27,7 @@ use Rattle.records.specs.Records.{boxNumbers, recordOf}
 use Rattle.records.proofs.Sound.{record-box}
 use Rattle.records.proofs.Standing.{Stands}
 use Rattle.judge.specs.Covers.{Holds}
-use Rattle.engine.proofs.Mixtures.{upP, upR, down-sum, point-mixed, mixed-near}
+use Rattle.mixtures.proofs.Mixtures.{upP, upR, down-sum, point-mixed, mixed-near}
 
 -- one of the covers between these boxes holds the point
 pub record Held (box : ℕ → Box) (x y : ℤ) : Type 0 where

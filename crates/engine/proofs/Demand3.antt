@@ -35,7 +35,7 @@ use Rattle.judge.specs.Covers.{Holds, CoverHolds}
 use Rattle.judge.specs.Judging.{judgingFault, Verdict, Judged}
 use Rattle.engine.specs.Demand3.{CurveOf, IsOn, Somewhere, Shallow, Demand3}
 use Rattle.engine.proofs.Passing.{coordinate-fine, none-refused}
-use Rattle.engine.proofs.Mixtures.{upP, upR, up-some}
+use Rattle.mixtures.proofs.Mixtures.{upP, upR, up-some}
 use Rattle.engine.proofs.Covers.{nodeBox, box-there, point-held, held-near}
 
 -- ---- what an answer of judging says

@@ -1,6 +1,5 @@
 -- Demand 3 and the laws behind it, and the starred examples. Each file opens with what it holds.
 pub mod Passing
-pub mod Mixtures
 pub mod Covers
 pub mod Demand3
 pub mod Outcomes

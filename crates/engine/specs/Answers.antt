@@ -1,28 +1,17 @@
--- Answers in numbers, for the C interface: 0 and 0 and what was found, or a refusal's number and spot and nothing else.
+-- Outcomes in numbers, for the C interface, and what their numbers are of.
 use mathlib.Core.Path.{_≡_}
 use mathlib.Core.List.{List}
 use lib.IntN.{ℤ}
 use Rattle.refusals.specs.Refusals.{numberOf, spotOf}
 use Rattle.band.specs.declared.Banded.{Banded}
-use Rattle.band.specs.declared.Banded.the-variants.{Done, Refused}
 use Rattle.judge.specs.declared.Judgement.{Judgement}
-use Rattle.judge.specs.declared.Judgement.the-variants.{On, Off, Refused as PointRefused}
 use Rattle.judge.specs.Judging.{Judged}
+use Rattle.c_answers.specs.declared.JudgingAnswer.{JudgingAnswer}
+use Rattle.c_answers.specs.Answers.{judgingAnswerOf}
 use Rattle.engine.specs.declared.Outcome.{Outcome}
 use Rattle.engine.specs.declared.Outcome.the-variants.{NotBanded, Judged as WithJudgement}
-use Rattle.engine.specs.declared.Answer.{Answer}
-use Rattle.engine.specs.declared.JudgingAnswer.{JudgingAnswer}
 use Rattle.engine.specs.declared.OutcomeAnswer.{OutcomeAnswer}
 use Rattle.engine.specs.Outcomes.{Answered}
-
-abbrev pub answerOf : Banded → Answer
-answerOf (Done curves leaves nodes) = record { refusal = 0; spot = 0; curves = curves; leaves = leaves; nodes = nodes }
-answerOf (Refused r) = record { refusal = numberOf r; spot = spotOf r; curves = 0; leaves = 0; nodes = 0 }
-
-abbrev pub judgingAnswerOf : Judgement → JudgingAnswer
-judgingAnswerOf (On k i) = record { refusal = 0; spot = 0; on = 1; leaf = k; cover = i }
-judgingAnswerOf Off = record { refusal = 0; spot = 0; on = 0; leaf = 0; cover = 0 }
-judgingAnswerOf (PointRefused r) = record { refusal = numberOf r; spot = spotOf r; on = 0; leaf = 0; cover = 0 }
 
 -- the report beside the numbers of the judgement
 abbrev pub outcomeAnswerOf : Outcome → OutcomeAnswer

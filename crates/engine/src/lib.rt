@@ -3,12 +3,18 @@ ghost use mathlib.Core.Path.{_≡_};
 ghost use lib.ListN.{length};
 ghost use Rattle.band.specs.Banding.{banded, written};
 ghost use Rattle.cover.specs.Drawing.{drawn, drawnInto};
-ghost use Rattle.engine.specs.Drawings.{drawingOf};
+ghost use Rattle.c_answers.specs.Answers.{answerOf};
+ghost use Rattle.c_answers.specs.Drawings.{drawingOf};
 ghost use Rattle.engine.specs.Outcomes.{Answered};
-ghost use Rattle.engine.specs.Answers.{answerOf, judgingAnswerOf, outcomeAnswerOf, JudgedInNumbers, AnsweredInNumbers};
+ghost use Rattle.engine.specs.Answers.{outcomeAnswerOf, JudgedInNumbers, AnsweredInNumbers};
 use band::Banded;
 use boxes::Box;
-use cover::Drawn;
+use c_answers::Answer;
+use c_answers::Drawing;
+use c_answers::JudgingAnswer;
+use c_answers::drawing_in_numbers;
+use c_answers::in_numbers;
+use c_answers::judgement_in_numbers;
 use judge::Judgement;
 use refusals::Refusal;
 
@@ -52,16 +58,6 @@ pub fn band_and_judge(
     }
 }
 
-// What banding answers, in numbers: a refusal's number and spot, or 0 and 0 and the report.
-#[repr(C)]
-pub struct Answer {
-    pub refusal: u32,
-    pub spot: u64,
-    pub curves: u64,
-    pub leaves: u64,
-    pub nodes: u64,
-}
-
 // Puts a band round an outline at a tolerance in sixteenths, and writes the leaves' records to the front of the list.
 #[no_mangle]
 pub extern "C" fn contour_band(outline: &[i32], tolerance: i32, records: &mut [i32]) -> Answer
@@ -69,16 +65,6 @@ pub extern "C" fn contour_band(outline: &[i32], tolerance: i32, records: &mut [i
 {
     let banded = band::band(outline, tolerance, records);
     in_numbers(banded)
-}
-
-// What judging answers, in numbers: a refusal's number and spot, or 0 and 0 and whether the point is on, with the record and the cover that hold it.
-#[repr(C)]
-pub struct JudgingAnswer {
-    pub refusal: u32,
-    pub spot: u64,
-    pub on: u32,
-    pub leaf: u64,
-    pub cover: u64,
 }
 
 // Judges the point (x, y), in sixteenths, against a list of leaf records.
@@ -118,35 +104,6 @@ pub extern "C" fn contour_band_and_judge(
     outcome_in_numbers(outcome)
 }
 
-// The numbers of a judgement.
-fn judgement_in_numbers(judgement: Judgement) -> JudgingAnswer
-    ensures { λ r. ⌜ r ≡ judgingAnswerOf judgement ⌝ }
-{
-    match judgement {
-        Judgement::On { leaf, cover } => JudgingAnswer {
-            refusal: 0,
-            spot: 0,
-            on: 1,
-            leaf: leaf as u64,
-            cover: cover as u64,
-        },
-        Judgement::Off => JudgingAnswer {
-            refusal: 0,
-            spot: 0,
-            on: 0,
-            leaf: 0,
-            cover: 0,
-        },
-        Judgement::Refused(refusal) => JudgingAnswer {
-            refusal: refusal.number(),
-            spot: refusal.spot() as u64,
-            on: 0,
-            leaf: 0,
-            cover: 0,
-        },
-    }
-}
-
 // The numbers of an outcome.
 fn outcome_in_numbers(outcome: Outcome) -> OutcomeAnswer
     ensures { λ r. ⌜ r ≡ outcomeAnswerOf outcome ⌝ }
@@ -183,40 +140,6 @@ fn outcome_in_numbers(outcome: Outcome) -> OutcomeAnswer
     }
 }
 
-// The numbers of an answer.
-fn in_numbers(banded: Banded) -> Answer
-    ensures { λ r. ⌜ r ≡ answerOf banded ⌝ }
-{
-    match banded {
-        Banded::Done {
-            curves,
-            leaves,
-            nodes,
-        } => Answer {
-            refusal: 0,
-            spot: 0,
-            curves: curves as u64,
-            leaves: leaves as u64,
-            nodes: nodes as u64,
-        },
-        Banded::Refused(refusal) => Answer {
-            refusal: refusal.number(),
-            spot: refusal.spot() as u64,
-            curves: 0,
-            leaves: 0,
-            nodes: 0,
-        },
-    }
-}
-
-// What drawing answers, in numbers: a refusal's number and spot, or 0 and 0 and the count of vertices.
-#[repr(C)]
-pub struct Drawing {
-    pub refusal: u32,
-    pub spot: u64,
-    pub vertices: u64,
-}
-
 // Draws the convex hull of two boxes, and writes x and y of its vertices to the front of the list.
 #[no_mangle]
 pub extern "C" fn contour_draw(first: Box, second: Box, vertices: &mut [i32]) -> Drawing
@@ -224,22 +147,4 @@ pub extern "C" fn contour_draw(first: Box, second: Box, vertices: &mut [i32]) ->
 {
     let drawn = cover::draw(first, second, vertices);
     drawing_in_numbers(drawn)
-}
-
-// The numbers of a drawing's answer.
-fn drawing_in_numbers(drawn: Drawn) -> Drawing
-    ensures { λ r. ⌜ r ≡ drawingOf drawn ⌝ }
-{
-    match drawn {
-        Drawn::Vertices(count) => Drawing {
-            refusal: 0,
-            spot: 0,
-            vertices: count as u64,
-        },
-        Drawn::Refused(refusal) => Drawing {
-            refusal: refusal.number(),
-            spot: refusal.spot() as u64,
-            vertices: 0,
-        },
-    }
 }

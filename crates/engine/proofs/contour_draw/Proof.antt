@@ -1,7 +1,7 @@
 -- Drawing for programs in other languages.
 use mathlib.Core.Path.{_∙_, ap}
 use borrow.Author.Needs.{needs}
-use Rattle.engine.specs.Drawings.{drawingOf}
+use Rattle.c_answers.specs.Drawings.{drawingOf}
 use Rattle.engine.proofs.contour_draw.Statement.{statement}
 use Rattle.engine.proofs.contour_draw.Tie as tie
 

@@ -2,7 +2,7 @@
 use mathlib.Core.Path.{sym, _∙_, ap, ap₂}
 use borrow.Author.Needs.{needs}
 use Prim.Native.Nat.{ℕ}
-use Rattle.engine.specs.declared.JudgingAnswer.{JudgingAnswer}
+use Rattle.c_answers.specs.declared.JudgingAnswer.{JudgingAnswer}
 use Rattle.engine.specs.declared.OutcomeAnswer.{OutcomeAnswer}
 use Rattle.engine.specs.Answers.{outcomeAnswerOf}
 use Rattle.engine.proofs.outcome_in_numbers.Statement.{statement}

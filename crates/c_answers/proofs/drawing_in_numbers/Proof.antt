@@ -1,9 +1,9 @@
 -- The numbers of a drawing's answer.
 use mathlib.Core.Path.{sym, _∙_, ap, ap₂}
 use borrow.Author.Needs.{needs}
-use Rattle.engine.specs.Drawings.{drawingOf}
-use Rattle.engine.proofs.drawing_in_numbers.Statement.{statement}
-use Rattle.engine.proofs.drawing_in_numbers.Tie as tie
+use Rattle.c_answers.specs.Drawings.{drawingOf}
+use Rattle.c_answers.proofs.drawing_in_numbers.Statement.{statement}
+use Rattle.c_answers.proofs.drawing_in_numbers.Tie as tie
 
 enum-known-drawn : tie.Need-enum-known-drawn
 enum-known-drawn c = search needs

@@ -1,9 +1,9 @@
 -- The numbers of a judgement.
 use mathlib.Core.Path.{sym, _∙_, ap, ap₂}
 use borrow.Author.Needs.{needs}
-use Rattle.engine.specs.Answers.{judgingAnswerOf}
-use Rattle.engine.proofs.judgement_in_numbers.Statement.{statement}
-use Rattle.engine.proofs.judgement_in_numbers.Tie as tie
+use Rattle.c_answers.specs.Answers.{judgingAnswerOf}
+use Rattle.c_answers.proofs.judgement_in_numbers.Statement.{statement}
+use Rattle.c_answers.proofs.judgement_in_numbers.Tie as tie
 
 enum-known-judgement : tie.Need-enum-known-judgement
 enum-known-judgement c = search needs

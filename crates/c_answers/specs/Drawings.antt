@@ -2,7 +2,7 @@
 use Rattle.refusals.specs.Refusals.{numberOf, spotOf}
 use Rattle.cover.specs.declared.Drawn.{Drawn}
 use Rattle.cover.specs.declared.Drawn.the-variants.{Vertices, Refused}
-use Rattle.engine.specs.declared.Drawing.{Drawing}
+use Rattle.c_answers.specs.declared.Drawing.{Drawing}
 
 abbrev pub drawingOf : Drawn → Drawing
 drawingOf (Vertices count) = record { refusal = 0; spot = 0; vertices = count }

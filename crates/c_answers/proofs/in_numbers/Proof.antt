@@ -1,9 +1,9 @@
 -- The numbers of an answer.
 use mathlib.Core.Path.{sym, _∙_, ap, ap₂}
 use borrow.Author.Needs.{needs}
-use Rattle.engine.specs.Answers.{answerOf}
-use Rattle.engine.proofs.in_numbers.Statement.{statement}
-use Rattle.engine.proofs.in_numbers.Tie as tie
+use Rattle.c_answers.specs.Answers.{answerOf}
+use Rattle.c_answers.proofs.in_numbers.Statement.{statement}
+use Rattle.c_answers.proofs.in_numbers.Tie as tie
 
 enum-known-banded : tie.Need-enum-known-banded
 enum-known-banded c = search needs
