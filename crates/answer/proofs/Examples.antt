@@ -24,8 +24,9 @@ use Rattle.text.proofs.Examples.{listing}
 use Rattle.decimals.specs.Decimals.{digits, decimal, spaced, spacedNatural}
 use Rattle.render.specs.Answers.{doneLine, refusedLine}
 use Rattle.render.specs.Leaves.{fourNumbers, boxBytes, boxesBytes, leafLine, leafLines}
-use Rattle.judge.specs.Judging.{numberFault, judgingFault}
-use Rattle.judge.specs.Deciding.{held}
+use Rattle.leaf_list.specs.Checks.{numberFault}
+use Rattle.held.specs.Deciding.{held}
+use Rattle.judge.specs.Judging.{judgingFault}
 use Rattle.judge.specs.OnBand.{firstHolder}
 use Rattle.answer.specs.Bands.{bandLines}
 use Rattle.answer.specs.Points.{pointLine, pointLines}

@@ -8,7 +8,8 @@ use lib.ListN.{length}
 use lib.IntN.{ℤ}
 use Rattle.forms.specs.declared.Form.{Form}
 use Rattle.forms.specs.declared.Form.the-variants.{Tolerance, Curve, Point, NoForm}
-use Rattle.judge.specs.Judging.{lengthFine, numberFault, judgingFault}
+use Rattle.leaf_list.specs.Checks.{lengthFine, numberFault}
+use Rattle.judge.specs.Judging.{judgingFault}
 use Rattle.judge.specs.OnBand.{onBand}
 use Rattle.render.specs.Answers.{refusedLine, onLine, offLine}
 

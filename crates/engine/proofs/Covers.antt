@@ -26,7 +26,7 @@ use Rattle.boxes.specs.Records.{recordLength, boxIndex, boxAtIndex}
 use Rattle.records.specs.Records.{boxNumbers, recordOf}
 use Rattle.records.proofs.Sound.{record-box}
 use Rattle.records.proofs.Standing.{Stands}
-use Rattle.judge.specs.Covers.{Holds}
+use Rattle.held.specs.Covers.{Holds}
 use Rattle.mixtures.proofs.Mixtures.{upP, upR, down-sum, point-mixed, mixed-near}
 
 -- one of the covers between these boxes holds the point

@@ -24,7 +24,8 @@ use Rattle.boxes.specs.Records.{recordLength}
 use Rattle.boxes.proofs.Faults.{interval-low, interval-high}
 use Rattle.records.specs.Ranges.{SoundRecord, SoundList}
 use Rattle.records.proofs.Sound.{each-side}
-use Rattle.judge.specs.Judging.{lengthFine, numberFine, numberFault, pointFault, judgingFault}
+use Rattle.leaf_list.specs.Checks.{lengthFine, numberFine, numberFault}
+use Rattle.judge.specs.Judging.{pointFault, judgingFault}
 
 -- ---- 9
 pub length-fine : (n : ℕ) → 0 < n → n % recordLength ≡ 0 → lengthFine n ≡ true

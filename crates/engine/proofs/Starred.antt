@@ -25,12 +25,13 @@ use Rattle.band.specs.Banding.{bandCurves, banded, written}
 use Rattle.boxes.specs.declared.Box.{Box}
 use Rattle.cover.specs.Polygon.{reached, endsOf, pathPoint, moves, verticesOf, pathOf, vertices, numbers}
 use Rattle.cover.specs.Drawing.{drawn, drawnInto}
+use Rattle.leaf_list.specs.Checks.{numberFault}
+use Rattle.held.specs.Covers.{CoverHolds}
+use Rattle.held.specs.Deciding.{held}
+use Rattle.held.proofs.Deciding.{held-exactly}
 use Rattle.judge.specs.declared.Judgement.{Judgement}
 use Rattle.judge.specs.declared.Judgement.the-variants.{On, Off, Refused}
-use Rattle.judge.specs.Covers.{CoverHolds}
-use Rattle.judge.specs.Judging.{numberFault, judgingFault, Verdict, Judged}
-use Rattle.judge.specs.Deciding.{held}
-use Rattle.judge.proofs.Deciding.{held-exactly}
+use Rattle.judge.specs.Judging.{judgingFault, Verdict, Judged}
 use Rattle.engine.specs.Demand3.{IsOn}
 use Rattle.engine.specs.Starred.{box, A, Starred}
 

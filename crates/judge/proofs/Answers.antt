@@ -12,11 +12,12 @@ use Rattle.refusals.specs.declared.Refusal.the-variants.{LeafListLength, LeafLi
 use Rattle.boxes.specs.Ranges.{inRange, placeOr}
 use Rattle.boxes.specs.Records.{recordLength}
 use Rattle.boxes.proofs.Faults.{place-some, place-none}
+use Rattle.leaf_list.specs.Checks.{lengthFine, numberFault}
+use Rattle.leaf_list.proofs.Numbers.{inList}
 use Rattle.judge.specs.declared.Judgement.{Judgement}
 use Rattle.judge.specs.declared.Judgement.the-variants.{Refused}
-use Rattle.judge.specs.Judging.{lengthFine, numberFault, judgingFault, Verdict, Judged}
+use Rattle.judge.specs.Judging.{judgingFault, Verdict, Judged}
 use Rattle.judge.specs.Searching.{Passed}
-use Rattle.judge.proofs.Numbers.{inList}
 
 eqb-is : (a b : ℕ) → a ≡ b → eqb a b ≡ true
 eqb-is a b e = go (eqb a b) (subst (λ n. T (eqb a n)) e (eqb-refl a))

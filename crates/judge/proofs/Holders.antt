@@ -20,12 +20,14 @@ use Rattle.boxes.specs.declared.Box.{Box}
 use Rattle.boxes.specs.Ranges.{farthest, inRange, lowFine, boxNumberFine, placeOr}
 use Rattle.boxes.specs.Records.{covers, recordLength, boxIndex, boxAtIndex}
 use Rattle.boxes.proofs.Faults.{place-some, place-none}
+use Rattle.leaf_list.specs.Checks.{numberFault}
+use Rattle.leaf_list.specs.Parts.{fineAt, recordFaultAt}
+use Rattle.leaf_list.proofs.Numbers.{gone-on, found-first, inList}
+use Rattle.held.specs.Deciding.{BoxInRange, held}
+use Rattle.held.proofs.Deciding.{held-exactly}
 use Rattle.judge.specs.declared.Judgement.the-variants.{On, Off}
-use Rattle.judge.specs.Judging.{numberFault, Verdict}
-use Rattle.judge.specs.Deciding.{Sized, held}
-use Rattle.judge.specs.Searching.{fineAt, recordFaultAt, Passed, RecordAt, heldAt, holderAt}
-use Rattle.judge.proofs.Numbers.{gone-on, found-first, inList}
-use Rattle.judge.proofs.Deciding.{held-exactly}
+use Rattle.judge.specs.Judging.{Verdict}
+use Rattle.judge.specs.Searching.{Passed, RecordAt, heldAt, holderAt}
 
 pub range-size : (z : ℤ) → inRange z ≡ true → natAbs z ≤ farthest
 range-size z e = abs-within farthest z (between-low (negℤ (pos farthest)) (pos farthest) z e) (between-high (negℤ (pos farthest)) (pos farthest) z e)
@@ -51,8 +53,8 @@ module _ {most : ℕ} {ns : List ℤ} {at : ℕ} (r : RecordAt most ns at) where
       let m : 2 + q ≡ suc (suc q) = omega arith in
       rw m (range-size (entry ns (at + suc (suc q))) (number-range q (entry ns (at + suc (suc q))) (entry ns (at + suc (suc (suc q)))) (rw n at e)))
 
-  pub box-sized : (i : ℕ) → i ≤ covers → Sized (boxAtIndex ns (at + (2 + 4 * i)))
-  box-sized i h = record {
+  pub box-in-range : (i : ℕ) → i ≤ covers → BoxInRange (boxAtIndex ns (at + (2 + 4 * i)))
+  box-in-range i h = record {
     x-low = part 0 (omega arith) (omega arith);
     x-high = part 1 (omega arith) (omega arith);
     y-low = part 2 (omega arith) (omega arith);

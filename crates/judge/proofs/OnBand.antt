@@ -14,11 +14,12 @@ use Rattle.integers.proofs.First.{none-bad, bad-is, bad-below}
 use Rattle.boxes.specs.Records.{covers, recordLength, boxIndex, boxAtIndex}
 use Rattle.refusals.specs.declared.Refusal.{Refusal}
 use Rattle.refusals.specs.declared.Refusal.the-variants.{LeafListLength, LeafListNumber}
+use Rattle.leaf_list.specs.Checks.{lengthFine, numberFault}
+use Rattle.held.proofs.Deciding.{held-exactly}
 use Rattle.judge.specs.declared.Judgement.the-variants.{On, Off, Refused}
-use Rattle.judge.specs.Judging.{lengthFine, numberFault, pointFault, judgingFault, Verdict, Judged}
+use Rattle.judge.specs.Judging.{pointFault, judgingFault, Verdict, Judged}
 use Rattle.judge.specs.Searching.{heldAt}
 use Rattle.judge.specs.OnBand.{firstHolder, onBand}
-use Rattle.judge.proofs.Deciding.{held-exactly}
 
 module _ (ns : List ℤ) (x y : ℤ) (whole : length ns % recordLength ≡ 0) where
   abbrev missed : ℕ → Bool

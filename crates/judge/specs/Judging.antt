@@ -1,38 +1,20 @@
 -- The checks of a leaf list and a point in document 01's order ("Place of each check"), and what judging answers ("Judging"). The most curves that an outline
 -- may have is a parameter.
 use mathlib.Core.Path.{_≡_}
-use mathlib.Core.Bool.{Bool, true, false, not, _&&_}
+use mathlib.Core.Bool.{true, false}
 use mathlib.Core.List.{List}
 use mathlib.Core.Option.{Option, none, some}
-use Prim.Native.Nat.{ℕ, zero, suc, _*_, _%_, _<_}
-use lib.Dec.{eqb}
+use Prim.Native.Nat.{ℕ, _*_, _<_}
 use lib.ListN.{length}
-use lib.IntN.{ℤ, pos}
-use lib.Signed.{leZ, ltZ}
-use Rattle.integers.specs.Entry.{entry}
-use Rattle.integers.specs.Between.{between}
-use Rattle.integers.specs.First.{firstBad}
+use lib.IntN.{ℤ}
 use Rattle.refusals.specs.declared.Refusal.{Refusal}
 use Rattle.refusals.specs.declared.Refusal.the-variants.{LeafListLength, LeafListNumber, PointX, PointY}
-use Rattle.boxes.specs.Ranges.{inRange, boxNumberFine}
+use Rattle.boxes.specs.Ranges.{inRange}
 use Rattle.boxes.specs.Records.{covers, recordLength}
+use Rattle.leaf_list.specs.Checks.{lengthFine, numberFault}
+use Rattle.held.specs.Covers.{CoverHolds}
 use Rattle.judge.specs.declared.Judgement.{Judgement}
 use Rattle.judge.specs.declared.Judgement.the-variants.{On, Off, Refused}
-use Rattle.judge.specs.Covers.{CoverHolds}
-
--- ---- 9: the list is empty or its length is no multiple of a record's
-abbrev pub lengthFine : ℕ → Bool
-lengthFine n = not (eqb n 0) && eqb (n % recordLength) 0
-
--- ---- 10: the number z at place p of a record, in front of `next`: the curve is below `most`, the node is 1 to 511, and the rest are boxes
-abbrev pub numberFine : ℕ → ℕ → ℤ → ℤ → Bool
-numberFine most zero z next = leZ (pos 0) z && ltZ z (pos most)
-numberFine most (suc zero) z next = between (pos 1) (pos 511) z
-numberFine most (suc (suc p)) z next = boxNumberFine p z next
-
--- the index of the first bad number
-unfoldable pub numberFault : ℕ → List ℤ → Option ℕ
-numberFault most ns = firstBad (λ i. numberFine most (i % recordLength) (entry ns i) (entry ns (suc i))) (length ns) 0
 
 -- ---- 11: x, then y
 abbrev pub pointFault : ℤ → ℤ → Option Refusal

@@ -1,33 +1,17 @@
--- How the code goes through a leaf list: the first bad number of a record and of its boxes, and the first cover of a record that holds a point. For private
--- functions; places are counted from the index `at` where a record, or its boxes, begin.
+-- How the code searches a leaf list that has passed its checks: the first cover of a record that holds a point. For private functions; places are counted from the index `at` where a record begins.
 use mathlib.Core.Bool.{Bool, not}
 use mathlib.Core.List.{List}
-use mathlib.Core.Option.{Option}
+use mathlib.Core.Option.{Option, none}
 use mathlib.Core.Path.{_≡_}
 use Prim.Native.Nat.{ℕ, suc, _+_, _*_, _%_, _≤_}
 use lib.ListN.{length}
 use lib.IntN.{ℤ, natAbs}
-use Rattle.integers.specs.Entry.{entry}
 use Rattle.integers.specs.First.{firstBad}
-use Rattle.boxes.specs.Ranges.{farthest, boxNumberFine}
+use Rattle.boxes.specs.Ranges.{farthest}
 use Rattle.boxes.specs.Records.{covers, recordLength, boxAtIndex}
-use Rattle.judge.specs.Judging.{numberFine, numberFault}
-use Rattle.judge.specs.Deciding.{held}
-use mathlib.Core.Option.{none}
-
--- ---- check 10
-abbrev pub boxFineAt : List ℤ → ℕ → ℕ → Bool
-boxFineAt ns at p = boxNumberFine p (entry ns (at + p)) (entry ns (at + suc p))
-
--- among the first n numbers
-abbrev pub boxesFaultAt : List ℤ → ℕ → ℕ → Option ℕ
-boxesFaultAt ns at n = firstBad (boxFineAt ns at) n 0
-
-abbrev pub fineAt : ℕ → List ℤ → ℕ → ℕ → Bool
-fineAt most ns at p = numberFine most p (entry ns (at + p)) (entry ns (at + suc p))
-
-unfoldable pub recordFaultAt : ℕ → List ℤ → ℕ → Option ℕ
-recordFaultAt most ns at = firstBad (fineAt most ns at) recordLength 0
+use Rattle.leaf_list.specs.Checks.{numberFault}
+use Rattle.leaf_list.specs.Parts.{recordFaultAt}
+use Rattle.held.specs.Deciding.{held}
 
 -- ---- a list that passes checks 9 and 10, and a point that passes 11
 pub record Passed (most : ℕ) (ns : List ℤ) : Type 0 where

@@ -6,8 +6,8 @@ ghost use Rattle.boxes.specs.Ranges.{placeOr};
 ghost use Rattle.judge.specs.Judging.{Verdict};
 ghost use Rattle.judge.specs.Searching.{Passed, InRange, RecordAt, holderAt};
 use crate::Judgement;
-use crate::checks::box_in;
-use crate::covers::holds;
+use held::holds;
+use leaf_list::box_in;
 
 // The first cover of the record that begins at index `at` that holds the point (x, y), or 3.
 fn cover_of(leaves: &[i32], at: usize, x: i64, y: i64) -> usize

@@ -1,8 +1,6 @@
 // Judging: whether a point lies on the band that a leaf list describes.
 ghost use Rattle.judge.specs.Judging.{Judged};
 
-mod checks;
-mod covers;
 mod holder;
 
 use refusals::Refusal;
@@ -24,7 +22,7 @@ pub fn judge(leaves: &[i32], x: i32, y: i32) -> Judgement
     if leaves.len() % 18 != 0 {
         return Judgement::Refused(Refusal::LeafListLength(leaves.len()));
     }
-    let bad = checks::number_fault(leaves);
+    let bad = leaf_list::number_fault(leaves);
     if bad < leaves.len() {
         return Judgement::Refused(Refusal::LeafListNumber(bad));
     }

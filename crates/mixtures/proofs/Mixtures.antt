@@ -21,7 +21,7 @@ use Rattle.enclosure.specs.Thirds.{lowOf, highOf}
 use Rattle.enclosure.specs.Enclosed.{Place, Encloses}
 use Rattle.enclosure.proofs.Places.{Located, place-at}
 use Rattle.enclosure.proofs.Enclosure.{enclosure, enclosure-between}
-use Rattle.judge.specs.Covers.{Mixed}
+use Rattle.held.specs.Covers.{Mixed}
 
 -- ---- a power of a product
 pow-times : (a b : ℤ) (d : ℕ) → pow (a *ℤ b) d ≡ pow a d *ℤ pow b d

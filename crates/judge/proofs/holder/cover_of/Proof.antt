@@ -7,8 +7,8 @@ use mir.Syntax.{w64}
 use mir.Val.{toZ}
 use mir.Facts.{toZ-ofZ}
 use Rattle.boxes.specs.Records.{boxAtIndex}
-use Rattle.judge.specs.Deciding.{Sized}
-use Rattle.judge.proofs.Holders.{held-is, Missed, missed-none, missed-more, cover-found, all-missed, box-sized}
+use Rattle.held.specs.Deciding.{BoxInRange}
+use Rattle.judge.proofs.Holders.{held-is, Missed, missed-none, missed-more, cover-found, all-missed, box-in-range}
 use Rattle.judge.proofs.holder.cover_of.Statement.{statement}
 use Rattle.judge.proofs.holder.cover_of.Tie as tie
 
@@ -53,8 +53,8 @@ holds-requires c κs =
     let h = c .before .before .loop-test .taken in
     let i = l .loop .i in
     let n : a .at + (2 + 4 * (i + 1)) ≡ a .at + (6 + 4 * i) = omega arith in (
-      rw (c .before .box-in .ensures) (box-sized (s .pre .0) i (omega arith)),
-      rw (c .box-in2 .ensures) (subst (λ k. Sized (boxAtIndex (a .leaves .now) k)) n (box-sized (s .pre .0) (i + 1) (omega arith))),
+      rw (c .before .box-in .ensures) (box-in-range (s .pre .0) i (omega arith)),
+      rw (c .box-in2 .ensures) (subst (λ k. BoxInRange (boxAtIndex (a .leaves .now) k)) n (box-in-range (s .pre .0) (i + 1) (omega arith))),
       rw (toZ-ofZ (s .fits .x)) (s .pre .1 .in-x),
       rw (toZ-ofZ (s .fits .y)) (s .pre .1 .in-y),
     )

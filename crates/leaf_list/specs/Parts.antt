@@ -1,0 +1,24 @@
+-- How the code goes through a leaf list: the first bad number of a record and of its boxes. For private functions; places are counted from the index `at` where a record, or its boxes, begin.
+use mathlib.Core.Bool.{Bool}
+use mathlib.Core.List.{List}
+use mathlib.Core.Option.{Option}
+use Prim.Native.Nat.{ℕ, suc, _+_}
+use lib.IntN.{ℤ}
+use Rattle.integers.specs.Entry.{entry}
+use Rattle.integers.specs.First.{firstBad}
+use Rattle.boxes.specs.Ranges.{boxNumberFine}
+use Rattle.boxes.specs.Records.{recordLength}
+use Rattle.leaf_list.specs.Checks.{numberFine}
+
+abbrev pub boxFineAt : List ℤ → ℕ → ℕ → Bool
+boxFineAt ns at p = boxNumberFine p (entry ns (at + p)) (entry ns (at + suc p))
+
+-- among the first n numbers
+abbrev pub boxesFaultAt : List ℤ → ℕ → ℕ → Option ℕ
+boxesFaultAt ns at n = firstBad (boxFineAt ns at) n 0
+
+abbrev pub fineAt : ℕ → List ℤ → ℕ → ℕ → Bool
+fineAt most ns at p = numberFine most p (entry ns (at + p)) (entry ns (at + suc p))
+
+unfoldable pub recordFaultAt : ℕ → List ℤ → ℕ → Option ℕ
+recordFaultAt most ns at = firstBad (fineAt most ns at) recordLength 0
