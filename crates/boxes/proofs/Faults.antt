@@ -1,17 +1,14 @@
 -- The first bad number of a box, test by test; of two boxes, the first's before the second's; and that a box without fault is two intervals in range.
-use mathlib.Core.Path.{_≡_, refl, sym, _∙_, ap}
-use mathlib.Core.Bool.{Bool, true, false, not, _&&_}
+use mathlib.Core.Path.{_≡_, refl, sym, _∙_}
+use mathlib.Core.Bool.{Bool, true, false, _&&_}
 use mathlib.Core.Option.{Option, none, some}
 use Prim.Native.Nat.{ℕ, suc, _+_, _≤_, _<_}
 use native.Mathlib.Omega.{arith}
 use lib.IntN.{ℤ, pos, negℤ}
-use lib.Signed.{leZ, ltZ, _≤ℤ_}
-use mir.Syntax.{w32}
-use mir.Val.{SFits}
-use mir.Facts.{toZ-ofZ}
+use lib.Signed.{leZ, _≤ℤ_}
 use Rattle.integers.specs.Entry.{entry}
 use Rattle.integers.specs.First.{firstBad}
-use Rattle.integers.proofs.Ranges.{stored, le-yes, yes-le, no-le, lt-yes, lt-no}
+use Rattle.integers.proofs.Ranges.{le-yes, yes-le}
 use Rattle.integers.proofs.Clash.{clash}
 use Rattle.integers.proofs.Order.{≤ℤ-trans}
 use Rattle.integers.proofs.Between.{between-low, between-high}
@@ -89,43 +86,21 @@ module _ {low high : ℤ} where
       let f : negℤ (pos farthest) ≤ℤ high = ≤ℤ-trans (i .from) (i .order) in
       rw (yes-le f, yes-le (i .to))
 
--- ---- what the three comparisons of a side say
-against : (a b : ℤ) (t : Bool) → ltZ b a ≡ t → leZ a b ≡ not t
-against a b true e = no-le (lt-yes {a = b} {b = a} e)
-against a b false e = yes-le (lt-no {a = b} {b = a} e)
-
-and-false : (b : Bool) → (b && false) ≡ false
-and-false true = refl
-and-false false = refl
-
-module _ {low high : ℤ} (fl : SFits w32 low) (fh : SFits w32 high) where
-  from : (t : Bool) → ltZ (stored w32 low) (negℤ (pos farthest)) ≡ t → leZ (negℤ (pos farthest)) low ≡ not t
-  from t e = against (negℤ (pos farthest)) low t (rw (toZ-ofZ fl) at e)
-
-  order : (t : Bool) → ltZ (stored w32 high) (stored w32 low) ≡ t → leZ low high ≡ not t
-  order t e = against low high t (rw (toZ-ofZ fl, toZ-ofZ fh) at e)
-
-  pub side-below : ltZ (stored w32 low) (negℤ (pos farthest)) ≡ true → false ≡ sideFine low high
-  side-below e = sym (rw (from true e))
-
-  pub side-turned : ltZ (stored w32 high) (stored w32 low) ≡ true → false ≡ sideFine low high
-  side-turned e = sym (ap (λ b. b && leZ high (pos farthest)) (ap (λ b. leZ (negℤ (pos farthest)) low && b) (order true e) ∙ and-false (leZ (negℤ (pos farthest)) low)))
-
-  pub side-last : ltZ (stored w32 low) (negℤ (pos farthest)) ≡ false → ltZ (stored w32 high) (stored w32 low) ≡ false → leZ (stored w32 high) (pos farthest) ≡ sideFine low high
-  side-last e f = rw (toZ-ofZ fh, from false e, order false f)
-
--- ---- two sides that are fine at once
-module _ (low high : ℤ) (e : sideFine low high ≡ true) where
-  side : Interval low high
-  side =
+-- ---- the three comparisons of a side say exactly that it is an interval in range
+module _ (low high : ℤ) where
+  pub side-interval : sideFine low high ≡ true → Interval low high
+  side-interval e =
       let a = both (leZ (negℤ (pos farthest)) low && leZ low high) (leZ high (pos farthest)) e in
       let b = both (leZ (negℤ (pos farthest)) low) (leZ low high) (a .0) in
       record { from = le-yes (b .0); order = le-yes (b .1); to = le-yes (a .1) }
 
+  pub interval-side : Interval low high → sideFine low high ≡ true
+  interval-side i = rw (yes-le (i .from), yes-le (i .order), yes-le (i .to))
+
 pub sides-fine : (b : Box) → sideFine (b .«x_low») (b .«x_high») ≡ true → sideFine (b .«y_low») (b .«y_high») ≡ true → 4 ≡ placeOr 4 (boxFault b)
 sides-fine b e f =
-    let x = side (b .«x_low») (b .«x_high») e in
-    let y = side (b .«y_low») (b .«y_high») f in
+    let x = side-interval (b .«x_low») (b .«x_high») e in
+    let y = side-interval (b .«y_low») (b .«y_high») f in
     all-fine b (interval-low x) (interval-high x) (interval-low y) (interval-high y)
 
 -- ---- a place that is below the end is one that was found, and one at the end says that there is none

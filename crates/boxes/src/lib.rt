@@ -31,17 +31,11 @@ fn low_fine(low: i32, high: i32) -> bool
     low <= high
 }
 
-// Whether a low and a high are fine, by three comparisons.
-fn side_fine(low: i32, high: i32) -> bool
+// Whether a low and a high are fine, by three comparisons and no branch. Every two numbers may be asked about.
+pub fn side_fine(low: i32, high: i32) -> bool
     ensures { λ r. ⌜ r ≡ sideFine low high ⌝ }
 {
-    if low < -536870912 {
-        return false;
-    }
-    if high < low {
-        return false;
-    }
-    high <= 536870912
+    (-536870912 <= low) & (low <= high) & (high <= 536870912)
 }
 
 impl Box {

@@ -2,3 +2,4 @@
 pub mod Holders
 pub mod Answers
 pub mod OnBand
+pub mod Apart

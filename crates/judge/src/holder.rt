@@ -1,16 +1,16 @@
 // The first cover of a leaf list that holds a point.
 ghost use mathlib.Core.Path.{_≡_};
 ghost use mathlib.Core.Option.{none};
-ghost use Prim.Native.Nat.{_≤_};
 ghost use Rattle.boxes.specs.Ranges.{placeOr};
 ghost use Rattle.judge.specs.Judging.{Verdict};
 ghost use Rattle.judge.specs.Searching.{Passed, InRange, RecordAt, holderAt};
 use crate::Judgement;
+use crate::beyond::beyond;
 use held::holds;
 use leaf_list::box_in;
 
 // The first cover of the record that begins at index `at` that holds the point (x, y), or 3.
-fn cover_of(leaves: &[i32], at: usize, x: i64, y: i64) -> usize
+fn first_cover(leaves: &[i32], at: usize, x: i64, y: i64) -> usize
     requires { ⌜ (RecordAt 64 (now leaves) at) × (InRange x y) ⌝ }
     ensures { λ r. ⌜ r ≡ placeOr 3 (holderAt (now (leaves .entry)) x y at) ⌝ }
 {
@@ -24,6 +24,20 @@ fn cover_of(leaves: &[i32], at: usize, x: i64, y: i64) -> usize
         i += 1;
     }
     3
+}
+
+// The same. A point beyond all boxes of the record on one side is turned away first.
+fn cover_of(leaves: &[i32], at: usize, x: i64, y: i64) -> usize
+    requires { ⌜ (RecordAt 64 (now leaves) at) × (InRange x y) ⌝ }
+    ensures { λ r. ⌜ r ≡ placeOr 3 (holderAt (now (leaves .entry)) x y at) ⌝ }
+{
+    if beyond(leaves, at + 2, x) {
+        return 3;
+    }
+    if beyond(leaves, at + 4, y) {
+        return 3;
+    }
+    first_cover(leaves, at, x, y)
 }
 
 // The first record and cover that hold the point (x, y), or off.

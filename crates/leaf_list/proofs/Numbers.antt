@@ -1,9 +1,11 @@
 -- Check 10, box by box and record by record: the search for the first bad number in parts.
-use mathlib.Core.Path.{_≡_, refl, sym, _∙_, ap}
+use mathlib.Core.Path.{_≡_, refl, sym, _∙_, ap, subst}
 use mathlib.Core.Bool.{Bool, true, false, not, _&&_}
+use mathlib.Core.Logic.{⊎-elim}
 use mathlib.Core.List.{List}
 use mathlib.Core.Option.{Option, none, some}
-use Prim.Native.Nat.{ℕ, zero, suc, _+_, _*_, _-_, _%_, _≤_, _<_}
+use Prim.Native.Nat.{ℕ, zero, suc, _+_, _*_, _-_, _/_, _%_, _≤_, _<_}
+use native.Mathlib.Nat.{zero-add, eq-or-lt-of-le, le-of-suc-le-suc}
 use native.Mathlib.Omega.{arith}
 use lib.ListN.{length}
 use lib.IntN.{ℤ, pos}
@@ -14,12 +16,14 @@ use mir.Facts.{toZ-ofZ}
 use Rattle.integers.specs.Entry.{entry}
 use Rattle.integers.specs.First.{firstBad}
 use Rattle.integers.proofs.Ranges.{stored, lt-yes, lt-no, le-yes, le-no, yes-lt, no-lt, yes-le, no-le}
-use Rattle.integers.proofs.First.{orElse, moved, bad-parts, bad-moved}
-use Rattle.boxes.specs.Ranges.{lowFine, inRange, boxNumberFine, numbersOf, boxFault, placeOr}
+use Rattle.integers.proofs.Clash.{clash}
+use Rattle.integers.proofs.Order.{lt-or-ge}
+use Rattle.integers.proofs.First.{orElse, moved, bad-parts, bad-moved, none-bad, bad-none}
+use Rattle.boxes.specs.Ranges.{lowFine, inRange, sideFine, boxNumberFine, numbersOf, boxFault, placeOr}
 use Rattle.boxes.specs.Records.{recordLength, boxAtIndex}
-use Rattle.boxes.proofs.Faults.{fault-at, place-some, place-none, box-none}
+use Rattle.boxes.proofs.Faults.{fault-at, place-some, place-none, box-none, interval, interval-low, interval-high, side-interval, interval-side}
 use Rattle.leaf_list.specs.Checks.{numberFine, numberFault}
-use Rattle.leaf_list.specs.Parts.{boxFineAt, boxesFaultAt, fineAt, recordFaultAt}
+use Rattle.leaf_list.specs.Parts.{boxFineAt, boxesFaultAt, fineAt, recordFaultAt, sidesFine, recordFine}
 
 -- ---- a search that found nothing among the first a places goes on with the next b
 module _ (fine : ℕ → Bool) (a b : ℕ) (e : firstBad fine a 0 ≡ none) where
@@ -104,6 +108,13 @@ module _ (most : ℕ) (ns : List ℤ) (at : ℕ) where
   abbrev number : ℕ → Bool
   number = fineAt most ns at
 
+  box-number : (k : ℕ) → k < 16 → number (2 + k) ≡ boxFineAt ns (at + 2) k
+  box-number k h =
+      let e : 2 + k ≡ suc (suc k) = omega arith in
+      let f : at + suc (suc k) ≡ at + 2 + k = omega arith in
+      let g : at + suc (suc (suc k)) ≡ at + 2 + suc k = omega arith in
+      rw (e, f, g)
+
   pub curve-bad : number 0 ≡ false → 0 ≡ placeOr recordLength (recordFaultAt most ns at)
   unfolding recordFaultAt firstBad
   curve-bad e = rw (recordFaultAt, firstBad, e)
@@ -126,15 +137,65 @@ module _ (most : ℕ) (ns : List ℤ) (at : ℕ) where
       shifted (some p) = refl
       shifted none = refl
 
-      box-number : (k : ℕ) → k < 16 → number (2 + k) ≡ boxFineAt ns (at + 2) k
-      box-number k h =
-          let e : 2 + k ≡ suc (suc k) = omega arith in
-          let f : at + suc (suc k) ≡ at + 2 + k = omega arith in
-          let g : at + suc (suc (suc k)) ≡ at + 2 + suc k = omega arith in
-          rw (e, f, g)
-
       pub boxes-next : 2 + placeOr 16 (boxesFaultAt ns (at + 2) 16) ≡ placeOr recordLength (recordFaultAt most ns at)
       boxes-next = sym (ap (placeOr 18) (after-curve ∙ after-node ∙ bad-moved number 2 (boxFineAt ns (at + 2)) 16 box-number) ∙ shifted (boxesFaultAt ns (at + 2) 16))
+
+-- ---- a record at once
+both : (a b : Bool) → (a && b) ≡ true → (a ≡ true) × (b ≡ true)
+both true b e = (refl, e)
+both false b e = clash (cc)
+
+module _ (ns : List ℤ) (at : ℕ) where
+  abbrev side : ℕ → Bool
+  side i = sideFine (entry ns (at + 2 * i)) (entry ns (at + suc (2 * i)))
+
+  each-side : (n : ℕ) → sidesFine ns at n ≡ true → (i : ℕ) → i < n → side i ≡ true
+  each-side zero e i h = absurd (omega arith)
+  each-side (suc n) e i h = let s = both (sidesFine ns at n) (side n) e in ⊎-elim (λ f. rw f (s .1)) (each-side n (s .0) i) (eq-or-lt-of-le (le-of-suc-le-suc h))
+
+  all-sides : (n : ℕ) → ((i : ℕ) → i < n → side i ≡ true) → sidesFine ns at n ≡ true
+  all-sides zero f = refl
+  all-sides (suc n) f = rw (all-sides n (λ i h. f i (omega arith)), f n (omega arith))
+
+  -- side i is at places 2i and 2i + 1
+  even : (i : ℕ) → boxFineAt ns at (2 * i) ≡ lowFine (entry ns (at + 2 * i)) (entry ns (at + suc (2 * i)))
+  even i = low ns (2 * i) (at + 2 * i) (at + 2 * i) (at + suc (2 * i)) (at + suc (2 * i)) (omega arith) refl refl
+
+  odd : (i : ℕ) → boxFineAt ns at (suc (2 * i)) ≡ inRange (entry ns (at + suc (2 * i)))
+  odd i = high ns (suc (2 * i)) (at + suc (2 * i)) (at + suc (2 * i)) (at + suc (suc (2 * i))) (omega arith) refl
+
+  sides-boxes : sidesFine ns at 8 ≡ true → (k : ℕ) → k < 16 → boxFineAt ns at k ≡ true
+  sides-boxes e k h =
+      let i = k / 2 in
+      let s = side-interval (entry ns (at + 2 * i)) (entry ns (at + suc (2 * i))) (each-side 8 e i (omega arith)) in
+      ⊎-elim
+      (λ l. subst (λ p. boxFineAt ns at p ≡ true) {x = 2 * i} {y = k} (omega arith) (even i ∙ interval-low s))
+      (λ l. subst (λ p. boxFineAt ns at p ≡ true) {x = suc (2 * i)} {y = k} (omega arith) (odd i ∙ interval-high s))
+      (lt-or-ge (k % 2) 1)
+
+  boxes-sides : ((k : ℕ) → k < 16 → boxFineAt ns at k ≡ true) → sidesFine ns at 8 ≡ true
+  boxes-sides f = all-sides 8 (λ i h.
+      interval-side (entry ns (at + 2 * i)) (entry ns (at + suc (2 * i)))
+      (interval (sym (even i) ∙ f (2 * i) (omega arith)) (sym (odd i) ∙ f (suc (2 * i)) (omega arith))))
+
+module _ (most : ℕ) (ns : List ℤ) (at : ℕ) where
+  pub record-fine : recordFine most ns at ≡ true → recordLength ≤ placeOr recordLength (recordFaultAt most ns at)
+  record-fine e =
+      let a = both (fineAt most ns at 0 && fineAt most ns at 1) (sidesFine ns (at + 2) 8) e in
+      let b = both (fineAt most ns at 0) (fineAt most ns at 1) (a .0) in
+      let f = bad-none (boxFineAt ns (at + 2)) 16 0 (λ k h. rw zero-add (sides-boxes ns (at + 2) (a .1) k h)) in
+      let g = boxes-next most ns at (b .0) (b .1) in
+      omega (arith, g, ap (placeOr 16) f)
+
+  pub record-unfine : recordFine most ns at ≡ false → placeOr recordLength (recordFaultAt most ns at) < recordLength
+  unfolding recordFaultAt
+  record-unfine e = ⊎-elim (λ l. l) (λ l. clash (cc (e, fine (place-none (fineAt most ns at) recordLength l))))
+      (lt-or-ge (placeOr recordLength (recordFaultAt most ns at)) recordLength)
+    where
+      fine : firstBad (fineAt most ns at) recordLength 0 ≡ none → recordFine most ns at ≡ true
+      fine n =
+          let each : (k : ℕ) → k < recordLength → fineAt most ns at k ≡ true = λ k h. rw (zero-add k) at (none-bad (fineAt most ns at) recordLength 0 n k h) in
+          rw (each 0 (omega arith), each 1 (omega arith)) (boxes-sides ns (at + 2) (λ k h. sym (box-number most ns at k h) ∙ each (2 + k) (omega arith)))
 
 -- ---- a list of records
 module _ (most : ℕ) (ns : List ℤ) where

@@ -5,8 +5,9 @@ ghost use lib.ListN.{length};
 ghost use Rattle.boxes.specs.Ranges.{placeOr};
 ghost use Rattle.boxes.specs.Records.{boxAtIndex};
 ghost use Rattle.leaf_list.specs.Checks.{numberFault};
-ghost use Rattle.leaf_list.specs.Parts.{boxesFaultAt, recordFaultAt};
+ghost use Rattle.leaf_list.specs.Parts.{boxesFaultAt, recordFaultAt, sidesFine, recordFine};
 use boxes::Box;
+use boxes::side_fine;
 
 // The box whose four numbers begin at index `at`.
 pub fn box_in(leaves: &[i32], at: usize) -> Box
@@ -63,16 +64,43 @@ fn record_fault(leaves: &[i32], at: usize) -> usize
     2 + boxes_fault(leaves, at + 2)
 }
 
-// The index of the first bad number of a list of whole records, or the list's length.
+// Whether the eight sides of the four boxes from index `at` on are all fine. Nothing here branches.
+fn sides_fine(leaves: &[i32], at: usize) -> bool
+    requires { ⌜ at + 16 ≤ length (now leaves) ⌝ }
+    ensures { λ r. ⌜ r ≡ sidesFine (now (leaves .entry)) at 8 ⌝ }
+{
+    let mut fine = true;
+    let mut i: usize = 0;
+    while i < 8 {
+        let low = leaves[at + 2 * i];
+        let high = leaves[at + (2 * i + 1)];
+        fine = fine & side_fine(low, high);
+        i += 1;
+    }
+    fine
+}
+
+// Whether every number of the record that begins at index `at` is fine. Nothing here branches.
+fn record_fine(leaves: &[i32], at: usize) -> bool
+    requires { ⌜ at + 18 ≤ length (now leaves) ⌝ }
+    ensures { λ r. ⌜ r ≡ recordFine 64 (now (leaves .entry)) at ⌝ }
+{
+    let curve = leaves[at];
+    let node = leaves[at + 1];
+    let curve_fine = (0 <= curve) & (curve < 64);
+    let node_fine = (1 <= node) & (node <= 511);
+    curve_fine & node_fine & sides_fine(leaves, at + 2)
+}
+
+// The index of the first bad number of a list of whole records, or the list's length. The numbers of a record are looked at one by one only where one is bad.
 pub fn number_fault(leaves: &[i32]) -> usize
     requires { ⌜ length (now leaves) % 18 ≡ 0 ⌝ }
     ensures { λ r. ⌜ r ≡ placeOr (length (now (leaves .entry))) (numberFault 64 (now (leaves .entry))) ⌝ }
 {
     let mut at: usize = 0;
     while at < leaves.len() {
-        let place = record_fault(leaves, at);
-        if place < 18 {
-            return at + place;
+        if !record_fine(leaves, at) {
+            return at + record_fault(leaves, at);
         }
         at += 18;
     }
