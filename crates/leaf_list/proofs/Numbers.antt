@@ -23,7 +23,7 @@ use Rattle.boxes.specs.Ranges.{lowFine, inRange, sideFine, boxNumberFine, numbe
 use Rattle.boxes.specs.Records.{recordLength, boxAtIndex}
 use Rattle.boxes.proofs.Faults.{fault-at, place-some, place-none, box-none, interval, interval-low, interval-high, side-interval, interval-side}
 use Rattle.leaf_list.specs.Checks.{numberFine, numberFault}
-use Rattle.leaf_list.specs.Parts.{boxFineAt, boxesFaultAt, fineAt, recordFaultAt, sidesFine, recordFine}
+use Rattle.leaf_list.specs.Parts.{boxFineAt, boxesFaultAt, fineAt, recordFaultAt, sidesFine, recordFine, noFault}
 
 -- ---- a search that found nothing among the first a places goes on with the next b
 module _ (fine : ℕ → Bool) (a b : ℕ) (e : firstBad fine a 0 ≡ none) where
@@ -198,6 +198,10 @@ module _ (most : ℕ) (ns : List ℤ) (at : ℕ) where
           rw (each 0 (omega arith), each 1 (omega arith)) (boxes-sides ns (at + 2) (λ k h. sym (box-number most ns at k h) ∙ each (2 + k) (omega arith)))
 
 -- ---- a list of records
+-- where whole records are left, there is one more
+pub record-left : {at n : ℕ} → at % recordLength ≡ 0 → n % recordLength ≡ 0 → at < n → at + recordLength ≤ n
+record-left e f h = omega arith
+
 module _ (most : ℕ) (ns : List ℤ) where
   abbrev pub inList : ℕ → Bool
   inList i = numberFine most (i % recordLength) (entry ns i) (entry ns (suc i))
@@ -246,9 +250,26 @@ module _ (most : ℕ) (ns : List ℤ) where
         let n : length ns ≡ at + recordLength + (length ns - (at + recordLength)) = omega arith in
         sym (ap (λ m. placeOr (length ns) (firstBad inList m 0)) n ∙ ap (placeOr (length ns)) g)
 
-  pub read-all : (at : ℕ) → ReadTo at → length ns ≤ at → length ns ≡ placeOr (length ns) (numberFault most ns)
+  read-whole : (at : ℕ) → ReadTo at → length ns ≤ at → numberFault most ns ≡ none
   unfolding numberFault
-  read-all at r l =
+  read-whole at r l =
       let i = r .inside in
       let e : at ≡ length ns = omega arith in
-      sym (ap (placeOr (length ns)) (rw e at (r .fine)))
+      rw e at (r .fine)
+
+  pub read-all : (at : ℕ) → ReadTo at → length ns ≤ at → length ns ≡ placeOr (length ns) (numberFault most ns)
+  read-all at r l = sym (ap (placeOr (length ns)) (read-whole at r l))
+
+  -- ---- whether there is a fault
+  pub list-fine : (at : ℕ) → ReadTo at → length ns ≤ at → true ≡ noFault (numberFault most ns)
+  list-fine at r l = sym (ap noFault (read-whole at r l))
+
+  pub list-bad : (at : ℕ) → ReadTo at → at + recordLength ≤ length ns → placeOr recordLength (recordFaultAt most ns at) < recordLength
+      → false ≡ noFault (numberFault most ns)
+  list-bad at r h l =
+      let e = record-bad at r h l in
+      sym (ap noFault (place-some (length ns) (numberFault most ns) (omega (arith, e))))
+
+pub no-fault : (n : ℕ) (o : Option ℕ) → noFault o ≡ true → n ≡ placeOr n o
+no-fault n none e = refl
+no-fault n (some i) e = clash (cc)

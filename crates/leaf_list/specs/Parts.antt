@@ -1,7 +1,7 @@
 -- How the code goes through a leaf list: the first bad number of a record and of its boxes. For private functions; places are counted from the index `at` where a record, or its boxes, begin.
-use mathlib.Core.Bool.{Bool, true, _&&_}
+use mathlib.Core.Bool.{Bool, true, false, _&&_}
 use mathlib.Core.List.{List}
-use mathlib.Core.Option.{Option}
+use mathlib.Core.Option.{Option, none, some}
 use Prim.Native.Nat.{ℕ, zero, suc, _+_, _*_}
 use lib.IntN.{ℤ}
 use Rattle.integers.specs.Entry.{entry}
@@ -31,3 +31,7 @@ sidesFine ns at (suc n) = sidesFine ns at n && sideFine (entry ns (at + 2 * n)) 
 -- every number of the record is fine
 abbrev pub recordFine : ℕ → List ℤ → ℕ → Bool
 recordFine most ns at = fineAt most ns at 0 && fineAt most ns at 1 && sidesFine ns (at + 2) 8
+
+abbrev pub noFault : Option ℕ → Bool
+noFault none = true
+noFault (some i) = false

@@ -5,7 +5,7 @@ ghost use lib.ListN.{length};
 ghost use Rattle.boxes.specs.Ranges.{placeOr};
 ghost use Rattle.boxes.specs.Records.{boxAtIndex};
 ghost use Rattle.leaf_list.specs.Checks.{numberFault};
-ghost use Rattle.leaf_list.specs.Parts.{boxesFaultAt, recordFaultAt, sidesFine, recordFine};
+ghost use Rattle.leaf_list.specs.Parts.{boxesFaultAt, recordFaultAt, sidesFine, recordFine, noFault};
 use boxes::Box;
 use boxes::side_fine;
 
@@ -92,17 +92,44 @@ fn record_fine(leaves: &[i32], at: usize) -> bool
     curve_fine & node_fine & sides_fine(leaves, at + 2)
 }
 
-// The index of the first bad number of a list of whole records, or the list's length. The numbers of a record are looked at one by one only where one is bad.
-pub fn number_fault(leaves: &[i32]) -> usize
+// Whether a list of whole records has no bad number.
+fn list_fine(leaves: &[i32]) -> bool
+    requires { ⌜ length (now leaves) % 18 ≡ 0 ⌝ }
+    ensures { λ r. ⌜ r ≡ noFault (numberFault 64 (now (leaves .entry))) ⌝ }
+{
+    let mut at: usize = 0;
+    while at < leaves.len() {
+        if !record_fine(leaves, at) {
+            return false;
+        }
+        at += 18;
+    }
+    true
+}
+
+// The index of the first bad number of a list of whole records, or the list's length, record by record.
+fn first_fault(leaves: &[i32]) -> usize
     requires { ⌜ length (now leaves) % 18 ≡ 0 ⌝ }
     ensures { λ r. ⌜ r ≡ placeOr (length (now (leaves .entry))) (numberFault 64 (now (leaves .entry))) ⌝ }
 {
     let mut at: usize = 0;
     while at < leaves.len() {
-        if !record_fine(leaves, at) {
-            return at + record_fault(leaves, at);
+        let place = record_fault(leaves, at);
+        if place < 18 {
+            return at + place;
         }
         at += 18;
     }
     leaves.len()
+}
+
+// The same. The numbers are looked at one by one only in a list that has a bad one.
+pub fn number_fault(leaves: &[i32]) -> usize
+    requires { ⌜ length (now leaves) % 18 ≡ 0 ⌝ }
+    ensures { λ r. ⌜ r ≡ placeOr (length (now (leaves .entry))) (numberFault 64 (now (leaves .entry))) ⌝ }
+{
+    if list_fine(leaves) {
+        return leaves.len();
+    }
+    first_fault(leaves)
 }
