@@ -11,10 +11,11 @@ use lib.IntN.{ℤ}
 use Rattle.refusals.specs.declared.Refusal.{Refusal}
 use Rattle.refusals.specs.declared.Refusal.the-variants.{BoxNumber, TooFewVertices}
 use Rattle.boxes.specs.declared.Box.{Box}
+use Rattle.polygon.specs.Polygon.{pathOf, vertices, numbers}
+use Rattle.polygon.proofs.Vertices.{vertices-most}
 use Rattle.cover.specs.declared.Drawn.the-variants.{Vertices, Refused}
-use Rattle.cover.specs.Polygon.{pathOf, vertices, numbers}
 use Rattle.cover.specs.Drawing.{twoBoxesFault, drawn, writtenBy, drawnInto}
-use Rattle.cover.proofs.Writing.{numbers-length, vertices-most, in-front}
+use Rattle.cover.proofs.Writing.{numbers-length, in-front}
 
 module _ (a b : Box) where
   few : length (vertices a b) ≤ 8

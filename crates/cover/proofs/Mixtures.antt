@@ -11,12 +11,12 @@ use lib.Signed.{_≤ℤ_, ≤ℤ-refl}
 use Rattle.integers.proofs.Ring.{sides}
 use Rattle.integers.proofs.Order.{NonNeg, ≤ℤ-trans, lt-or-ge, le-by, nonneg-by, gap, *ℤ-cancel, pos-lt, natural, _+₀_, _×₀_}
 use Rattle.boxes.specs.declared.Box.{Box}
-use Rattle.cover.specs.declared.path.Point.{Point}
-use Rattle.cover.specs.Polygon.{vertices}
+use Rattle.polygon.specs.declared.Point.{Point}
+use Rattle.polygon.specs.Polygon.{vertices}
+use Rattle.polygon.specs.Hull.{Ordered, OfBoxes, turn, Between, Edge, round}
+use Rattle.polygon.proofs.Reach.{≥-total}
+use Rattle.polygon.proofs.Hulls.{round-again, inside-between, two-vertices}
 use Rattle.cover.specs.Drawing.{twoBoxesFault}
-use Rattle.cover.specs.Hull.{Ordered, OfBoxes, turn, Between, Edge, round}
-use Rattle.cover.proofs.Reach.{≥-total}
-use Rattle.cover.proofs.Hulls.{round-again, inside-between, two-vertices}
 use Rattle.cover.proofs.Theorems.{ordered, hull-of-boxes}
 
 -- (m + n) × z lies from m × low₀ + n × low₁ to m × high₀ + n × high₁

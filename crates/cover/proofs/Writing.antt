@@ -1,8 +1,8 @@
 -- The list at each step of the loop that writes the vertices: x and y of the points from which the path moved on.
 use mathlib.Core.Path.{_≡_, refl, sym, _∙_, ap, ap₂, subst}
-use mathlib.Core.Bool.{Bool, true, false}
+use mathlib.Core.Bool.{true, false}
 use mathlib.Core.List.{List, [], _∷_, _++_}
-use Prim.Native.Nat.{ℕ, zero, suc, _+_, _*_, _≤_}
+use Prim.Native.Nat.{ℕ, _+_, _*_, _≤_}
 use native.Mathlib.Nat.{zero-add, add-zero}
 use native.Mathlib.Numerals.{add-one}
 use native.Mathlib.Omega.{arith}
@@ -10,8 +10,9 @@ use lib.ListN.{length, drop, set, length-append}
 use lib.Seq.{sets, length-sets, sets-eq}
 use lib.IntN.{ℤ}
 use Rattle.integers.proofs.Stores.{sets-append}
-use Rattle.cover.specs.declared.path.Point.{Point}
-use Rattle.cover.specs.Polygon.{same, unless, moves, orFirst, verticesOf, numbers}
+use Rattle.polygon.specs.declared.Point.{Point}
+use Rattle.polygon.specs.Polygon.{same, unless, moves, orFirst, verticesOf, numbers}
+use Rattle.polygon.proofs.Vertices.{unless-none, unless-one, moves-most}
 
 -- ---- numbers
 pub numbers-append : (ps qs : List Point) → numbers (ps ++ qs) ≡ numbers ps ++ numbers qs
@@ -33,43 +34,14 @@ pub two-sets : (l : List ℤ) (at : ℕ) {a b a′ b′ : ℤ} → a′ ≡ a �
 two-sets l at ea eb = ap₂ (λ x y. set (set l at x) (at + 1) y) ea eb ∙ rw add-one
 
 -- ---- one point, unless the next is the same
-module _ (p q : Point) where
-  pub unless-none : same p q ≡ true → unless p q ≡ []
-  unless-none e = rw (e, unless)
+module _ (p q : Point) (l : List ℤ) (at n : ℕ) where
+  pub unless-same : same p q ≡ true → (n ≡ n + length (unless p q)) × (l ≡ sets l at (numbers (unless p q)))
+  unfolding numbers
+  unless-same e = (sym (add-zero n) ∙ ap (λ x. n + length x) (sym (unless-none p q e)), ap (λ x. sets l at (numbers x)) (sym (unless-none p q e)))
 
-  pub unless-one : same p q ≡ false → unless p q ≡ p ∷ []
-  unless-one e = rw (e, unless)
-
-  unless-few : length (unless p q) ≤ 1
-  unless-few = go (same p q) refl
-    where
-      go : (t : Bool) → same p q ≡ t → length (unless p q) ≤ 1
-      go true e = let u = ap length (unless-none e) in omega arith
-      go false e = let u = ap length (unless-one e) in omega arith
-
-  module _ (l : List ℤ) (at n : ℕ) where
-    pub unless-same : same p q ≡ true → (n ≡ n + length (unless p q)) × (l ≡ sets l at (numbers (unless p q)))
-    unfolding numbers
-    unless-same e = (sym (add-zero n) ∙ ap (λ x. n + length x) (sym (unless-none e)), ap (λ x. sets l at (numbers x)) (sym (unless-none e)))
-
-    pub unless-new : {l′ : List ℤ} → same p q ≡ false → l′ ≡ sets l at (p .x ∷ p .y ∷ []) → (n + 1 ≡ n + length (unless p q)) × (l′ ≡ sets l at (numbers (unless p q)))
-    unfolding numbers
-    unless-new e f = (ap (λ x. n + length x) (sym (unless-one e)), f ∙ ap (λ x. sets l at (numbers x)) (sym (unless-one e)))
-
--- ---- at most as many vertices as points
-module _ (f : ℕ → Point) where
-  moves-most : (n : ℕ) → length (moves f n) ≤ n
-  unfolding moves
-  moves-most zero = omega arith
-  moves-most (suc n) = let h = moves-most n in let u = unless-few (f n) (f (suc n)) in let e = length-append (moves f n) (unless (f n) (f (suc n))) in omega arith
-
-  first-most : (p : Point) (ps : List Point) → length ps ≤ 8 → length (orFirst p ps) ≤ 8
-  first-most p [] h = omega arith
-  first-most p (q ∷ qs) h = h
-
-  pub vertices-most : length (verticesOf f) ≤ 8
-  unfolding verticesOf
-  vertices-most = first-most (f 0) (moves f 8) (moves-most 8)
+  pub unless-new : {l′ : List ℤ} → same p q ≡ false → l′ ≡ sets l at (p .x ∷ p .y ∷ []) → (n + 1 ≡ n + length (unless p q)) × (l′ ≡ sets l at (numbers (unless p q)))
+  unfolding numbers
+  unless-new e f = (ap (λ x. n + length x) (sym (unless-one p q e)), f ∙ ap (λ x. sets l at (numbers x)) (sym (unless-one p q e)))
 
 -- ---- the loop: the list was l, and k points of the path are passed
 pub record Written (f : ℕ → Point) (l : List ℤ) (k count : ℕ) (l′ : List ℤ) : Type 0 where

@@ -1,4 +1,2 @@
--- What a reader must believe of drawing: the polygon round two boxes, the answer, and the words in which the theorems speak of a hull.
-pub mod Polygon
+-- What a reader must believe of drawing: the answer, and what it leaves in the caller's list.
 pub mod Drawing
-pub mod Hull

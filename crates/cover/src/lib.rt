@@ -7,7 +7,6 @@ use boxes::Box;
 use refusals::Refusal;
 use write::put_vertices;
 
-mod path;
 mod write;
 
 // What drawing answers: how many vertices were written, or the first fault.

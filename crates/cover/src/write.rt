@@ -4,15 +4,15 @@ ghost use mathlib.Core.List.{[], _∷_};
 ghost use Prim.Native.Nat.{_+_, _*_, _≤_};
 ghost use lib.ListN.{length};
 ghost use lib.Seq.{sets};
-ghost use Rattle.cover.specs.Polygon.{pathPoint, unless, verticesOf, vertices, numbers};
-use crate::path::Ends;
-use crate::path::Point;
-use crate::path::across;
-use crate::path::ends_of;
-use crate::path::is_same;
-use crate::path::path_point;
-use crate::path::upright;
+ghost use Rattle.polygon.specs.Polygon.{pathPoint, unless, verticesOf, vertices, numbers};
 use boxes::Box;
+use polygon::Ends;
+use polygon::Point;
+use polygon::across;
+use polygon::ends_of;
+use polygon::is_same;
+use polygon::path_point;
+use polygon::upright;
 
 // The two numbers of a point, as vertex number `count`.
 fn put_point(list: &mut [i32], count: usize, p: Point)

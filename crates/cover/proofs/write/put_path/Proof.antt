@@ -5,13 +5,13 @@ use lib.ListN.{length}
 use lib.Seq.{sets, length-sets}
 use native.Mathlib.Omega.{arith}
 use borrow.Author.Needs.{needs}
-use Rattle.cover.specs.Polygon.{pathPoint, verticesOf, numbers}
+use Rattle.polygon.specs.Polygon.{pathPoint, verticesOf, numbers}
 use Rattle.cover.proofs.Writing.{Written, written-start, written-most, written-length, written-on, written-some, written-none}
 use Rattle.cover.proofs.write.put_path.Statement.{statement}
 use Rattle.cover.proofs.write.put_path.Tie as tie
 use Rattle.cover.proofs.write.put_path.Reads as reads
 use Rattle.cover.proofs.write.put_path.Lts as lts
-use Rattle.cover.proofs.path.path_point.Reads as path-point-reads
+use Rattle.polygon.proofs.path_point.Reads as path-point-reads
 use Rattle.cover.proofs.write.put_point.Reads as put-point-reads
 use Rattle.cover.proofs.write.put_unless.Reads as put-unless-reads
 

@@ -1,9 +1,9 @@
--- `cover::path::ends_of` meets its contract.
+-- `polygon::ends_of` meets its contract.
 use Rattle.integers.proofs.Between.{number-fits}
-use Rattle.cover.proofs.Spans.{ends-are}
+use Rattle.polygon.proofs.Spans.{ends-are}
 use borrow.Author.Needs.{needs}
-use Rattle.cover.proofs.path.ends_of.Statement.{statement}
-use Rattle.cover.proofs.path.ends_of.Tie as tie
+use Rattle.polygon.proofs.ends_of.Statement.{statement}
+use Rattle.polygon.proofs.ends_of.Tie as tie
 
 joined-requires : tie.Need-joined-requires
 joined-requires c κs = search needs

@@ -11,13 +11,13 @@ use Rattle.integers.proofs.Ring.{ring, sides}
 use Rattle.integers.proofs.Order.{le-by, lt-by, gap, gap<, lt-le, lt-or-ge}
 use Rattle.integers.proofs.Ranges.{lt-yes, lt-no, yes-lt, no-lt}
 use Rattle.boxes.specs.declared.Box.{Box}
-use Rattle.cover.specs.declared.path.Span.{Span}
-use Rattle.cover.specs.declared.path.Point.{Point}
-use Rattle.cover.specs.declared.path.Ends.{Ends}
-use Rattle.cover.specs.Polygon.{lower, higher, joined, reached, endsOf, acrossOf, uprightOf, pathPoint, pathOf}
-use Rattle.cover.specs.Hull.{Ordered, OfBoxes, ACorner, turn, Between, Edge}
-use Rattle.cover.proofs.Edges.{point-≡}
-use Rattle.cover.proofs.Reach.{lower-first, lower-second, higher-first, higher-second, ≥-total, East, floor, step-0, step-1, corner-0, corner-1}
+use Rattle.polygon.specs.declared.Span.{Span}
+use Rattle.polygon.specs.declared.Point.{Point}
+use Rattle.polygon.specs.declared.Ends.{Ends}
+use Rattle.polygon.specs.Polygon.{lower, higher, joined, reached, endsOf, acrossOf, uprightOf, pathPoint, pathOf}
+use Rattle.polygon.specs.Hull.{Ordered, OfBoxes, ACorner, turn, Between, Edge}
+use Rattle.polygon.proofs.Edges.{point-≡}
+use Rattle.polygon.proofs.Reach.{lower-first, lower-second, higher-first, higher-second, ≥-total, East, floor, step-0, step-1, corner-0, corner-1}
 
 -- ---- a quarter turn, clockwise: right becomes down
 abbrev pub quarter : Point → Point

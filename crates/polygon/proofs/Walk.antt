@@ -13,10 +13,10 @@ use lib.Signed.{leZ, ≤ℤ-refl}
 use Rattle.integers.proofs.Clash.{clash}
 use Rattle.integers.proofs.Order.{≤ℤ-antisymm, lt-or-ge}
 use Rattle.integers.proofs.Ranges.{le-yes, yes-le}
-use Rattle.cover.specs.declared.path.Point.{Point}
-use Rattle.cover.specs.Polygon.{equal, same, unless, moves}
-use Rattle.cover.proofs.Edges.{point-≡}
-use Rattle.cover.proofs.Writing.{unless-none, unless-one}
+use Rattle.polygon.specs.declared.Point.{Point}
+use Rattle.polygon.specs.Polygon.{equal, same, unless, moves}
+use Rattle.polygon.proofs.Edges.{point-≡}
+use Rattle.polygon.proofs.Vertices.{unless-none, unless-one}
 
 abbrev pub origin : Point
 origin = record { x = pos 0; y = pos 0 }

@@ -6,8 +6,8 @@ use lib.IntN.{ℤ, pos, negℤ}
 use lib.Signed.{_≤ℤ_, _<ℤ_}
 use Rattle.integers.proofs.Ring.{ring, sides}
 use Rattle.integers.proofs.Order.{≤ℤ-trans, ≤ℤ-antisymm, le-or-lt, le-by, gap, balance, _+₀_}
-use Rattle.cover.specs.declared.path.Point.{Point}
-use Rattle.cover.specs.Hull.{turn, Between, Edge}
+use Rattle.polygon.specs.declared.Point.{Point}
+use Rattle.polygon.specs.Hull.{turn, Between, Edge}
 
 pub point-≡ : {p q : Point} → p .x ≡ q .x → p .y ≡ q .y → p ≡ q
 point-≡ e f = ap₂ (λ a b. record { x = a; y = b }) e f

@@ -1,9 +1,9 @@
--- `cover::path::joined` meets its contract.
+-- `polygon::joined` meets its contract.
 use Rattle.integers.proofs.Between.{number-fits}
-use Rattle.cover.proofs.Spans.{joined-is}
+use Rattle.polygon.proofs.Spans.{joined-is}
 use borrow.Author.Needs.{needs}
-use Rattle.cover.proofs.path.joined.Statement.{statement}
-use Rattle.cover.proofs.path.joined.Tie as tie
+use Rattle.polygon.proofs.joined.Statement.{statement}
+use Rattle.polygon.proofs.joined.Tie as tie
 
 lower-requires : tie.Need-lower-requires
 lower-requires c κs = search needs

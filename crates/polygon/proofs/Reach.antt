@@ -9,11 +9,11 @@ use Rattle.integers.proofs.Ring.{ring, sides}
 use Rattle.integers.proofs.Order.{≤ℤ-trans, ≤ℤ-antisymm, le-or-lt, le-by, lt-by, clash-by, gap, gap<, balance, _+₀_, _×₀_, natural, lt-le}
 use Rattle.integers.proofs.Ranges.{lt-yes, lt-no}
 use Rattle.boxes.specs.declared.Box.{Box}
-use Rattle.cover.specs.declared.path.Span.{Span}
-use Rattle.cover.specs.declared.path.Point.{Point}
-use Rattle.cover.specs.Polygon.{lower, higher, joined, reached, endsOf, acrossOf, uprightOf, pathPoint, pathOf}
-use Rattle.cover.specs.Hull.{Ordered, OfBoxes, ACorner, turn, Between, Edge, Lowest}
-use Rattle.cover.proofs.Edges.{point-≡}
+use Rattle.polygon.specs.declared.Span.{Span}
+use Rattle.polygon.specs.declared.Point.{Point}
+use Rattle.polygon.specs.Polygon.{lower, higher, joined, reached, endsOf, acrossOf, uprightOf, pathPoint, pathOf}
+use Rattle.polygon.specs.Hull.{Ordered, OfBoxes, ACorner, turn, Between, Edge, Lowest}
+use Rattle.polygon.proofs.Edges.{point-≡}
 
 abbrev pt : ℤ → ℤ → Point
 pt a b = record { x = a; y = b }

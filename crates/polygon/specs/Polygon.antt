@@ -7,9 +7,9 @@ use lib.ListN.{getD}
 use lib.IntN.{ℤ}
 use lib.Signed.{ltZ, leZ}
 use Rattle.boxes.specs.declared.Box.{Box}
-use Rattle.cover.specs.declared.path.Span.{Span}
-use Rattle.cover.specs.declared.path.Point.{Point}
-use Rattle.cover.specs.declared.path.Ends.{Ends}
+use Rattle.polygon.specs.declared.Span.{Span}
+use Rattle.polygon.specs.declared.Point.{Point}
+use Rattle.polygon.specs.declared.Ends.{Ends}
 
 -- ---- spans
 abbrev pub lower : ℤ → ℤ → ℤ

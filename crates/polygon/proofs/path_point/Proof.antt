@@ -1,10 +1,10 @@
--- `cover::path::path_point` meets its contract: each arm is one point of the list.
+-- `polygon::path_point` meets its contract: each arm is one point of the list.
 use mathlib.Core.Path.{refl, sym}
 use Rattle.integers.proofs.Between.{number-fits}
-use Rattle.cover.specs.Polygon.{pathPoint}
-use Rattle.cover.proofs.Spans.{point-is, path-rest}
-use Rattle.cover.proofs.path.path_point.Statement.{statement}
-use Rattle.cover.proofs.path.path_point.Tie as tie
+use Rattle.polygon.specs.Polygon.{pathPoint}
+use Rattle.polygon.proofs.Spans.{point-is, path-rest}
+use Rattle.polygon.proofs.path_point.Statement.{statement}
+use Rattle.polygon.proofs.path_point.Tie as tie
 
 returns : tie.Need-returns
 unfolding pathPoint

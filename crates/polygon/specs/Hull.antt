@@ -8,7 +8,7 @@ use lib.ListN.{length, getD}
 use lib.IntN.{ℤ, pos, _-ℤ_, _*ℤ_}
 use lib.Signed.{_≤ℤ_}
 use Rattle.boxes.specs.declared.Box.{Box}
-use Rattle.cover.specs.declared.path.Point.{Point}
+use Rattle.polygon.specs.declared.Point.{Point}
 
 -- ---- two boxes
 -- no low above its high
@@ -17,7 +17,7 @@ pub record Ordered (b : Box) : Type 0 where
   pub y : b .«y_low» ≤ℤ b .«y_high»
 
 -- a point of a box, edges included
-pub record Within (b : Box) (p : Point) : Type 0 where
+pub record InBox (b : Box) (p : Point) : Type 0 where
   pub x-from : b .«x_low» ≤ℤ p .x
   pub x-to : p .x ≤ℤ b .«x_high»
   pub y-from : b .«y_low» ≤ℤ p .y
@@ -28,7 +28,7 @@ pub record Corner (b : Box) (p : Point) : Type 0 where
   pub y : (p .y ≡ b .«y_low») ⊎ (p .y ≡ b .«y_high»)
 
 abbrev pub OfBoxes : Box → Box → Point → Type 0
-OfBoxes a b p = Within a p ⊎ Within b p
+OfBoxes a b p = InBox a p ⊎ InBox b p
 
 abbrev pub ACorner : Box → Box → Point → Type 0
 ACorner a b p = Corner a p ⊎ Corner b p

@@ -3,7 +3,7 @@ use mathlib.Core.Path.{_≡_, refl}
 use mathlib.Core.List.{[], _∷_}
 use lib.IntN.{ℤ, pos, negsuc}
 use Rattle.boxes.specs.declared.Box.{Box}
-use Rattle.cover.specs.Polygon.{reached, endsOf, pathPoint, moves, verticesOf, pathOf, vertices, numbers}
+use Rattle.polygon.specs.Polygon.{reached, endsOf, pathPoint, moves, verticesOf, pathOf, vertices, numbers}
 
 abbrev box : ℤ → ℤ → ℤ → ℤ → Box
 box a b c d = record { «x_low» = a; «x_high» = b; «y_low» = c; «y_high» = d }

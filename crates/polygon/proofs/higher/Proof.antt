@@ -1,7 +1,7 @@
--- `cover::path::higher` meets its contract.
-use Rattle.cover.proofs.Spans.{higher-then, higher-else}
-use Rattle.cover.proofs.path.higher.Statement.{statement}
-use Rattle.cover.proofs.path.higher.Tie as tie
+-- `polygon::higher` meets its contract.
+use Rattle.polygon.proofs.Spans.{higher-then, higher-else}
+use Rattle.polygon.proofs.higher.Statement.{statement}
+use Rattle.polygon.proofs.higher.Tie as tie
 
 returns : tie.Need-returns
 returns c = higher-then (c .before .fits .a) (c .before .fits .b) (c .if1 .taken)

@@ -11,10 +11,10 @@ use lib.IntN.{ℤ, pos, negsuc, _+ℤ_, _-ℤ_, _*ℤ_}
 use lib.Signed.{_≤ℤ_, _<ℤ_, <ℤ-irrefl}
 use Rattle.integers.proofs.Ring.{ring, sides}
 use Rattle.integers.proofs.Order.{nonneg, gap, le-by, lt-le, *ℤ-cancel, ≤ℤ-antisymm, le-or-lt, lt-or-ge, clash-by, gap<, balance, _+₀_, _×₀_}
-use Rattle.cover.specs.declared.path.Point.{Point}
-use Rattle.cover.specs.Hull.{turn, Between, Edge, round, Lowest, Hull, AllEqual, InLine}
-use Rattle.cover.proofs.Edges.{point-≡, turn-swap, turn-stay, opposite-zero, next-unique, turns-left, edge-stay}
-use Rattle.cover.proofs.Walk.{origin}
+use Rattle.polygon.specs.declared.Point.{Point}
+use Rattle.polygon.specs.Hull.{turn, Between, Edge, round, Lowest, Hull, AllEqual, InLine}
+use Rattle.polygon.proofs.Edges.{point-≡, turn-swap, turn-stay, opposite-zero, next-unique, turns-left, edge-stay}
+use Rattle.polygon.proofs.Walk.{origin}
 
 -- ---- going round
 module _ (vs : List Point) where

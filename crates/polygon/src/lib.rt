@@ -1,6 +1,6 @@
 // The path round two boxes: along each side of their bounding box, the stretch that the boxes reaching that side cover.
 ghost use mathlib.Core.Path.{_≡_};
-ghost use Rattle.cover.specs.Polygon.{lower, higher, joined, reached, endsOf, acrossOf, uprightOf, pathPoint, same};
+ghost use Rattle.polygon.specs.Polygon.{lower, higher, joined, reached, endsOf, acrossOf, uprightOf, pathPoint, same};
 use boxes::Box;
 
 // The numbers from low to high.

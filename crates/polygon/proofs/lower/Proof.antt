@@ -1,7 +1,7 @@
--- `cover::path::lower` meets its contract.
-use Rattle.cover.proofs.Spans.{lower-then, lower-else}
-use Rattle.cover.proofs.path.lower.Statement.{statement}
-use Rattle.cover.proofs.path.lower.Tie as tie
+-- `polygon::lower` meets its contract.
+use Rattle.polygon.proofs.Spans.{lower-then, lower-else}
+use Rattle.polygon.proofs.lower.Statement.{statement}
+use Rattle.polygon.proofs.lower.Tie as tie
 
 returns : tie.Need-returns
 returns c = lower-then (c .before .fits .a) (c .before .fits .b) (c .if1 .taken)
