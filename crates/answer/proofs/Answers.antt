@@ -26,8 +26,9 @@ use Rattle.forms.specs.declared.Form.the-variants.{Tolerance, Curve, Point, NoF
 use Rattle.text.specs.Lines.{linesOf, gather}
 use Rattle.text.specs.Meaning.{Meaning, refused, means, meaning, meaningOf, mostBytes, unless, faultFrom, curveNumbers, pointOf}
 use Rattle.render.specs.Answers.{refusedLine}
+use Rattle.point_answers.specs.Points.{LeavesFine, pointLines, lineAnswer}
+use Rattle.point_answers.proofs.Judging.{points-gathered}
 use Rattle.answer.specs.Bands.{bandOf, recordsOf, bandLines}
-use Rattle.answer.specs.Points.{LeavesFine, pointLine, pointLines, lineAnswer}
 use Rattle.answer.specs.Answers.{lent, pointsOf, lines, answerTo, answerOf}
 
 -- ---- where a band is done
@@ -64,16 +65,8 @@ text-short s room c l n e = go (ltb mostBytes (length s)) refl e
     go true f g = clash (cc)
     go false f g = le f
 
--- ---- the lines of the points, as the text has them and as its meaning has them
+-- ---- the lines of the points of a text that has a meaning
 module _ (leaves : List ℤ) where
-  points-gathered : (ls : List Form) → gather (lineAnswer leaves) ls ≡ pointLines leaves (gather pointOf ls)
-  unfolding gather pointLines
-  points-gathered [] = refl
-  points-gathered (Tolerance t next ∷ ls) = points-gathered ls
-  points-gathered (Curve p next ∷ ls) = points-gathered ls
-  points-gathered (NoForm ∷ ls) = points-gathered ls
-  points-gathered (Point x y next ∷ ls) = ap (λ r. pointLine leaves x y ++ r) (points-gathered ls)
-
   points-of-lines : (ls : List Form) (room c l n : ℕ) → bandOf (meaningOf ls) room ≡ Done c l n → gather (lineAnswer leaves) ls ≡ pointLines leaves (pointsOf (meaningOf ls))
   unfolding meaningOf gather
   points-of-lines [] room c l n e = clash (cc)
@@ -84,7 +77,7 @@ module _ (leaves : List ℤ) where
     where
       go : (o : Option Refusal) → bandOf (unless o (means T (gather curveNumbers ls) (gather pointOf ls))) room ≡ Done c l n
           → gather (lineAnswer leaves) ls ≡ pointLines leaves (pointsOf (unless o (means T (gather curveNumbers ls) (gather pointOf ls))))
-      go none f = points-gathered ls
+      go none f = points-gathered leaves ls
       go (some r) f = clash (cc)
 
   pub points-of-text : (s : List ℕ) (room c l n : ℕ) → bandOf (meaning s) room ≡ Done c l n → gather (lineAnswer leaves) (linesOf s) ≡ pointLines leaves (pointsOf (meaning s))

@@ -1,5 +1,4 @@
 -- Laws of the answer to a text. Each file opens with what it holds.
 pub mod Bands
-pub mod Judging
 pub mod Answers
 pub mod Examples

@@ -1,4 +1,3 @@
 -- What a reader must believe of the answer to a text.
 pub mod Bands
-pub mod Points
 pub mod Answers

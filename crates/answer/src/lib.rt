@@ -8,10 +8,8 @@ ghost use Rattle.text.specs.Meaning.{meaning};
 ghost use Rattle.answer.specs.Answers.{lent, answerOf};
 ghost use Rattle.answer.specs.Bands.{bandOf, recordsOf, bandLines, RoomFor};
 use band::Banded;
-use points::put_points;
+use point_answers::put_points;
 use text::Checked;
-
-mod points;
 
 // Answers a text: the lines of its band and of its points, or of its first refusal, stand at the front of the list afterwards, as many bytes as are returned. Every
 // text may be asked about. Records are lent as document 01 says, 16,380 numbers.

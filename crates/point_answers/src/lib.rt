@@ -3,7 +3,7 @@ ghost use Prim.Native.Nat.{_+_, _*_, _≤_};
 ghost use lib.ListN.{length};
 ghost use Rattle.appends.specs.Appends.{Within};
 ghost use Rattle.text.specs.Lines.{linesOf, gather};
-ghost use Rattle.answer.specs.Points.{LeavesFine, pointLine, lineAnswer};
+ghost use Rattle.point_answers.specs.Points.{LeavesFine, pointLine, lineAnswer};
 use forms::Form;
 use judge::Judgement;
 

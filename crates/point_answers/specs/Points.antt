@@ -30,7 +30,7 @@ lineAnswer leaves (Tolerance t next) = []
 lineAnswer leaves (Curve p next) = []
 lineAnswer leaves NoForm = []
 
--- leaves that pass checks 9 and 10, for a private contract
+-- leaves that pass checks 9 and 10, as `put_points` asks
 pub record LeavesFine (leaves : List ℤ) : Type 0 where
   pub whole : lengthFine (length leaves) ≡ true
   pub numbers : numberFault 64 leaves ≡ none

@@ -1,9 +1,9 @@
--- `answer::points::put_point` meets its contract: one law a return.
+-- `point_answers::put_point` meets its contract: one law a return.
 use mir.Facts.{toZ-ofZ}
 use borrow.Author.Needs.{needs}
-use Rattle.answer.proofs.Judging.{line-on, line-off, line-refused}
-use Rattle.answer.proofs.points.put_point.Statement.{statement}
-use Rattle.answer.proofs.points.put_point.Tie as tie
+use Rattle.point_answers.proofs.Judging.{line-on, line-off, line-refused}
+use Rattle.point_answers.proofs.put_point.Statement.{statement}
+use Rattle.point_answers.proofs.put_point.Tie as tie
 
 judge-requires : tie.Need-judge-requires
 judge-requires c κs = search needs

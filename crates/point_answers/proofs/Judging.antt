@@ -1,7 +1,7 @@
--- The lines of points: what each way through `put_point` writes, that such a line is short where the leaves are fine, and each turn of the loop over the text.
-use mathlib.Core.Path.{_≡_, refl, sym, _∙_, subst}
+-- The lines of points: what each way through `put_point` writes, that such a line is short where the leaves are fine, that the lines of a text give those of its points, and each turn of the loop over the text.
+use mathlib.Core.Path.{_≡_, refl, sym, _∙_, ap, subst}
 use mathlib.Core.Bool.{Bool, true, false}
-use mathlib.Core.List.{List, [], _++_, append-nil}
+use mathlib.Core.List.{List, [], _∷_, _++_, append-nil}
 use mathlib.Core.Option.{Option, none, some}
 use Prim.Native.Nat.{ℕ, _+_, _*_, _^_, _≤_, _<_}
 use native.Mathlib.Omega.{arith}
@@ -22,6 +22,7 @@ use Rattle.forms.specs.declared.Form.{Form}
 use Rattle.forms.specs.declared.Form.the-variants.{Tolerance, Curve, Point, NoForm}
 use Rattle.forms.specs.Forms.{formAt}
 use Rattle.text.specs.Lines.{linesOf, gather}
+use Rattle.text.specs.Meaning.{pointOf}
 use Rattle.text.proofs.Gathering.{Gathering, gathering-start, gathered-over, gathered-no-form, gathered-tolerance, gathered-curve, gathered-point}
 use Rattle.judge.specs.declared.Judgement.{Judgement}
 use Rattle.judge.specs.declared.Judgement.the-variants.{On, Off, Refused}
@@ -29,7 +30,7 @@ use Rattle.judge.specs.Judging.{pointFault, judgingFault, Judged}
 use Rattle.judge.specs.OnBand.{onBand}
 use Rattle.judge.proofs.OnBand.{answered-on, answered-off, answered-refused}
 use Rattle.render.specs.Answers.{refusedLine, onLine, offLine}
-use Rattle.answer.specs.Points.{LeavesFine, pointLine, lineAnswer}
+use Rattle.point_answers.specs.Points.{LeavesFine, pointLine, pointLines, lineAnswer}
 
 -- ---- one point
 module _ (ns : List ℤ) (x y : ℤ) (j : Judgement) (said : Judged 64 ns x y j) (d o : List ℕ) (at k : ℕ) where
@@ -88,6 +89,16 @@ short-line ns f x y = go (judgingFault 64 ns x y) (onBand ns x y) (subst Short (
     go (some r) c h = h
     go none true h = lit≤ tt
     go none false h = lit≤ tt
+
+-- ---- the lines of the points, as the text has them and as its meaning has them
+module _ (leaves : List ℤ) where
+  pub points-gathered : (ls : List Form) → gather (lineAnswer leaves) ls ≡ pointLines leaves (gather pointOf ls)
+  unfolding gather pointLines
+  points-gathered [] = refl
+  points-gathered (Tolerance t next ∷ ls) = points-gathered ls
+  points-gathered (Curve p next ∷ ls) = points-gathered ls
+  points-gathered (NoForm ∷ ls) = points-gathered ls
+  points-gathered (Point x y next ∷ ls) = ap (λ r. pointLine leaves x y ++ r) (points-gathered ls)
 
 -- ---- the loop: what the lines before place i gave stands in the list from place `from` on, which was d and is o
 pub record Putting (leaves : List ℤ) (s : List ℕ) (d : List ℕ) (from : ℕ) (o : List ℕ) (at i : ℕ) : Type 0 where

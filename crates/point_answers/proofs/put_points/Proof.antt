@@ -1,11 +1,11 @@
--- `answer::points::put_points` meets its contract. The loop's invariant is `Putting`; the measure is what is left of the text.
+-- `point_answers::put_points` meets its contract. The loop's invariant is `Putting`; the measure is what is left of the text.
 use Prim.Native.Nat.{_-_}
 use borrow.Author.Needs.{needs}
 use lib.ListN.{length}
 use Rattle.text.proofs.Lines.{tolerance-less, curve-less, point-less}
-use Rattle.answer.proofs.Judging.{Putting, putting-start, put-over, put-room, put-no-form, put-tolerance, put-curve, put-point-line}
-use Rattle.answer.proofs.points.put_points.Statement.{statement}
-use Rattle.answer.proofs.points.put_points.Tie as tie
+use Rattle.point_answers.proofs.Judging.{Putting, putting-start, put-over, put-room, put-no-form, put-tolerance, put-curve, put-point-line}
+use Rattle.point_answers.proofs.put_points.Statement.{statement}
+use Rattle.point_answers.proofs.put_points.Tie as tie
 
 abbrev Inv-loop : tie.InvT-loop
 Inv-loop text leaves out₀ from at₀ i₀ out at i = Putting leaves text out₀ from out at i
