@@ -28,8 +28,8 @@ use Rattle.leaf_list.specs.Checks.{numberFault}
 use Rattle.held.specs.Deciding.{held}
 use Rattle.judge.specs.Judging.{judgingFault}
 use Rattle.judge.specs.OnBand.{firstHolder}
+use Rattle.band_answers.specs.Bands.{bandLines}
 use Rattle.point_answers.specs.Points.{pointLine, pointLines}
-use Rattle.answer.specs.Bands.{bandLines}
 use Rattle.answer.specs.Answers.{answerTo, answerOf}
 
 -- what the examples compute through

@@ -1,4 +1,3 @@
 -- Laws of the answer to a text. Each file opens with what it holds.
-pub mod Bands
 pub mod Answers
 pub mod Examples

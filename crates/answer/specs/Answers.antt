@@ -9,8 +9,8 @@ use Rattle.band.specs.declared.Banded.{Banded}
 use Rattle.band.specs.declared.Banded.the-variants.{Done, Refused}
 use Rattle.text.specs.Meaning.{Meaning, refused, means, meaning}
 use Rattle.render.specs.Answers.{refusedLine}
+use Rattle.band_answers.specs.Bands.{bandOf, recordsOf, bandLines}
 use Rattle.point_answers.specs.Points.{pointLines}
-use Rattle.answer.specs.Bands.{bandOf, recordsOf, bandLines}
 
 -- how many numbers are lent for records
 abbrev pub lent : ℕ

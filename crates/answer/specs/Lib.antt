@@ -1,3 +1,2 @@
 -- What a reader must believe of the answer to a text.
-pub mod Bands
 pub mod Answers

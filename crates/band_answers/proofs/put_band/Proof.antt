@@ -1,9 +1,9 @@
--- `answer::put_band` meets its contract: the leaves, and then the report.
+-- `band_answers::put_band` meets its contract: the leaves, and then the report.
 use native.Mathlib.Omega.{arith}
 use borrow.Author.Needs.{needs}
-use Rattle.answer.proofs.Bands.{room-done, done-lines}
-use Rattle.answer.proofs.put_band.Statement.{statement}
-use Rattle.answer.proofs.put_band.Tie as tie
+use Rattle.band_answers.proofs.Bands.{room-done, done-lines}
+use Rattle.band_answers.proofs.put_band.Statement.{statement}
+use Rattle.band_answers.proofs.put_band.Tie as tie
 
 put-leaves-requires : tie.Need-put-leaves-requires
 put-leaves-requires c κs = (c .before .before .pre .stand, omega (arith, c .before .before .pre .room))

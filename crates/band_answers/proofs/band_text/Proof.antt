@@ -1,10 +1,10 @@
--- `answer::band_text` meets its contract. What was kept of the outline is what banding is lent, and it answers as for the whole.
+-- `band_answers::band_text` meets its contract. What was kept of the outline is what banding is lent, and it answers as for the whole.
 use borrow.Author.Needs.{needs}
-use Rattle.answer.proofs.Bands.{kept-inside, kept-length, refused-band, refused-records, text-band, text-records}
-use Rattle.answer.proofs.band_text.Statement.{statement}
-use Rattle.answer.proofs.band_text.Tie as tie
-use Rattle.answer.proofs.band_text.Reads as reads
-use Rattle.answer.proofs.band_text.Lts as lts
+use Rattle.band_answers.proofs.Bands.{kept-inside, kept-length, refused-band, refused-records, text-band, text-records}
+use Rattle.band_answers.proofs.band_text.Statement.{statement}
+use Rattle.band_answers.proofs.band_text.Tie as tie
+use Rattle.band_answers.proofs.band_text.Reads as reads
+use Rattle.band_answers.proofs.band_text.Lts as lts
 use Rattle.band.proofs.band.Reads as band-reads
 use Rattle.text.proofs.check_text.Reads as check-text-reads
 use Rattle.text.proofs.keep_outline.Reads as keep-outline-reads

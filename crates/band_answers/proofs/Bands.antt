@@ -28,7 +28,7 @@ use Rattle.text.specs.Outlines.{kept}
 use Rattle.text.proofs.Kept.{outline-kept, kept-few}
 use Rattle.render.specs.Answers.{doneLine}
 use Rattle.render.specs.Leaves.{leafLines}
-use Rattle.answer.specs.Bands.{bandOf, recordsOf, bandLines, RoomFor}
+use Rattle.band_answers.specs.Bands.{bandOf, recordsOf, bandLines, RoomFor}
 
 -- ---- `put_band`
 pub room-done : (leaves records out : ℕ) → RoomFor leaves records out → (d xs o : List ℕ) (i : ℕ) → length o ≡ out → Within d 0 (231 * leaves) xs o i → i + 70 ≤ length o

@@ -1,0 +1,2 @@
+-- Laws of the band of a text and its lines.
+pub mod Bands

@@ -1,0 +1,39 @@
+// The band of a text: checking and banding it, and the lines of a band that is done.
+ghost use mathlib.Core.Path.{_≡_};
+ghost use Prim.Native.Nat.{_+_, _*_, _≤_};
+ghost use lib.ListN.{length};
+ghost use Rattle.appends.specs.Appends.{Within};
+ghost use Rattle.text.specs.Meaning.{meaning};
+ghost use Rattle.band_answers.specs.Bands.{bandOf, recordsOf, bandLines, RoomFor};
+use band::Banded;
+use text::Checked;
+
+// Checks a text and bands its outline at its tolerance: the first fault of the text, or what banding answers. The leaves' records stand at the front of the list
+// afterwards, and what stood behind them stays; a refusal alters nothing there.
+pub fn band_text(text: &[u8], numbers: &mut [i32], records: &mut [i32]) -> Banded
+    requires { ⌜ 577 ≤ length (now numbers) ⌝ }
+    ensures { λ r. ⌜ (r ≡ bandOf (meaning (now (text .entry))) (length (now (records .entry)))) × (now (records .exit) ≡ recordsOf (meaning (now (text .entry))) (now (records .entry))) ⌝ }
+{
+    match text::check_text(text) {
+        Checked::Refused(refusal) => Banded::Refused(refusal),
+        Checked::Tolerance(tolerance) => {
+            let n = text::keep_outline(text, numbers);
+            band::band(&numbers[..n], tolerance, records)
+        }
+    }
+}
+
+// The lines of a band that is done: its leaves and the report, from the front on.
+pub fn put_band(
+    curves: usize,
+    leaves: usize,
+    nodes: usize,
+    records: &[i32],
+    out: &mut [u8],
+) -> usize
+    requires { ⌜ RoomFor leaves (length (now records)) (length (now out)) ⌝ }
+    ensures { λ r. ⌜ Within (now (out .entry)) 0 (231 * leaves + 70) (bandLines curves leaves nodes (now (records .entry))) (now (out .exit)) r ⌝ }
+{
+    let i = render::put_leaves(records, leaves, out, 0);
+    render::put_done(out, i, curves, leaves, nodes)
+}
