@@ -23,7 +23,7 @@ use Rattle.text.specs.Meaning.{numbersOf, faultFrom, meaningOf, meaning}
 use Rattle.text.proofs.Examples.{listing}
 use Rattle.decimals.specs.Decimals.{digits, decimal, spaced, spacedNatural}
 use Rattle.render.specs.Answers.{doneLine, refusedLine}
-use Rattle.render.specs.Leaves.{fourNumbers, boxBytes, boxesBytes, leafLine, leafLines}
+use Rattle.leaf_lines.specs.Leaves.{fourNumbers, boxBytes, boxesBytes, leafLine, leafLines}
 use Rattle.leaf_list.specs.Checks.{numberFault}
 use Rattle.held.specs.Deciding.{held}
 use Rattle.judge.specs.Judging.{judgingFault}

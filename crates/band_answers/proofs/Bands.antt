@@ -27,7 +27,7 @@ use Rattle.text.specs.Meaning.{Meaning, refused, means, meaning, checkedOf}
 use Rattle.text.specs.Outlines.{kept}
 use Rattle.text.proofs.Kept.{outline-kept, kept-few}
 use Rattle.render.specs.Answers.{doneLine}
-use Rattle.render.specs.Leaves.{leafLines}
+use Rattle.leaf_lines.specs.Leaves.{leafLines}
 use Rattle.band_answers.specs.Bands.{bandOf, recordsOf, bandLines, RoomFor}
 
 -- ---- `put_band`

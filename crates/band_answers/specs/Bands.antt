@@ -8,7 +8,7 @@ use Rattle.band.specs.declared.Banded.the-variants.{Refused}
 use Rattle.band.specs.Banding.{banded, written}
 use Rattle.text.specs.Meaning.{Meaning, refused, means}
 use Rattle.render.specs.Answers.{doneLine}
-use Rattle.render.specs.Leaves.{leafLines}
+use Rattle.leaf_lines.specs.Leaves.{leafLines}
 
 abbrev pub bandOf : Meaning → ℕ → Banded
 bandOf (refused r) room = Refused r

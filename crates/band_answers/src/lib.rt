@@ -34,6 +34,6 @@ pub fn put_band(
     requires { ⌜ RoomFor leaves (length (now records)) (length (now out)) ⌝ }
     ensures { λ r. ⌜ Within (now (out .entry)) 0 (231 * leaves + 70) (bandLines curves leaves nodes (now (records .entry))) (now (out .exit)) r ⌝ }
 {
-    let i = render::put_leaves(records, leaves, out, 0);
+    let i = leaf_lines::put_leaves(records, leaves, out, 0);
     render::put_done(out, i, curves, leaves, nodes)
 }

@@ -8,7 +8,8 @@ use Rattle.refusals.specs.Refusals.{numberOf, spotOf}
 use Rattle.appends.specs.Appends.{Appended, Within}
 use Rattle.appends.proofs.Appends.{append-both, within}
 use Rattle.decimals.specs.Decimals.{spacedNatural}
-use Rattle.render.specs.Answers.{closing, done, doneLine, refusedWord, refusedLine}
+use Rattle.leaf_lines.specs.Leaves.{closing}
+use Rattle.render.specs.Answers.{done, doneLine, refusedWord, refusedLine}
 
 module _ (d : List ℕ) (i : ℕ) where
   pub three-put : (a b c : ℕ) (o u v : List ℕ) (j k l : ℕ) → Within d i 21 (spacedNatural a) o j → Within o j 21 (spacedNatural b) u k → Within u k 21 (spacedNatural c) v l

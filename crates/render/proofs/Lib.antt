@@ -1,4 +1,3 @@
--- Laws of the answer's lines. Each file opens with what it holds.
+-- Laws of the answer's lines but for the leaves. Each file opens with what it holds.
 pub mod Answers
-pub mod LeafLines
 pub mod Examples

@@ -5,10 +5,7 @@ use Prim.Native.Nat.{ℕ}
 use Rattle.refusals.specs.declared.Refusal.{Refusal}
 use Rattle.refusals.specs.Refusals.{numberOf, spotOf}
 use Rattle.decimals.specs.Decimals.{spacedNatural}
-
--- ")" and the end of the line
-abbrev pub closing : List ℕ
-closing = 41 ∷ 10 ∷ []
+use Rattle.leaf_lines.specs.Leaves.{closing}
 
 -- "(done"
 abbrev pub done : List ℕ

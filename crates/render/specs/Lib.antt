@@ -1,3 +1,2 @@
--- What a reader must believe of the answer's lines.
+-- What a reader must believe of the answer's lines but for the leaves.
 pub mod Answers
-pub mod Leaves

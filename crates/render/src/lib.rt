@@ -1,31 +1,14 @@
-// The lines of the answer, put into a list of bytes. Each function asks for the room that it may need, and returns the place after the line.
+// The lines of the answer but for the leaves, put into a list of bytes. Each function asks for the room that it may need, and returns the place after the line.
 ghost use mathlib.Core.List.{_++_};
-ghost use Prim.Native.Nat.{_+_, _*_, _≤_};
+ghost use Prim.Native.Nat.{_+_, _≤_};
 ghost use lib.ListN.{length};
 ghost use Rattle.appends.specs.Appends.{Appended, Within};
-ghost use Rattle.render.specs.Answers.{closing, doneLine, refusedWord, refusedLine, onLine, offLine};
-ghost use Rattle.render.specs.Leaves.{leafLines};
+ghost use Rattle.leaf_lines.specs.Leaves.{closing};
+ghost use Rattle.render.specs.Answers.{doneLine, refusedWord, refusedLine, onLine, offLine};
 ghost use Rattle.decimals.specs.Decimals.{spacedNatural};
 use decimals::put_spaced_natural;
 use decimals::put_word;
-use leaves::put_leaf;
 use refusals::Refusal;
-
-mod leaves;
-
-// The lines of the first n records of a leaf list.
-pub fn put_leaves(records: &[i32], n: usize, out: &mut [u8], from: usize) -> usize
-    requires { ⌜ (18 * n ≤ length (now records)) × (from + 231 * n ≤ length (now out)) ⌝ }
-    ensures { λ r. ⌜ Within (now (out .entry)) from (231 * n) (leafLines (now (records .entry)) n) (now (out .exit)) r ⌝ }
-{
-    let mut at = from;
-    let mut k: usize = 0;
-    while k < n {
-        at = put_leaf(records, 18 * k, out, at);
-        k += 1;
-    }
-    at
-}
 
 // What banding reports.
 pub fn put_done(out: &mut [u8], at: usize, curves: usize, leaves: usize, nodes: usize) -> usize

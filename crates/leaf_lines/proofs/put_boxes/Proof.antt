@@ -1,10 +1,10 @@
--- `render::leaves::put_boxes` meets its contract. The loop's invariant: so many boxes are put.
+-- `leaf_lines::put_boxes` meets its contract. The loop's invariant: so many boxes are put.
 use Prim.Native.Nat.{_-_}
 use borrow.Author.Needs.{needs}
-use Rattle.render.specs.Leaves.{boxesBytes}
-use Rattle.render.proofs.LeafLines.{Putting, boxes-start, boxes-more, boxes-all}
-use Rattle.render.proofs.leaves.put_boxes.Statement.{statement}
-use Rattle.render.proofs.leaves.put_boxes.Tie as tie
+use Rattle.leaf_lines.specs.Leaves.{boxesBytes}
+use Rattle.leaf_lines.proofs.LeafLines.{Putting, boxes-start, boxes-more, boxes-all}
+use Rattle.leaf_lines.proofs.put_boxes.Statement.{statement}
+use Rattle.leaf_lines.proofs.put_boxes.Tie as tie
 
 abbrev Inv-loop : tie.InvT-loop
 Inv-loop ns k out₀ from at₀ i₀ out at i = Putting 50 (boxesBytes ns k) 4 out₀ «from» out at i

@@ -1,10 +1,10 @@
--- `render::put_leaves` meets its contract. The loop's invariant: the lines of so many records are put.
+-- `leaf_lines::put_leaves` meets its contract. The loop's invariant: the lines of so many records are put.
 use Prim.Native.Nat.{_-_}
 use borrow.Author.Needs.{needs}
-use Rattle.render.specs.Leaves.{leafLines}
-use Rattle.render.proofs.LeafLines.{Putting, leaves-start, leaves-more, leaves-all}
-use Rattle.render.proofs.put_leaves.Statement.{statement}
-use Rattle.render.proofs.put_leaves.Tie as tie
+use Rattle.leaf_lines.specs.Leaves.{leafLines}
+use Rattle.leaf_lines.proofs.LeafLines.{Putting, leaves-start, leaves-more, leaves-all}
+use Rattle.leaf_lines.proofs.put_leaves.Statement.{statement}
+use Rattle.leaf_lines.proofs.put_leaves.Tie as tie
 
 abbrev Inv-loop : tie.InvT-loop
 Inv-loop records n out₀ from at₀ k₀ out at k = Putting 231 (leafLines records) n out₀ «from» out at k

@@ -1,8 +1,8 @@
--- `render::leaves::put_four` meets its contract.
+-- `leaf_lines::put_four` meets its contract.
 use borrow.Author.Needs.{needs}
-use Rattle.render.proofs.LeafLines.{four-put}
-use Rattle.render.proofs.leaves.put_four.Statement.{statement}
-use Rattle.render.proofs.leaves.put_four.Tie as tie
+use Rattle.leaf_lines.proofs.LeafLines.{four-put}
+use Rattle.leaf_lines.proofs.put_four.Statement.{statement}
+use Rattle.leaf_lines.proofs.put_four.Tie as tie
 
 put-first-requires : tie.Need-put-first-requires
 put-first-requires c κs = search needs

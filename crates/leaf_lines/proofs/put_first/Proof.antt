@@ -1,8 +1,8 @@
--- `render::leaves::put_first` meets its contract.
+-- `leaf_lines::put_first` meets its contract.
 use borrow.Author.Needs.{needs}
-use Rattle.render.proofs.LeafLines.{first-put}
-use Rattle.render.proofs.leaves.put_first.Statement.{statement}
-use Rattle.render.proofs.leaves.put_first.Tie as tie
+use Rattle.leaf_lines.proofs.LeafLines.{first-put}
+use Rattle.leaf_lines.proofs.put_first.Statement.{statement}
+use Rattle.leaf_lines.proofs.put_first.Tie as tie
 
 mul-value : tie.Need-mul-value
 mul-value c = search needs

@@ -1,8 +1,8 @@
--- `render::leaves::put_box` meets its contract.
+-- `leaf_lines::put_box` meets its contract.
 use borrow.Author.Needs.{needs}
-use Rattle.render.proofs.LeafLines.{box-put}
-use Rattle.render.proofs.leaves.put_box.Statement.{statement}
-use Rattle.render.proofs.leaves.put_box.Tie as tie
+use Rattle.leaf_lines.proofs.LeafLines.{box-put}
+use Rattle.leaf_lines.proofs.put_box.Statement.{statement}
+use Rattle.leaf_lines.proofs.put_box.Tie as tie
 
 slice-aggregate-put-word : tie.Need-slice-aggregate-put-word
 slice-aggregate-put-word c = search needs

@@ -13,8 +13,7 @@ use Rattle.integers.proofs.Ranges.{stored, read-again}
 use Rattle.appends.specs.Appends.{Appended, Within}
 use Rattle.appends.proofs.Appends.{append-none, append-both, within}
 use Rattle.decimals.specs.Decimals.{decimal, spaced}
-use Rattle.render.specs.Answers.{closing}
-use Rattle.render.specs.Leaves.{fourNumbers, opening, ending, boxBytes, boxesBytes, leaf, leafLine, leafLines}
+use Rattle.leaf_lines.specs.Leaves.{fourNumbers, opening, ending, boxBytes, boxesBytes, leaf, closing, leafLine, leafLines}
 
 -- ---- a number as it was read from the list
 module _ (d o : List ℕ) (i j : ℕ) (z : ℤ) (h : mag z < 2 ^ 31) where

@@ -1,17 +1,32 @@
-// The line of a leaf record. `ns` is a list of records, k the index of a number in it.
+// The lines of leaf records, put into a list of bytes. Each function asks for the room that it may need, and returns the place after what it puts. `ns` is a list of
+// records, k the index of a number in it.
 ghost use mathlib.Core.List.{_++_};
 ghost use Prim.Native.Nat.{_+_, _*_, _≤_, _<_};
 ghost use lib.ListN.{length};
 ghost use Rattle.integers.specs.Entry.{entry};
 ghost use Rattle.appends.specs.Appends.{Within};
 ghost use Rattle.decimals.specs.Decimals.{decimal, spaced};
-ghost use Rattle.render.specs.Leaves.{fourNumbers, boxBytes, boxesBytes, leaf, leafLine};
+ghost use Rattle.leaf_lines.specs.Leaves.{fourNumbers, boxBytes, boxesBytes, leaf, leafLine, leafLines};
 use decimals::put_number;
 use decimals::put_spaced;
 use decimals::put_word;
 
+// The lines of the first n records of a leaf list.
+pub fn put_leaves(records: &[i32], n: usize, out: &mut [u8], from: usize) -> usize
+    requires { ⌜ (18 * n ≤ length (now records)) × (from + 231 * n ≤ length (now out)) ⌝ }
+    ensures { λ r. ⌜ Within (now (out .entry)) from (231 * n) (leafLines (now (records .entry)) n) (now (out .exit)) r ⌝ }
+{
+    let mut at = from;
+    let mut k: usize = 0;
+    while k < n {
+        at = put_leaf(records, 18 * k, out, at);
+        k += 1;
+    }
+    at
+}
+
 // The record whose curve stands at index k.
-pub fn put_leaf(ns: &[i32], k: usize, out: &mut [u8], at: usize) -> usize
+fn put_leaf(ns: &[i32], k: usize, out: &mut [u8], at: usize) -> usize
     requires { ⌜ (k + 18 ≤ length (now ns)) × (at + 231 ≤ length (now out)) ⌝ }
     ensures { λ r. ⌜ Within (now (out .entry)) at 231 (leafLine (now (ns .entry)) k) (now (out .exit)) r ⌝ }
 {

@@ -1,8 +1,8 @@
--- `render::leaves::put_head` meets its contract.
+-- `leaf_lines::put_head` meets its contract.
 use borrow.Author.Needs.{needs}
-use Rattle.render.proofs.LeafLines.{head-put}
-use Rattle.render.proofs.leaves.put_head.Statement.{statement}
-use Rattle.render.proofs.leaves.put_head.Tie as tie
+use Rattle.leaf_lines.proofs.LeafLines.{head-put}
+use Rattle.leaf_lines.proofs.put_head.Statement.{statement}
+use Rattle.leaf_lines.proofs.put_head.Tie as tie
 
 slice-aggregate-put-word : tie.Need-slice-aggregate-put-word
 slice-aggregate-put-word c = search needs

@@ -1,8 +1,8 @@
--- `render::leaves::put_leaf` meets its contract.
+-- `leaf_lines::put_leaf` meets its contract.
 use borrow.Author.Needs.{needs}
-use Rattle.render.proofs.LeafLines.{leaf-put}
-use Rattle.render.proofs.leaves.put_leaf.Statement.{statement}
-use Rattle.render.proofs.leaves.put_leaf.Tie as tie
+use Rattle.leaf_lines.proofs.LeafLines.{leaf-put}
+use Rattle.leaf_lines.proofs.put_leaf.Statement.{statement}
+use Rattle.leaf_lines.proofs.put_leaf.Tie as tie
 
 put-head-requires : tie.Need-put-head-requires
 put-head-requires c κs = search needs

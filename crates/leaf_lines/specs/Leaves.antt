@@ -5,7 +5,6 @@ use Prim.Native.Nat.{ℕ, zero, suc, _+_, _*_}
 use lib.IntN.{ℤ}
 use Rattle.integers.specs.Entry.{entry}
 use Rattle.decimals.specs.Decimals.{decimal, spaced}
-use Rattle.render.specs.Answers.{closing}
 
 -- four numbers with spaces between them
 unfoldable pub fourNumbers : List ℤ → ℕ → List ℕ
@@ -29,6 +28,10 @@ boxesBytes ns i (suc n) = boxesBytes ns i n ++ boxBytes ns (i + 4 * n)
 -- "(leaf"
 abbrev pub leaf : List ℕ
 leaf = 40 ∷ 108 ∷ 101 ∷ 97 ∷ 102 ∷ []
+
+-- ")" and the end of the line
+abbrev pub closing : List ℕ
+closing = 41 ∷ 10 ∷ []
 
 -- the record whose curve stands at index i
 unfoldable pub leafLine : List ℤ → ℕ → List ℕ

@@ -1,8 +1,8 @@
--- `render::leaves::put_element` meets its contract.
+-- `leaf_lines::put_element` meets its contract.
 use borrow.Author.Needs.{needs}
-use Rattle.render.proofs.LeafLines.{element-put}
-use Rattle.render.proofs.leaves.put_element.Statement.{statement}
-use Rattle.render.proofs.leaves.put_element.Tie as tie
+use Rattle.leaf_lines.proofs.LeafLines.{element-put}
+use Rattle.leaf_lines.proofs.put_element.Statement.{statement}
+use Rattle.leaf_lines.proofs.put_element.Tie as tie
 
 mul-value : tie.Need-mul-value
 mul-value c = search needs

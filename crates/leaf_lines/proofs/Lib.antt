@@ -1,0 +1,3 @@
+-- Laws of the lines of leaf records. Each file opens with what it holds.
+pub mod LeafLines
+pub mod Examples
