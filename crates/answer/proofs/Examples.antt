@@ -8,9 +8,10 @@ use Rattle.bezier.specs.Halves.{triangle, left, right, leftHalf, rightHalf}
 use Rattle.bezier.specs.Nodes.{descendIn, descend, depth, nodeCurve}
 use Rattle.enclosure.specs.Bounds.{rowSum, high, low}
 use Rattle.node_boxes.specs.Boxes.{boxAt, meets}
-use Rattle.outline.specs.Curves.{curveAt}
+use Rattle.outline_curves.specs.Curves.{curveAt}
 use Rattle.integers.specs.First.{firstBad}
-use Rattle.outline.specs.Checks.{faultAt, outlineFrom, outlined}
+use Rattle.outline_curves.specs.Faults.{faultAt}
+use Rattle.outline.specs.Checks.{outlineFrom, outlined}
 use Rattle.tree.specs.Tree.{ends, met, firstFailing}
 use Rattle.records.specs.Records.{recordOf, allRecords}
 use Rattle.records.specs.Records as Records

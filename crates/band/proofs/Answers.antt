@@ -15,7 +15,7 @@ use Rattle.refusals.specs.declared.Refusal.{Refusal}
 use Rattle.refusals.specs.declared.Refusal.the-variants.{Tolerance, TooFewRecords}
 use Rattle.bezier.specs.declared.Curve.{Curve}
 use Rattle.outline.specs.declared.Checked.the-variants.{Curves as Found, Refused as Faulty}
-use Rattle.outline.specs.Curves.{nextAt, curveAt}
+use Rattle.outline_curves.specs.Curves.{nextAt, curveAt}
 use Rattle.outline.specs.Checks.{toleranceFine, curves, withCurve, outlineFrom, outlined, checkedOf}
 use Rattle.outline.proofs.Steps.{outline-begins, outline-ends, outline-ended, outline-step}
 use Rattle.outline.proofs.Accepted.{Accepted, checked-curves, checked-refused, outlined-from, accepted-most}

@@ -14,9 +14,10 @@ use Rattle.refusals.specs.declared.Refusal.{Refusal}
 use Rattle.refusals.specs.declared.Refusal.the-variants.{Tolerance, Degree, CutShort, Coordinate, TooManyCurves}
 use Rattle.refusals.specs.Refusals.{numberOf}
 use Rattle.bezier.specs.declared.Curve.{Curve}
-use Rattle.outline.specs.Curves.{coordinates, degreeAt, nextAt, curveAt}
+use Rattle.outline_curves.specs.Curves.{coordinates, degreeAt, nextAt, curveAt}
 use Rattle.integers.specs.Between.{between}
-use Rattle.outline.specs.Checks.{Outlined, curves, faulty, toleranceFine, withCurve, firstBeyond, faultAt, outlineFrom, outlined}
+use Rattle.outline_curves.specs.Faults.{firstBeyond, faultAt}
+use Rattle.outline.specs.Checks.{Outlined, curves, faulty, toleranceFine, withCurve, outlineFrom, outlined}
 use Rattle.band.specs.declared.Banded.the-variants.{Refused}
 use Rattle.band.specs.Banding.{bandCurves, banded}
 use Rattle.band.specs.Outcomes.{Faultless}

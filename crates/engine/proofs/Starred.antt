@@ -16,8 +16,9 @@ use Rattle.bezier.specs.Nodes.{descendIn, descend, depth, nodeCurve}
 use Rattle.boxes.specs.Records.{boxIndex, boxAtIndex}
 use Rattle.enclosure.specs.Bounds.{rowSum, high, low}
 use Rattle.node_boxes.specs.Boxes.{boxAt, meets}
-use Rattle.outline.specs.Curves.{curveAt}
-use Rattle.outline.specs.Checks.{faultAt, outlineFrom, outlined}
+use Rattle.outline_curves.specs.Curves.{curveAt}
+use Rattle.outline_curves.specs.Faults.{faultAt}
+use Rattle.outline.specs.Checks.{outlineFrom, outlined}
 use Rattle.tree.specs.Tree.{ends, met, firstFailing}
 use Rattle.records.specs.Records.{recordOf, recordsOf, allRecords}
 use Rattle.passes.specs.Leaves.{firstTooWide, leavesOf, nodesOf}

@@ -12,10 +12,11 @@ use Rattle.refusals.specs.declared.Refusal.{Refusal}
 use Rattle.bezier.specs.declared.Curve.{Curve}
 use Rattle.bezier.specs.Bounds.{Sized}
 use Rattle.outline.specs.declared.Checked.the-variants.{Curves, Refused}
-use Rattle.outline.specs.Curves.{nextAt, curveAt}
-use Rattle.outline.specs.Checks.{Outlined, curves, faulty, faultAt, outlineFrom, outlined, checkedOf}
+use Rattle.outline_curves.specs.Curves.{nextAt, curveAt}
+use Rattle.outline_curves.specs.Faults.{faultAt}
+use Rattle.outline.specs.Checks.{Outlined, curves, faulty, outlineFrom, outlined, checkedOf}
 use Rattle.integers.proofs.Clash.{clash}
-use Rattle.outline.proofs.Faultless.{Padded, faultless, curve-sized, curve-padded}
+use Rattle.outline_curves.proofs.Faultless.{Padded, faultless, curve-sized, curve-padded}
 use Rattle.outline.proofs.Steps.{outline-begins, outline-ends}
 
 -- ---- what holds of every curve without a fault holds of each curve of an accepted list

@@ -6,9 +6,10 @@ use Prim.Native.Nat.{ℕ, zero, suc}
 use lib.ListN.{length}
 use lib.IntN.{ℤ, pos, negsuc, negℤ}
 use Rattle.refusals.specs.Refusals.{numberOf, spotOf}
-use Rattle.outline.specs.Curves.{curveAt}
+use Rattle.outline_curves.specs.Curves.{curveAt}
 use Rattle.integers.specs.First.{firstBad}
-use Rattle.outline.specs.Checks.{Outlined, curves, faulty, toleranceFine, faultAt, outlineFrom, outlined}
+use Rattle.outline_curves.specs.Faults.{faultAt}
+use Rattle.outline.specs.Checks.{Outlined, curves, faulty, toleranceFine, outlineFrom, outlined}
 
 -- the number and the spot of a refusal, or 0 and how many curves there are
 abbrev answer : Outlined → ℕ × ℕ

@@ -1,6 +1,4 @@
 -- Laws of outlines. Each file opens with what it holds.
-pub mod Degrees
-pub mod Faultless
 pub mod Steps
 pub mod Accepted
 pub mod Examples

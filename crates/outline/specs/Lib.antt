@@ -1,3 +1,2 @@
--- What a reader must believe of outlines: their curves, and the checks in document 01's order.
-pub mod Curves
+-- What a reader must believe of outlines: the checks in document 01's order.
 pub mod Checks

@@ -11,7 +11,7 @@ use lib.IntN.{ℤ, pos}
 use lib.Signed.{_≤ℤ_}
 use Rattle.integers.proofs.Stores.{sets-append}
 use Rattle.bezier.specs.declared.Curve.{Curve}
-use Rattle.outline.specs.Curves.{nextAt, curveAt}
+use Rattle.outline_curves.specs.Curves.{nextAt, curveAt}
 use Rattle.outline.specs.Checks.{outlineFrom}
 use Rattle.tree.specs.Walked.{nodeMeets, endsOf}
 use Rattle.records.specs.Records.{recordsOf, allRecords}

@@ -8,8 +8,9 @@ use lib.ListN.{length}
 use lib.IntN.{ℤ}
 use Rattle.bezier.specs.declared.Curve.{Curve}
 use Rattle.bezier.specs.Bounds.{Sized}
-use Rattle.outline.specs.Curves.{nextAt, curveAt}
-use Rattle.outline.specs.Checks.{curves, faultAt, outlineFrom}
+use Rattle.outline_curves.specs.Curves.{nextAt, curveAt}
+use Rattle.outline_curves.specs.Faults.{faultAt}
+use Rattle.outline.specs.Checks.{curves, outlineFrom}
 use Rattle.outline.proofs.Steps.{outline-begins}
 use Rattle.outline.proofs.Accepted.{accepted-head}
 use Rattle.passes.specs.Counted.{Readable}

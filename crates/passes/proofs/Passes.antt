@@ -10,7 +10,7 @@ use lib.ListN.{length}
 use lib.IntN.{ℤ}
 use Rattle.refusals.specs.declared.Refusal.the-variants.{TooWide as WideCurve}
 use Rattle.bezier.specs.declared.Curve.{Curve}
-use Rattle.outline.specs.Curves.{nextAt, curveAt}
+use Rattle.outline_curves.specs.Curves.{nextAt, curveAt}
 use Rattle.outline.specs.Checks.{outlineFrom}
 use Rattle.passes.specs.declared.Counted.{Counted}
 use Rattle.passes.specs.declared.Counted.the-variants.{Leaves, Refused}

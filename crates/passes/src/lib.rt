@@ -10,6 +10,8 @@ ghost use Rattle.passes.specs.Leaves.{curvesOf};
 ghost use Rattle.passes.specs.Counted.{Readable, countedOf};
 ghost use Rattle.passes.specs.Writing.{Ready, Fillable};
 use bezier::Curve;
+use outline_curves::curve_at;
+use outline_curves::next_at;
 use records::put_record;
 use refusals::Refusal;
 use tree::Walked;
@@ -30,7 +32,7 @@ pub fn count(ns: &[i32], t: i64, curves: usize) -> Counted
     let mut at: usize = 0;
     let mut k: usize = 0;
     while k < curves {
-        match walk(outline::curve_at(ns, at), t) {
+        match walk(curve_at(ns, at), t) {
             Walked::TooWide(node) => {
                 return Counted::Refused(Refusal::TooWide {
                     curve: k as u32,
@@ -41,7 +43,7 @@ pub fn count(ns: &[i32], t: i64, curves: usize) -> Counted
                 leaves += n;
             }
         }
-        at = outline::next_at(ns, at);
+        at = next_at(ns, at);
         k += 1;
     }
     Counted::Leaves(leaves)
@@ -84,8 +86,8 @@ pub fn write_all(records: &mut [i32], ns: &[i32], t: i64, curves: usize)
     let mut place: usize = 0;
     let mut k: usize = 0;
     while k < curves {
-        place = write_curve(records, place, k as u32, outline::curve_at(ns, at), t);
-        at = outline::next_at(ns, at);
+        place = write_curve(records, place, k as u32, curve_at(ns, at), t);
+        at = next_at(ns, at);
         k += 1;
     }
 }

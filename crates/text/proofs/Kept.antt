@@ -15,11 +15,12 @@ use Rattle.integers.specs.Entry.{entry}
 use Rattle.refusals.specs.declared.Refusal.{Refusal}
 use Rattle.refusals.specs.declared.Refusal.the-variants.{TooManyCurves}
 use Rattle.bezier.proofs.Values.{listed-ext}
-use Rattle.outline.specs.Curves.{coordinates, degreeAt, nextAt, values, curveAt}
+use Rattle.outline_curves.specs.Curves.{coordinates, degreeAt, nextAt, values, curveAt}
 use Rattle.integers.specs.Between.{between}
 use Rattle.integers.specs.First.{firstBad}
-use Rattle.outline.specs.Checks.{coordinateFine, firstBeyond, faultAt, foundOf, faultOf, faulty, withCurve, outlineFrom, outlined}
-use Rattle.outline.proofs.Faultless.{coordinateFault, fault-degree, fault-coordinate}
+use Rattle.outline_curves.specs.Faults.{coordinateFine, firstBeyond, faultAt, foundOf, faultOf}
+use Rattle.outline.specs.Checks.{faulty, withCurve, outlineFrom, outlined}
+use Rattle.outline_curves.proofs.Faultless.{coordinateFault, fault-degree, fault-coordinate}
 use Rattle.outline.proofs.Steps.{outline-full, outline-faulty, outline-step}
 use Rattle.forms.specs.declared.Points.{Points}
 use Rattle.forms.specs.declared.Form.{Form}

@@ -8,8 +8,8 @@ use mir.Syntax.{w64}
 use mir.Val.{toZ}
 use mir.Facts.{toZ-ofZ}
 use Rattle.integers.proofs.Ranges.{stored}
-use Rattle.outline.specs.Curves.{curveAt}
-use Rattle.outline.proofs.Faultless.{faultless}
+use Rattle.outline_curves.specs.Curves.{curveAt}
+use Rattle.outline_curves.proofs.Faultless.{faultless}
 use Rattle.tree.specs.declared.Walked.the-variants.{Leaves as WalkLeaves}
 use Rattle.tree.specs.Walked.{walkedOf}
 use Rattle.passes.proofs.Outlines.{rest-next}

@@ -9,7 +9,7 @@ use lib.IntN.{ℤ, pos, negsuc, natAbs}
 use lib.Signed.{_≤ℤ_}
 use Rattle.integers.specs.Entry.{entry}
 use Rattle.integers.proofs.Order.{NonNeg, nonneg, ≤ℤ-trans, pos-le, le-pos}
-use Rattle.outline.specs.Curves.{degreeAt}
+use Rattle.outline_curves.specs.Curves.{degreeAt}
 use Rattle.integers.specs.Between.{between}
 use Rattle.integers.proofs.Between.{between-low, between-high}
 

@@ -1,4 +1,4 @@
--- `outline::degree_at` meets its contract: a degree from 1 to 3 stands inside the list and is a natural.
+-- `outline_curves::degree_at` meets its contract: a degree from 1 to 3 stands inside the list and is a natural.
 use borrow.Author.Needs.{needs}
 use native.Mathlib.Omega.{arith}
 use mir.Syntax.{w32}
@@ -6,9 +6,9 @@ use Rattle.integers.specs.Entry.{entry}
 use Rattle.integers.proofs.Ranges.{stored}
 use Rattle.integers.proofs.Size.{Size}
 use Rattle.integers.proofs.Machine.{machine, unsigned! }
-use Rattle.outline.proofs.Degrees.{degree-most, degree-nonneg, degree-inside}
-use Rattle.outline.proofs.degree_at.Statement.{statement}
-use Rattle.outline.proofs.degree_at.Tie as tie
+use Rattle.outline_curves.proofs.Degrees.{degree-most, degree-nonneg, degree-inside}
+use Rattle.outline_curves.proofs.degree_at.Statement.{statement}
+use Rattle.outline_curves.proofs.degree_at.Tie as tie
 
 mul-result : tie.Need-mul-result
 mul-result c = omega (arith, degree-inside (c .args .ns .now) (c .args .at) (c .pre))

@@ -1,9 +1,9 @@
--- `outline::next_at` meets its contract: the degree is at most 3, and its index is inside the list, so that the sum has room.
+-- `outline_curves::next_at` meets its contract: the degree is at most 3, and its index is inside the list, so that the sum has room.
 use native.Mathlib.Omega.{arith}
 use borrow.Author.Needs.{needs}
-use Rattle.outline.proofs.Degrees.{degree-most, degree-inside}
-use Rattle.outline.proofs.next_at.Statement.{statement}
-use Rattle.outline.proofs.next_at.Tie as tie
+use Rattle.outline_curves.proofs.Degrees.{degree-most, degree-inside}
+use Rattle.outline_curves.proofs.next_at.Statement.{statement}
+use Rattle.outline_curves.proofs.next_at.Tie as tie
 
 degree-at-requires : tie.Need-degree-at-requires
 degree-at-requires c κs = search needs

@@ -1,0 +1,3 @@
+-- Laws of one curve of an outline. Each file opens with what it holds.
+pub mod Degrees
+pub mod Faultless
