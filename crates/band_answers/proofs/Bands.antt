@@ -24,8 +24,8 @@ use Rattle.text.specs.declared.Checked.{Checked}
 use Rattle.text.specs.declared.Checked.the-variants.{Tolerance as Accepted, Refused as Stopped}
 use Rattle.text.specs.Lines.{linesOf}
 use Rattle.text.specs.Meaning.{Meaning, refused, means, meaning, checkedOf}
-use Rattle.text.specs.Outlines.{kept}
-use Rattle.text.proofs.Kept.{outline-kept, kept-few}
+use Rattle.text_outline.specs.Outlines.{kept}
+use Rattle.text_outline.proofs.Kept.{outline-kept, kept-few}
 use Rattle.render.specs.Answers.{doneLine}
 use Rattle.leaf_lines.specs.Leaves.{leafLines}
 use Rattle.band_answers.specs.Bands.{bandOf, recordsOf, bandLines, RoomFor}

@@ -17,7 +17,7 @@ pub fn band_text(text: &[u8], numbers: &mut [i32], records: &mut [i32]) -> Bande
     match text::check_text(text) {
         Checked::Refused(refusal) => Banded::Refused(refusal),
         Checked::Tolerance(tolerance) => {
-            let n = text::keep_outline(text, numbers);
+            let n = text_outline::keep_outline(text, numbers);
             band::band(&numbers[..n], tolerance, records)
         }
     }

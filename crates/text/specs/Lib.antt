@@ -1,5 +1,4 @@
--- What a reader must believe of a text: its lines, and what they mean or which refusal they get. `Outlines` is what the program keeps of an outline.
+-- What a reader must believe of a text: its lines, and what they mean or which refusal they get.
 pub mod Lines
 pub mod Meaning
-pub mod Outlines
 pub mod Orders

@@ -1,18 +1,13 @@
-// The checks of a text, and the outline that it gives. A text is checked whole before anything is kept of it.
+// The checks of a text. It is checked whole before anything is kept of it.
 ghost use mathlib.Core.Path.{_≡_};
 ghost use mathlib.Core.Bool.{false};
-ghost use Prim.Native.Nat.{_-_, _≤_};
+ghost use Prim.Native.Nat.{_-_};
 ghost use lib.ListN.{length};
 ghost use Rattle.text.specs.Lines.{linesFrom, linesOf};
 ghost use Rattle.text.specs.Meaning.{faultFrom, meaningOf, meaning, checkedOf};
 ghost use Rattle.text.specs.Orders.{orderOf};
-ghost use Rattle.text.specs.Outlines.{kept};
-ghost use Rattle.appends.specs.Appends.{Appended};
 use forms::Form;
-use keep::fill;
 use refusals::Refusal;
-
-mod keep;
 
 // What the checks of a text find: its tolerance, or the first fault.
 pub enum Checked {
@@ -34,15 +29,6 @@ pub fn check_text(text: &[u8]) -> Checked
         return Checked::Refused(Refusal::TextTooLong(16385));
     }
     check_lines(text)
-}
-
-// Puts the outline of a text at the front of a list, as far as the checks of an outline of 64 curves look at it, and answers how many numbers that are. Of a
-// text that is refused these are the curves before the first line that is no form.
-pub fn keep_outline(text: &[u8], numbers: &mut [i32]) -> usize
-    requires { ⌜ 577 ≤ length (now numbers) ⌝ }
-    ensures { λ r. ⌜ Appended (now (numbers .entry)) 0 (kept 64 (linesOf (now (text .entry)))) (now (numbers .exit)) r ⌝ }
-{
-    fill(text, numbers)
 }
 
 // Checks 14 and 15 of a text.

@@ -1,17 +1,26 @@
-// The numbers of the curves of a text, put into a list one after the other.
+// The outline that a text gives: the numbers of its curves, put into a list one after the other.
 ghost use mathlib.Core.Path.{_≡_};
 ghost use mathlib.Core.List.{[], _∷_};
 ghost use Prim.Native.Nat.{_+_, _≤_, _<_};
 ghost use lib.ListN.{length};
 ghost use Rattle.appends.specs.Appends.{Appended};
 ghost use Rattle.text.specs.Lines.{linesOf};
 ghost use Rattle.text.specs.Meaning.{numbersOf};
-ghost use Rattle.text.specs.Outlines.{kept, firstNumbers};
+ghost use Rattle.text_outline.specs.Outlines.{kept, firstNumbers};
 use forms::Form;
 use forms::Points;
 
+// Puts the outline of a text at the front of a list, as far as the checks of an outline of 64 curves look at it, and answers how many numbers that are. Of a
+// text that is refused these are the curves before the first line that is no form.
+pub fn keep_outline(text: &[u8], numbers: &mut [i32]) -> usize
+    requires { ⌜ 577 ≤ length (now numbers) ⌝ }
+    ensures { λ r. ⌜ Appended (now (numbers .entry)) 0 (kept 64 (linesOf (now (text .entry)))) (now (numbers .exit)) r ⌝ }
+{
+    fill(text, numbers)
+}
+
 // The numbers of 64 curves, and the degree of one more.
-pub fn fill(text: &[u8], out: &mut [i32]) -> usize
+fn fill(text: &[u8], out: &mut [i32]) -> usize
     requires { ⌜ 577 ≤ length (now out) ⌝ }
     ensures { λ r. ⌜ Appended (now (out .entry)) 0 (kept 64 (linesOf (now (text .entry)))) (now (out .exit)) r ⌝ }
 {

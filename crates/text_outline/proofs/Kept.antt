@@ -27,11 +27,11 @@ use Rattle.forms.specs.declared.Form.{Form}
 use Rattle.forms.specs.declared.Form.the-variants.{Tolerance, Curve as CurveLine, Point, NoForm}
 use Rattle.forms.specs.Forms.{formAt}
 use Rattle.forms.proofs.Reach.{OneToThree, Reaches, form-reaches}
 use Rattle.text.specs.Lines.{onward, linesFrom, linesOf, gather}
 use Rattle.text.specs.Meaning.{numbersOf, curveNumbers, means, meaning}
-use Rattle.text.specs.Outlines.{kept}
-use Rattle.text.proofs.Filling.{few-numbers}
+use Rattle.text_outline.specs.Outlines.{kept}
+use Rattle.text_outline.proofs.Filling.{few-numbers}
 use Rattle.text.proofs.Accepted.{accepted}
 
 -- ---- two lists with the same numbers before index e
 record Agree (ns ms : List ℤ) (e : ℕ) : Type 0 where

@@ -1,12 +1,12 @@
--- `text::keep::put_first` meets its contract: one law a return.
+-- `text_outline::put_first` meets its contract: one law a return.
 use borrow.Author.Needs.{needs}
-use Rattle.text.proofs.Filling.{put-first-numbers}
-use Rattle.text.proofs.keep.put_first.Statement.{statement}
-use Rattle.text.proofs.keep.put_first.Tie as tie
-use Rattle.text.proofs.keep.put_first.Reads as reads
-use Rattle.text.proofs.keep.put_first.Lts as lts
-use Rattle.text.proofs.keep.put.Reads as put-reads
-use Rattle.text.proofs.keep.put_pair.Reads as put-pair-reads
+use Rattle.text_outline.proofs.Filling.{put-first-numbers}
+use Rattle.text_outline.proofs.put_first.Statement.{statement}
+use Rattle.text_outline.proofs.put_first.Tie as tie
+use Rattle.text_outline.proofs.put_first.Reads as reads
+use Rattle.text_outline.proofs.put_first.Lts as lts
+use Rattle.text_outline.proofs.put.Reads as put-reads
+use Rattle.text_outline.proofs.put_pair.Reads as put-pair-reads
 
 put-requires : tie.Need-put-requires
 put-requires c κs = search needs

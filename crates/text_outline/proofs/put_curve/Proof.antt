@@ -1,12 +1,12 @@
--- `text::keep::put_curve` meets its contract: one law a return.
+-- `text_outline::put_curve` meets its contract: one law a return.
 use borrow.Author.Needs.{needs}
-use Rattle.text.proofs.Filling.{put-line, put-quadratic, put-cubic}
-use Rattle.text.proofs.keep.put_curve.Statement.{statement}
-use Rattle.text.proofs.keep.put_curve.Tie as tie
-use Rattle.text.proofs.keep.put_curve.Reads as reads
-use Rattle.text.proofs.keep.put_curve.Lts as lts
-use Rattle.text.proofs.keep.put_first.Reads as put-first-reads
-use Rattle.text.proofs.keep.put_pair.Reads as put-pair-reads
+use Rattle.text_outline.proofs.Filling.{put-line, put-quadratic, put-cubic}
+use Rattle.text_outline.proofs.put_curve.Statement.{statement}
+use Rattle.text_outline.proofs.put_curve.Tie as tie
+use Rattle.text_outline.proofs.put_curve.Reads as reads
+use Rattle.text_outline.proofs.put_curve.Lts as lts
+use Rattle.text_outline.proofs.put_first.Reads as put-first-reads
+use Rattle.text_outline.proofs.put_pair.Reads as put-pair-reads
 
 put-first-requires : tie.Need-put-first-requires
 put-first-requires c κs = search needs

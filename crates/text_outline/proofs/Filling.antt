@@ -18,10 +18,10 @@ use Rattle.forms.specs.declared.Form.the-variants.{Tolerance, Curve, Point, NoF
 use Rattle.forms.specs.Forms.{formAt}
 use Rattle.appends.specs.Appends.{Appended}
 use Rattle.appends.proofs.Appends.{append-none, append-both, appended-length}
 use Rattle.text.specs.Lines.{linesFrom, linesOf}
 use Rattle.text.specs.Meaning.{numbersOf}
-use Rattle.text.specs.Outlines.{kept, firstNumbers}
+use Rattle.text_outline.specs.Outlines.{kept, firstNumbers}
 use Rattle.text.proofs.Lines.{linesLeft, lines-over, lines-start, line-none, line-tolerance, line-curve, line-point}
 
 -- ---- a pair, and a pair after other numbers
 pub put-both : (d o u : List ℤ) (i j k : ℕ) (x y : ℤ) → Appended d i (stored w32 x ∷ []) o j → Appended o j (stored w32 y ∷ []) u k → SFits w32 x → SFits w32 y

@@ -1,12 +1,12 @@
 -- What the program keeps of the outline of a text, where `most` curves are allowed: the numbers of as many curves, and the degree of one more, with which it begins.
--- The checks of an outline look no further (`outline-kept` of crates/text/proofs/Kept.antt).
+-- The checks of an outline look no further (`outline-kept` of crates/text_outline/proofs/Kept.antt).
 use mathlib.Core.List.{List, [], _∷_, _++_}
 use Prim.Native.Nat.{ℕ, zero, suc}
 use lib.IntN.{ℤ}
 use Rattle.forms.specs.declared.Points.{Points}
 use Rattle.forms.specs.declared.Form.{Form}
 use Rattle.forms.specs.declared.Form.the-variants.{Tolerance, Curve, Point, NoForm}
 use Rattle.text.specs.Meaning.{numbersOf}
 
 unfoldable pub kept : ℕ → List Form → List ℤ
 kept most [] = []

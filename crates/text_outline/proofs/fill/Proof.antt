@@ -1,16 +1,16 @@
--- `text::keep::fill` meets its contract. The loop's invariant is `Keeping`; the measure is what is left of the text.
+-- `text_outline::fill` meets its contract. The loop's invariant is `Keeping`; the measure is what is left of the text.
 use Prim.Native.Nat.{_-_}
 use borrow.Author.Needs.{needs}
-use Rattle.text.proofs.Filling.{Keeping, keeping-start, keep-no-form, keep-tolerance, keep-last, keep-curve, keep-point, keep-over}
+use Rattle.text_outline.proofs.Filling.{Keeping, keeping-start, keep-no-form, keep-tolerance, keep-last, keep-curve, keep-point, keep-over}
 use Rattle.text.proofs.Lines.{tolerance-less, curve-less, point-less}
 use lib.ListN.{length}
-use Rattle.text.proofs.keep.fill.Statement.{statement}
-use Rattle.text.proofs.keep.fill.Tie as tie
-use Rattle.text.proofs.keep.fill.Reads as reads
-use Rattle.text.proofs.keep.fill.Lts as lts
+use Rattle.text_outline.proofs.fill.Statement.{statement}
+use Rattle.text_outline.proofs.fill.Tie as tie
+use Rattle.text_outline.proofs.fill.Reads as reads
+use Rattle.text_outline.proofs.fill.Lts as lts
 use Rattle.line_reader.proofs.line_from.Reads as line-from-reads
-use Rattle.text.proofs.keep.put.Reads as put-reads
-use Rattle.text.proofs.keep.put_curve.Reads as put-curve-reads
+use Rattle.text_outline.proofs.put.Reads as put-reads
+use Rattle.text_outline.proofs.put_curve.Reads as put-curve-reads
 
 abbrev Inv-loop : tie.InvT-loop
 Inv-loop text out₀ at₀ i₀ left₀ out at i left = Keeping text out₀ out at i left
