@@ -18,6 +18,7 @@ use Rattle.records.specs.Records as Records
 use Rattle.passes.specs.Leaves.{firstTooWide, leavesOf, nodesOf}
 use Rattle.band.specs.Banding.{bandCurves, banded, written}
 use Rattle.numerals.specs.Numerals.{valueFrom, digitCount, naturalAt, numberAt}
+use Rattle.pairs.specs.Pairs as Pairs
 use Rattle.forms.specs.Forms as Forms
 use Rattle.text.specs.Lines.{linesFrom, linesOf, gather}
 use Rattle.text.specs.Meaning.{numbersOf, faultFrom, meaningOf, meaning}
@@ -35,7 +36,7 @@ use Rattle.answer.specs.Answers.{answerTo, answerOf}
 
 -- what the examples compute through
 computing : List ℕ → List ℕ
-unfolding answerOf answerTo bandLines pointLines pointLine judgingFault numberFault firstHolder held meaning meaningOf faultFrom numbersOf linesOf linesFrom gather Forms.formAt Forms.startsWith Forms.toleranceAt Forms.pointAt Forms.curveAt Forms.curveThird Forms.curveFourth Forms.curveEnd Forms.spacedPairAt Forms.pairAt Forms.numberThen numberAt naturalAt valueFrom digitCount written allRecords Records.recordsOf recordOf banded bandCurves firstTooWide leavesOf nodesOf ends met firstFailing outlined outlineFrom faultAt firstBad curveAt descend descendIn depth nodeCurve meets boxAt high low rowSum floor ceiling leftHalf rightHalf left right triangle pow one leafLines leafLine boxesBytes boxBytes fourNumbers doneLine refusedLine spaced spacedNatural decimal digits
+unfolding answerOf answerTo bandLines pointLines pointLine judgingFault numberFault firstHolder held meaning meaningOf faultFrom numbersOf linesOf linesFrom gather Forms.formAt Pairs.startsWith Forms.toleranceAt Forms.pointAt Forms.curveAt Forms.curveThird Forms.curveFourth Forms.curveEnd Pairs.spacedPairAt Pairs.pairAt Pairs.numberThen numberAt naturalAt valueFrom digitCount written allRecords Records.recordsOf recordOf banded bandCurves firstTooWide leavesOf nodesOf ends met firstFailing outlined outlineFrom faultAt firstBad curveAt descend descendIn depth nodeCurve meets boxAt high low rowSum floor ceiling leftHalf rightHalf left right triangle pow one leafLines leafLine boxesBytes boxBytes fourNumbers doneLine refusedLine spaced spacedNatural decimal digits
 computing = answerOf
 
 -- "(leaf 0 1 (0 0 0 38) (160 160 319 363) (320 320 319 363) (480 480 0 38))", "(done 1 1 1)", "(on)", "(off)"

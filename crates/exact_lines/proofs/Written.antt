@@ -12,12 +12,13 @@ use lib.IntN.{ℤ, pos}
 use Rattle.numerals.specs.declared.Number.{Number}
 use Rattle.numerals.specs.declared.Number.the-variants.{Is, Nothing}
 use Rattle.numerals.specs.Numerals.{byte, numberAt}
-use Rattle.forms.specs.declared.Pair.{Pair}
-use Rattle.forms.specs.declared.Pair.the-variants.{Is as IsPair, Nothing as NoPair}
+use Rattle.pairs.specs.declared.Pair.{Pair}
+use Rattle.pairs.specs.declared.Pair.the-variants.{Is as IsPair, Nothing as NoPair}
 use Rattle.forms.specs.declared.Points.{Points}
 use Rattle.forms.specs.declared.Form.{Form}
 use Rattle.forms.specs.declared.Form.the-variants.{Tolerance, Curve, Point, NoForm}
-use Rattle.forms.specs.Forms.{startsWith, wordAt, tolerance, curve, point, closing, points, numberThen, pairAt, spacedPairAt, toleranceAt, pointAt, curveEnd, curveFourth, curveThird, curveAt, formAt}
+use Rattle.pairs.specs.Pairs.{startsWith, wordAt, numberThen, pairAt, spacedPairAt}
+use Rattle.forms.specs.Forms.{tolerance, curve, point, closing, points, toleranceAt, pointAt, curveEnd, curveFourth, curveThird, curveAt, formAt}
 use Rattle.decimals.specs.Decimals.{decimal}
 use Rattle.exact_lines.specs.Written.{Written, pairBytes, toleranceLine, pointLine, curveLine, LineWritten}
 use Rattle.exact_lines.proofs.Decimals.{clash, written-both, byte-written, number-written}

@@ -5,7 +5,8 @@ use Prim.Native.Nat.{ℕ}
 use lib.IntN.{pos}
 use Rattle.numerals.specs.Numerals.{valueFrom, digitCount, naturalAt, numberAt}
 use Rattle.forms.specs.declared.Form.the-variants.{Tolerance, Curve, Point, NoForm}
-use Rattle.forms.specs.Forms.{startsWith, tolerance, curve, point, points, numberThen, pairAt, spacedPairAt, toleranceAt, pointAt, curveEnd, curveFourth, curveThird, curveAt, formAt}
+use Rattle.pairs.specs.Pairs.{startsWith, numberThen, pairAt, spacedPairAt}
+use Rattle.forms.specs.Forms.{tolerance, curve, point, points, toleranceAt, pointAt, curveEnd, curveFourth, curveThird, curveAt, formAt}
 
 -- ")" and byte 10
 abbrev end : List ℕ

@@ -1,6 +1,5 @@
 -- Laws of forms. Each file opens with what it holds.
 pub mod Words
-pub mod Pairs
 pub mod Lines
 pub mod Reach
 pub mod Examples

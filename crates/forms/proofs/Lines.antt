@@ -10,12 +10,13 @@ use Rattle.integers.proofs.Ranges.{stored, read-again}
 use Rattle.numerals.specs.declared.Number.{Number}
 use Rattle.numerals.specs.declared.Number.the-variants.{Is, Nothing}
 use Rattle.numerals.specs.Numerals.{numberAt}
-use Rattle.forms.specs.declared.Pair.{Pair}
-use Rattle.forms.specs.declared.Pair.the-variants.{Is as IsPair, Nothing as NoPair}
+use Rattle.pairs.specs.declared.Pair.{Pair}
+use Rattle.pairs.specs.declared.Pair.the-variants.{Is as IsPair, Nothing as NoPair}
 use Rattle.forms.specs.declared.Points.{Points}
 use Rattle.forms.specs.declared.Form.{Form}
 use Rattle.forms.specs.declared.Form.the-variants.{Tolerance, Curve, Point, NoForm}
-use Rattle.forms.specs.Forms.{wordAt, closing, tolerance, curve, point, points, spacedPairAt, toleranceAt, pointAt, curveEnd, curveFourth, curveThird, curveAt, formAt}
+use Rattle.pairs.specs.Pairs.{wordAt, spacedPairAt}
+use Rattle.forms.specs.Forms.{closing, tolerance, curve, point, points, toleranceAt, pointAt, curveEnd, curveFourth, curveThird, curveAt, formAt}
 
 -- ---- a tolerance line
 module _ (s : List ℕ) (i : ℕ) (n : Number) (f : n ≡ numberAt s i) where

@@ -1,100 +1,24 @@
 -- How far a line reaches: at least nine bytes past its start, and not past the text. And a curve's degree is 1, 2 or 3.
 use mathlib.Core.Path.{_≡_, refl, sym, _∙_, subst}
-use mathlib.Core.Bool.{Bool, true, false, _&&_, cond}
+use mathlib.Core.Bool.{Bool, true, false, cond}
 use mathlib.Core.List.{List}
 use Prim.Native.Nat.{ℕ, _+_, _≤_}
 use native.Mathlib.Omega.{arith}
-use lib.Dec.{leb, eqb, lit≤}
-use lib.ListN.{drop, length}
+use lib.Dec.{lit≤}
+use lib.ListN.{length}
 use lib.IntN.{ℤ, pos}
-use Rattle.numerals.specs.declared.Natural.{Natural}
-use Rattle.numerals.specs.declared.Natural.the-variants.{Is as IsNatural, Nothing as NoNatural}
 use Rattle.numerals.specs.declared.Number.{Number}
 use Rattle.numerals.specs.declared.Number.the-variants.{Is, Nothing}
-use Rattle.numerals.specs.Numerals.{byte, valueFrom, digitCount, naturalAt, plus, minus, numberAt}
-use Rattle.forms.specs.declared.Pair.{Pair}
-use Rattle.forms.specs.declared.Pair.the-variants.{Is as IsPair, Nothing as NoPair}
+use Rattle.numerals.specs.Numerals.{numberAt}
+use Rattle.pairs.specs.declared.Pair.{Pair}
+use Rattle.pairs.specs.declared.Pair.the-variants.{Is as IsPair, Nothing as NoPair}
 use Rattle.forms.specs.declared.Points.{Points}
 use Rattle.forms.specs.declared.Form.{Form}
 use Rattle.forms.specs.declared.Form.the-variants.{Tolerance, Curve, Point, NoForm}
-use Rattle.forms.specs.Forms.{wordAt, closing, tolerance, curve, point, points, numberThen, pairAt, spacedPairAt, toleranceAt, pointAt, curveEnd, curveFourth, curveThird, curveAt, formAt}
-use Rattle.forms.proofs.Words.{word-inside}
-
--- ---- where there is something, it ends at place i or later
-abbrev NaturalFrom : ℕ → Natural → Type 0
-NaturalFrom i (IsNatural v j) = i ≤ j
-NaturalFrom i NoNatural = Unit
-
-abbrev NumberFrom : ℕ → Number → Type 0
-NumberFrom i (Is z j) = i ≤ j
-NumberFrom i Nothing = Unit
-
-abbrev PairFrom : ℕ → Pair → Type 0
-PairFrom i (IsPair x y j) = i ≤ j
-PairFrom i NoPair = Unit
-
--- ---- numbers
-natural-from : (s : List ℕ) (i : ℕ) → NaturalFrom i (naturalAt s i)
-unfolding naturalAt
-natural-from s i = either (leb 49 (byte s i) && leb (byte s i) 57 && leb (valueFrom 0 (drop i s)) 2147483648) (valueFrom 0 (drop i s)) (digitCount (drop i s))
-  where
-    either : (t : Bool) (v n : ℕ) → NaturalFrom i (cond t (IsNatural v (i + n)) NoNatural)
-    either true v n = omega arith
-    either false v n = tt
-
-number-if : (t : Bool) (z : ℤ) (i j : ℕ) → i ≤ j → NumberFrom i (cond t (Is z j) Nothing)
-number-if true z i j h = h
-number-if false z i j h = tt
-
-number-from : (s : List ℕ) (i : ℕ) → NumberFrom i (numberAt s i)
-unfolding numberAt
-number-from s i = either (eqb (byte s i) 48) (eqb (byte s i) 45) (naturalAt s (i + 1)) (natural-from s (i + 1)) (naturalAt s i) (natural-from s i)
-  where
-    signed : (a : Natural) → NaturalFrom (i + 1) a → NumberFrom i (minus a)
-    signed (IsNatural v j) h = omega arith
-    signed NoNatural h = tt
-
-    plain : (b : Natural) → NaturalFrom i b → NumberFrom i (plus b)
-    plain (IsNatural v j) h = number-if (leb v 2147483647) (pos v) i j h
-    plain NoNatural h = tt
-
-    either : (t u : Bool) (a : Natural) → NaturalFrom (i + 1) a → (b : Natural) → NaturalFrom i b → NumberFrom i (cond t (Is (pos 0) (i + 1)) (cond u (minus a) (plus b)))
-    either true u a h b k = omega arith
-    either false true a h b k = signed a h
-    either false false a h b k = plain b k
-
-then-from : (b : ℕ) (s : List ℕ) (i : ℕ) → NumberFrom (i + 1) (numberThen b s i)
-unfolding numberThen
-then-from b s i = either (numberAt s i) (number-from s i)
-  where
-    either : (n : Number) → NumberFrom i n → NumberFrom (i + 1) (elim n [ Is z j ↦ cond (eqb (byte s j) b) (Is z (j + 1)) Nothing | Nothing ↦ Nothing ])
-    either (Is z j) h = number-if (eqb (byte s j) b) z (i + 1) (j + 1) (omega arith)
-    either Nothing h = tt
-
--- ---- pairs
-pair-from : (s : List ℕ) (i : ℕ) → PairFrom i (pairAt s i)
-unfolding pairAt
-pair-from s i = either (eqb (byte s i) 40) (numberThen 32 s (i + 1)) (then-from 32 s (i + 1))
-  where
-    second : (x : ℤ) (j : ℕ) → i ≤ j → (n : Number) → NumberFrom (j + 1) n → PairFrom i (elim n [ Is y k ↦ IsPair x y k | Nothing ↦ NoPair ])
-    second x j h (Is y k) g = omega arith
-    second x j h Nothing g = tt
-
-    either : (t : Bool) (m : Number) → NumberFrom (i + 1 + 1) m → PairFrom i (cond t (elim m [
-      | Is x j ↦ elim (numberThen 41 s j) [ Is y k ↦ IsPair x y k | Nothing ↦ NoPair ]
-      | Nothing ↦ NoPair
-    ]) NoPair)
-    either true (Is x j) h = second x j (omega arith) (numberThen 41 s j) (then-from 41 s j)
-    either true Nothing h = tt
-    either false m h = tt
-
-spaced-from : (s : List ℕ) (i : ℕ) → PairFrom (i + 1) (spacedPairAt s i)
-unfolding spacedPairAt
-spaced-from s i = either (eqb (byte s i) 32) (pairAt s (i + 1)) (pair-from s (i + 1))
-  where
-    either : (t : Bool) (p : Pair) → PairFrom (i + 1) p → PairFrom (i + 1) (cond t p NoPair)
-    either true p h = h
-    either false p h = tt
+use Rattle.pairs.specs.Pairs.{wordAt, spacedPairAt}
+use Rattle.forms.specs.Forms.{closing, tolerance, curve, point, points, toleranceAt, pointAt, curveEnd, curveFourth, curveThird, curveAt, formAt}
+use Rattle.pairs.proofs.Words.{word-inside}
+use Rattle.pairs.proofs.Reach.{NumberFrom, PairFrom, number-from, spaced-from}
 
 -- ---- lines: one that starts at place i of a text of n bytes ends at place j
 pub record Ended (i n j : ℕ) : Type 0 where

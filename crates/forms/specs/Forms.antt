@@ -4,32 +4,19 @@
 --     (point (240 363))
 -- A form is read from a place of the whole text on, and gives the place after it. Past the text's end stands byte 0, which no form has, so a last line without byte
 -- 10 is none. That a word below has the bytes that it should is seen where the code, which spells it, is proved.
-use mathlib.Core.Bool.{Bool, true, false, cond}
+use mathlib.Core.Bool.{cond}
 use mathlib.Core.List.{List, [], _∷_}
 use Prim.Native.Nat.{ℕ, _+_}
-use lib.Dec.{eqb}
-use lib.ListN.{drop}
 use lib.IntN.{ℤ, pos}
-use Rattle.numerals.specs.declared.Number.{Number}
 use Rattle.numerals.specs.declared.Number.the-variants.{Is, Nothing}
-use Rattle.numerals.specs.Numerals.{byte, numberAt}
-use Rattle.forms.specs.declared.Pair.{Pair}
-use Rattle.forms.specs.declared.Pair.the-variants.{Is as IsPair, Nothing as NoPair}
+use Rattle.numerals.specs.Numerals.{numberAt}
+use Rattle.pairs.specs.declared.Pair.the-variants.{Is as IsPair, Nothing as NoPair}
+use Rattle.pairs.specs.Pairs.{wordAt, spacedPairAt}
 use Rattle.forms.specs.declared.Points.{Points}
 use Rattle.forms.specs.declared.Form.{Form}
 use Rattle.forms.specs.declared.Form.the-variants.{Tolerance, Curve, Point, NoForm}
 
--- ---- words
-unfoldable pub startsWith : List ℕ → List ℕ → Bool
-startsWith [] bs = true
-startsWith (w ∷ ws) [] = false
-startsWith (w ∷ ws) (b ∷ bs) = cond (eqb b w) (startsWith ws bs) false
-
--- the bytes from place i on start with a word
-abbrev pub wordAt : List ℕ → List ℕ → ℕ → Bool
-wordAt word s i = startsWith word (drop i s)
-
--- "(tolerance ", "(curve", "(point"
+-- ---- words: "(tolerance ", "(curve", "(point"
 abbrev pub tolerance : List ℕ
 tolerance = 40 ∷ 116 ∷ 111 ∷ 108 ∷ 101 ∷ 114 ∷ 97 ∷ 110 ∷ 99 ∷ 101 ∷ 32 ∷ []
 
@@ -42,24 +29,6 @@ point = 40 ∷ 112 ∷ 111 ∷ 105 ∷ 110 ∷ 116 ∷ []
 -- ")" and the end of the line
 abbrev pub closing : List ℕ
 closing = 41 ∷ 10 ∷ []
-
--- ---- pairs, as (240 363): 40 and 41 are the parentheses, 32 is the space
--- a number and the byte b after it
-unfoldable pub numberThen : ℕ → List ℕ → ℕ → Number
-numberThen b s i = elim (numberAt s i) [ Is z j ↦ cond (eqb (byte s j) b) (Is z (j + 1)) Nothing | Nothing ↦ Nothing ]
-
-unfoldable pub pairAt : List ℕ → ℕ → Pair
-pairAt s i =
-    cond (eqb (byte s i) 40)
-    (elim (numberThen 32 s (i + 1)) [
-      | Is x j ↦ elim (numberThen 41 s j) [ Is y k ↦ IsPair x y k | Nothing ↦ NoPair ]
-      | Nothing ↦ NoPair
-    ])
-    NoPair
-
--- a space and a pair
-unfoldable pub spacedPairAt : List ℕ → ℕ → Pair
-spacedPairAt s i = cond (eqb (byte s i) 32) (pairAt s (i + 1)) NoPair
 
 -- ---- the lines, each after its word
 unfoldable pub toleranceAt : List ℕ → ℕ → Form

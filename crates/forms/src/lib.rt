@@ -1,8 +1,10 @@
 // The forms of a line: a tolerance, a curve, a point.
 ghost use mathlib.Core.Path.{_≡_};
-ghost use Prim.Native.Nat.{_<_};
-ghost use Rattle.forms.specs.Forms.{wordAt, numberThen, pairAt, spacedPairAt, toleranceAt, curveAt, curveThird, curveFourth, curveEnd, pointAt, formAt};
+ghost use Rattle.forms.specs.Forms.{toleranceAt, curveAt, curveThird, curveFourth, curveEnd, pointAt, formAt};
 use numerals::Number;
+use pairs::Pair;
+use pairs::spaced_pair_at;
+use pairs::word_at;
 
 // A line that has a form: its numbers and the place after it, which is where the next line starts.
 pub enum Form {
@@ -23,12 +25,6 @@ pub struct Points {
     pub y2: i32,
     pub x3: i32,
     pub y3: i32,
-}
-
-// Two numbers in parentheses, and the place after them, where they stand.
-pub enum Pair {
-    Is(i32, i32, usize),
-    Nothing,
 }
 
 // The form of the line that starts at a place. Every text and every place may be asked about.
@@ -139,63 +135,4 @@ fn curve_end(text: &[u8], i: usize, p: Points) -> Form
     } else {
         Form::NoForm
     }
-}
-
-// A space and a pair.
-fn spaced_pair_at(text: &[u8], i: usize) -> Pair
-    ensures { λ r. ⌜ r ≡ spacedPairAt (now (text .entry)) i ⌝ }
-{
-    if numerals::byte_at(text, i) != b' ' {
-        return Pair::Nothing;
-    }
-    pair_at(text, i + 1)
-}
-
-// Two numbers in parentheses, a space between them.
-fn pair_at(text: &[u8], i: usize) -> Pair
-    ensures { λ r. ⌜ r ≡ pairAt (now (text .entry)) i ⌝ }
-{
-    if numerals::byte_at(text, i) != b'(' {
-        return Pair::Nothing;
-    }
-    let Number::Is(x, j) = number_then(text, i + 1, b' ') else {
-        return Pair::Nothing;
-    };
-    let Number::Is(y, k) = number_then(text, j, b')') else {
-        return Pair::Nothing;
-    };
-    Pair::Is(x, y, k)
-}
-
-// A number and the byte b after it; the place after both.
-fn number_then(text: &[u8], i: usize, b: u8) -> Number
-    requires { ⌜ 0 < b ⌝ }
-    ensures { λ r. ⌜ r ≡ numberThen b (now (text .entry)) i ⌝ }
-{
-    let Number::Is(value, j) = numerals::number_at(text, i) else {
-        return Number::Nothing;
-    };
-    if numerals::byte_at(text, j) != b {
-        return Number::Nothing;
-    }
-    Number::Is(value, j + 1)
-}
-
-// Whether the bytes from place `at` on start with a word.
-fn word_at(word: &[u8], text: &[u8], at: usize) -> bool
-    ensures { λ r. ⌜ r ≡ wordAt (now (word .entry)) (now (text .entry)) at ⌝ }
-{
-    let mut i = at;
-    let mut j = 0;
-    while j < word.len() {
-        if text.len() <= i {
-            return false;
-        }
-        if text[i] != word[j] {
-            return false;
-        }
-        i += 1;
-        j += 1;
-    }
-    true
 }

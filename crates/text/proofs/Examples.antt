@@ -6,7 +6,8 @@ use lib.IntN.{pos}
 use lib.ListN.{replicate}
 use Rattle.refusals.specs.declared.Refusal.the-variants.{NotAForm, OutOfOrder, TextTooLong}
 use Rattle.numerals.specs.Numerals.{valueFrom, digitCount, naturalAt, numberAt}
-use Rattle.forms.specs.Forms.{startsWith, numberThen, pairAt, spacedPairAt, toleranceAt, pointAt, curveEnd, curveFourth, curveThird, curveAt, formAt}
+use Rattle.pairs.specs.Pairs.{startsWith, numberThen, pairAt, spacedPairAt}
+use Rattle.forms.specs.Forms.{toleranceAt, pointAt, curveEnd, curveFourth, curveThird, curveAt, formAt}
 use Rattle.text.specs.Lines.{linesFrom, linesOf, gather}
 use Rattle.text.specs.Meaning.{numbersOf, faultFrom, means, refused, meaningOf, meaning}
 

@@ -6,7 +6,7 @@ use Rattle.forms.proofs.curve_end.Statement.{statement}
 use Rattle.forms.proofs.curve_end.Tie as tie
 use Rattle.forms.proofs.curve_end.Reads as reads
 use Rattle.forms.proofs.curve_end.Lts as lts
-use Rattle.forms.proofs.word_at.Reads as word-at-reads
+use Rattle.pairs.proofs.word_at.Reads as word-at-reads
 
 slice-aggregate-word-at : tie.Need-slice-aggregate-word-at
 slice-aggregate-word-at c = search needs

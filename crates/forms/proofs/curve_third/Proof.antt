@@ -7,7 +7,7 @@ use Rattle.forms.proofs.curve_third.Reads as reads
 use Rattle.forms.proofs.curve_third.Lts as lts
 use Rattle.forms.proofs.curve_end.Reads as curve-end-reads
 use Rattle.forms.proofs.curve_fourth.Reads as curve-fourth-reads
-use Rattle.forms.proofs.spaced_pair_at.Reads as spaced-pair-at-reads
+use Rattle.pairs.proofs.spaced_pair_at.Reads as spaced-pair-at-reads
 
 spaced-pair-at-requires : tie.Need-spaced-pair-at-requires
 spaced-pair-at-requires c κs = search needs

@@ -9,7 +9,7 @@ use Rattle.forms.proofs.form_at.Lts as lts
 use Rattle.forms.proofs.curve_at.Reads as curve-at-reads
 use Rattle.forms.proofs.point_at.Reads as point-at-reads
 use Rattle.forms.proofs.tolerance_at.Reads as tolerance-at-reads
-use Rattle.forms.proofs.word_at.Reads as word-at-reads
+use Rattle.pairs.proofs.word_at.Reads as word-at-reads
 
 slice-aggregate-word-at : tie.Need-slice-aggregate-word-at
 slice-aggregate-word-at c = search needs

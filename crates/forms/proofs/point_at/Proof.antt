@@ -6,8 +6,8 @@ use Rattle.forms.proofs.point_at.Statement.{statement}
 use Rattle.forms.proofs.point_at.Tie as tie
 use Rattle.forms.proofs.point_at.Reads as reads
 use Rattle.forms.proofs.point_at.Lts as lts
-use Rattle.forms.proofs.spaced_pair_at.Reads as spaced-pair-at-reads
-use Rattle.forms.proofs.word_at.Reads as word-at-reads
+use Rattle.pairs.proofs.spaced_pair_at.Reads as spaced-pair-at-reads
+use Rattle.pairs.proofs.word_at.Reads as word-at-reads
 
 spaced-pair-at-requires : tie.Need-spaced-pair-at-requires
 spaced-pair-at-requires c κs = search needs

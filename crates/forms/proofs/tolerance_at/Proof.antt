@@ -6,7 +6,7 @@ use Rattle.forms.proofs.tolerance_at.Statement.{statement}
 use Rattle.forms.proofs.tolerance_at.Tie as tie
 use Rattle.forms.proofs.tolerance_at.Reads as reads
 use Rattle.forms.proofs.tolerance_at.Lts as lts
-use Rattle.forms.proofs.word_at.Reads as word-at-reads
+use Rattle.pairs.proofs.word_at.Reads as word-at-reads
 use Rattle.numerals.proofs.number_at.Reads as number-at-reads
 
 number-at-requires : tie.Need-number-at-requires

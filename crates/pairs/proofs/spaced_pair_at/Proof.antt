@@ -1,11 +1,11 @@
--- `forms::spaced_pair_at` meets its contract: one law a return.
+-- `pairs::spaced_pair_at` meets its contract: one law a return.
 use borrow.Author.Needs.{needs}
-use Rattle.forms.proofs.Pairs.{spaced-no-space, spaced-pair}
-use Rattle.forms.proofs.spaced_pair_at.Statement.{statement}
-use Rattle.forms.proofs.spaced_pair_at.Tie as tie
-use Rattle.forms.proofs.spaced_pair_at.Reads as reads
-use Rattle.forms.proofs.spaced_pair_at.Lts as lts
-use Rattle.forms.proofs.pair_at.Reads as pair-at-reads
+use Rattle.pairs.proofs.Pairs.{spaced-no-space, spaced-pair}
+use Rattle.pairs.proofs.spaced_pair_at.Statement.{statement}
+use Rattle.pairs.proofs.spaced_pair_at.Tie as tie
+use Rattle.pairs.proofs.spaced_pair_at.Reads as reads
+use Rattle.pairs.proofs.spaced_pair_at.Lts as lts
+use Rattle.pairs.proofs.pair_at.Reads as pair-at-reads
 use Rattle.numerals.proofs.byte_at.Reads as byte-at-reads
 
 byte-at-requires : tie.Need-byte-at-requires

@@ -1,13 +1,13 @@
--- `forms::word_at` meets its contract. The loop's invariant: what is left of the word and of the text compares as the whole does. The measure is what is left of
+-- `pairs::word_at` meets its contract. The loop's invariant: what is left of the word and of the text compares as the whole does. The measure is what is left of
 -- the word.
 use mathlib.Core.Path.{_≡_, refl, sym, _∙_}
 use Prim.Native.Nat.{_-_}
 use borrow.Author.Needs.{needs}
 use lib.ListN.{length, drop}
-use Rattle.forms.specs.Forms.{startsWith}
-use Rattle.forms.proofs.Words.{word-over, text-over, bytes-differ, bytes-agree}
-use Rattle.forms.proofs.word_at.Statement.{statement}
-use Rattle.forms.proofs.word_at.Tie as tie
+use Rattle.pairs.specs.Pairs.{startsWith}
+use Rattle.pairs.proofs.Words.{word-over, text-over, bytes-differ, bytes-agree}
+use Rattle.pairs.proofs.word_at.Statement.{statement}
+use Rattle.pairs.proofs.word_at.Tie as tie
 
 abbrev Inv-loop : tie.InvT-loop
 Inv-loop word text at i₀ j₀ i j = startsWith (drop j word) (drop i text) ≡ startsWith word (drop at text)

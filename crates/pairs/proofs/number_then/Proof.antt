@@ -1,10 +1,10 @@
--- `forms::number_then` meets its contract: one law a return.
+-- `pairs::number_then` meets its contract: one law a return.
 use borrow.Author.Needs.{needs}
-use Rattle.forms.proofs.Pairs.{then-no-number, then-other-byte, then-number}
-use Rattle.forms.proofs.number_then.Statement.{statement}
-use Rattle.forms.proofs.number_then.Tie as tie
-use Rattle.forms.proofs.number_then.Reads as reads
-use Rattle.forms.proofs.number_then.Lts as lts
+use Rattle.pairs.proofs.Pairs.{then-no-number, then-other-byte, then-number}
+use Rattle.pairs.proofs.number_then.Statement.{statement}
+use Rattle.pairs.proofs.number_then.Tie as tie
+use Rattle.pairs.proofs.number_then.Reads as reads
+use Rattle.pairs.proofs.number_then.Lts as lts
 use Rattle.numerals.proofs.byte_at.Reads as byte-at-reads
 use Rattle.numerals.proofs.number_at.Reads as number-at-reads
 

@@ -10,9 +10,9 @@ use Rattle.integers.proofs.Ranges.{stored, read-again}
 use Rattle.numerals.specs.declared.Number.{Number}
 use Rattle.numerals.specs.declared.Number.the-variants.{Is, Nothing}
 use Rattle.numerals.specs.Numerals.{byte, numberAt}
-use Rattle.forms.specs.declared.Pair.{Pair}
-use Rattle.forms.specs.declared.Pair.the-variants.{Is as IsPair, Nothing as NoPair}
-use Rattle.forms.specs.Forms.{numberThen, pairAt, spacedPairAt}
+use Rattle.pairs.specs.declared.Pair.{Pair}
+use Rattle.pairs.specs.declared.Pair.the-variants.{Is as IsPair, Nothing as NoPair}
+use Rattle.pairs.specs.Pairs.{numberThen, pairAt, spacedPairAt}
 
 -- ---- a number n was read at place i
 module _ (b : ℕ) (s : List ℕ) (i : ℕ) (n : Number) (f : n ≡ numberAt s i) where

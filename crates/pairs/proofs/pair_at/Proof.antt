@@ -1,11 +1,11 @@
--- `forms::pair_at` meets its contract: one law a return.
+-- `pairs::pair_at` meets its contract: one law a return.
 use borrow.Author.Needs.{needs}
-use Rattle.forms.proofs.Pairs.{pair-not-opened, pair-no-first, pair-no-second, pair-both}
-use Rattle.forms.proofs.pair_at.Statement.{statement}
-use Rattle.forms.proofs.pair_at.Tie as tie
-use Rattle.forms.proofs.pair_at.Reads as reads
-use Rattle.forms.proofs.pair_at.Lts as lts
-use Rattle.forms.proofs.number_then.Reads as number-then-reads
+use Rattle.pairs.proofs.Pairs.{pair-not-opened, pair-no-first, pair-no-second, pair-both}
+use Rattle.pairs.proofs.pair_at.Statement.{statement}
+use Rattle.pairs.proofs.pair_at.Tie as tie
+use Rattle.pairs.proofs.pair_at.Reads as reads
+use Rattle.pairs.proofs.pair_at.Lts as lts
+use Rattle.pairs.proofs.number_then.Reads as number-then-reads
 use Rattle.numerals.proofs.byte_at.Reads as byte-at-reads
 
 byte-at-requires : tie.Need-byte-at-requires
