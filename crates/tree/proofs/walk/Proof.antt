@@ -1,4 +1,5 @@
 -- The leaves of a curve, counted.
+use mathlib.Core.Path.{sym, _∙_}
 use borrow.Author.Needs.{needs}
 use mir.Facts.{toZ-ofZ}
 use Rattle.tree.proofs.Whole.{whole-meets, whole-walked}
@@ -14,7 +15,9 @@ returns c =
     whole-walked (s .args .t) (s .args .curve) (whole-meets (s .args .t) (s .args .curve) (rw (toZ-ofZ (s .fits .t)) at (c .before .meets .ensures)) (c .if1 .taken))
 
 walk-halves-requires : tie.Need-walk-halves-requires
-walk-halves-requires c κs = search needs
+walk-halves-requires c κs =
+    let s = c .before .before in
+    (s .pre, sym (c .before .meets .ensures) ∙ c .if1 .left)
 
 returns-2 : tie.Need-returns-2
 returns-2 c = rw (toZ-ofZ (c .before .before .before .fits .t)) at (c .walk-halves .ensures)
