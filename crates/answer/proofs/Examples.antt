@@ -4,7 +4,8 @@ use mathlib.Core.List.{List, [], _∷_}
 use Prim.Native.Nat.{ℕ}
 use lib.IntN.{pow, one}
 use Rattle.integers.specs.Rounding.{floor, ceiling}
-use Rattle.bezier.specs.Halves.{triangle, left, right, leftHalf, rightHalf}
+use Rattle.halves.specs.Halves.{triangle, left, right}
+use Rattle.bezier.specs.Halves.{leftHalf, rightHalf}
 use Rattle.bezier.specs.Nodes.{descendIn, descend, depth, nodeCurve}
 use Rattle.enclosure.specs.Bounds.{rowSum, high, low}
 use Rattle.node_boxes.specs.Boxes.{boxAt, meets}

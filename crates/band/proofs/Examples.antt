@@ -7,7 +7,8 @@ use lib.ListN.{replicate}
 use lib.IntN.{ℤ, pos, negℤ, pow, one}
 use Rattle.integers.specs.Rounding.{floor, ceiling}
 use Rattle.refusals.specs.Refusals.{numberOf, spotOf}
-use Rattle.bezier.specs.Halves.{triangle, left, right, leftHalf, rightHalf}
+use Rattle.halves.specs.Halves.{triangle, left, right}
+use Rattle.bezier.specs.Halves.{leftHalf, rightHalf}
 use Rattle.bezier.specs.Nodes.{descendIn, descend, depth, nodeCurve}
 use Rattle.enclosure.specs.Bounds.{rowSum, high, low}
 use Rattle.node_boxes.specs.Boxes.{boxAt, meets}

@@ -4,7 +4,7 @@ use mathlib.Core.List.{List}
 use Prim.Native.Nat.{ℕ, _+_, _*_, _<_}
 use lib.IntN.{ℤ}
 use Rattle.bezier.specs.declared.Curve.{Curve}
-use Rattle.bezier.specs.Halves.{four}
+use Rattle.halves.specs.Halves.{four}
 use Rattle.bezier.specs.Nodes.{descend, halfOf, nodeCurve}
 use Rattle.bezier.proofs.Nodes.{descend-one, descend-half, node-induction}
 use Rattle.bezier.proofs.Numbers.{node-one, node-half}

@@ -2,7 +2,6 @@
 pub mod Nodes
 pub mod Numbers
 pub mod Sizes
-pub mod Halving
 pub mod Values
 pub mod Coordinates
 pub mod Parameters

@@ -13,7 +13,7 @@ use Rattle.integers.proofs.Ring.{ring, sides}
 use Rattle.integers.proofs.Order.{lt-or-ge}
 use Rattle.bernstein.proofs.Stretch.{half-part, part-difference, part-size}
 use Rattle.bezier.specs.declared.Curve.{Curve}
-use Rattle.bezier.specs.Halves.{four}
+use Rattle.halves.specs.Halves.{four}
 use Rattle.bezier.specs.Nodes.{depth, halfOf, nodeCurve}
 use Rattle.bezier.specs.Differences.{difference, largestOf, bend, largest}
 use Rattle.bezier.proofs.Nodes.{node-induction}

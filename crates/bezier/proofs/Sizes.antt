@@ -10,9 +10,11 @@ use Rattle.integers.specs.Entry.{entry}
 use Rattle.integers.proofs.RingLaws.{pow-natural}
 use Rattle.integers.proofs.Size.{abs-add, abs-mul}
 use Rattle.bezier.specs.declared.Curve.{Curve}
-use Rattle.bezier.specs.Halves.{listed, triangle, left, right, four, leftHalf, rightHalf}
+use Rattle.halves.specs.Halves.{listed, triangle, left, right, four}
+use Rattle.bezier.specs.Halves.{leftHalf, rightHalf}
 use Rattle.bezier.specs.Nodes.{depth, halfOf, nodeCurve}
-use Rattle.bezier.specs.Bounds.{Each, Sized, Halvable}
+use Rattle.halves.specs.Sizes.{Each}
+use Rattle.bezier.specs.Bounds.{Sized, Halvable}
 use Rattle.bezier.proofs.Nodes.{node-induction}
 use Rattle.bezier.proofs.Numbers.{depth-one, depth-half, depth-under, node-one, node-half}
 

@@ -15,10 +15,11 @@ use Rattle.bernstein.specs.Value.{value}
 use Rattle.bernstein.proofs.Recursion.{casteljau, casteljau-ext, casteljau-size, value-is}
 use Rattle.bernstein.proofs.Stretch.{mix, casteljau-step, part, half-part, half-part-value}
 use Rattle.bezier.specs.declared.Curve.{Curve}
-use Rattle.bezier.specs.Halves.{listed, triangle, left, right, four, leftHalf, rightHalf}
+use Rattle.halves.specs.Halves.{listed, triangle, left, right, four}
+use Rattle.bezier.specs.Halves.{leftHalf, rightHalf}
 use Rattle.bezier.specs.Nodes.{halfOf}
 use Rattle.bezier.specs.Points.{scaled}
-use Rattle.bezier.specs.Bounds.{Each}
+use Rattle.halves.specs.Sizes.{Each}
 
 -- ---- lists from a sequence
 pub listed-entry : (n : ℕ) (f : ℕ → ℤ) (k : ℕ) → k < n → entry (listed n f) k ≡ f k

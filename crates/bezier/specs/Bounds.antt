@@ -1,13 +1,7 @@
 -- How large control values get: what keeps 64-bit numbers from wrapping.
-use mathlib.Core.List.{List}
 use Prim.Native.Nat.{ℕ, _*_, _^_, _≤_}
-use lib.IntN.{ℤ, natAbs}
-use Rattle.integers.specs.Entry.{entry}
+use Rattle.halves.specs.Sizes.{Each}
 use Rattle.bezier.specs.declared.Curve.{Curve}
-
--- every entry is at most B in size
-pub record Each (B : ℕ) (cs : List ℤ) : Type 0 where
-  pub under : (k : ℕ) → natAbs (entry cs k) ≤ B
 
 -- A curve at depth k, of degree 1 to 3, from control points within 2^20.
 pub record Sized (k : ℕ) (c : Curve) : Type 0 where

@@ -1,32 +1,6 @@
--- A curve halved by the de Casteljau step at 1/2, exactly (document 01, "Halving"). The d + 1 control values of a coordinate of degree d are a list;
--- those of a half are the exact ones times 2^d.
-use mathlib.Core.List.{List, [], _∷_}
-use Prim.Native.Nat.{ℕ, zero, suc, _-_}
-use lib.IntN.{ℤ, pos, _+ℤ_, _*ℤ_, pow}
-use Rattle.integers.specs.Entry.{entry}
+-- A curve halved, one coordinate like the other (document 01, "Halving").
+use Rattle.halves.specs.Halves.{left, right, four}
 use Rattle.bezier.specs.declared.Curve.{Curve}
-
--- f 0, f 1, .., n numbers in all
-abbrev pub listed : ℕ → (ℕ → ℤ) → List ℤ
-listed zero f = []
-listed (suc n) f = f 0 ∷ listed n (λ k. f (suc k))
-
--- Row j of de Casteljau's triangle at place i: each number is the sum of the two below it in the row before, so it is 2^j times the midpoint.
-unfoldable pub triangle : List ℤ → ℕ → ℕ → ℤ
-triangle cs zero i = entry cs i
-triangle cs (suc j) i = triangle cs j i +ℤ triangle cs j (suc i)
-
--- the left half: the first numbers of the rows 0 to d, each times 2^d
-unfoldable pub left : ℕ → List ℤ → List ℤ
-left d cs = listed (suc d) (λ k. pow (pos 2) (d - k) *ℤ triangle cs k 0)
-
--- the right half: the last numbers of the rows d to 0, each times 2^d
-unfoldable pub right : ℕ → List ℤ → List ℤ
-right d cs = listed (suc d) (λ k. pow (pos 2) k *ℤ triangle cs (d - k) k)
-
--- four control values, those past the end being zero
-abbrev pub four : List ℤ → List ℤ
-four cs = listed 4 (entry cs)
 
 unfoldable pub leftHalf : Curve → Curve
 leftHalf c = record { degree = c .degree; x = four (left (c .degree) (c .x)); y = four (left (c .degree) (c .y)) }

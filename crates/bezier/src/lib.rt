@@ -3,9 +3,10 @@
 ghost use mathlib.Core.Path.{_≡_};
 ghost use Prim.Native.Nat.{_^_, _<_};
 ghost use Rattle.bezier.specs.Nodes.{depth, after, nodeCurve};
-ghost use Rattle.bezier.specs.Bounds.{Sized};
-
-mod halves;
+ghost use Rattle.bezier.specs.Halves.{leftHalf, rightHalf};
+ghost use Rattle.bezier.specs.Bounds.{Sized, Halvable};
+use halves::left_values;
+use halves::right_values;
 
 // A curve (document 01): its degree and four control values a coordinate, those past the degree being zero. At depth k of halving the
 // values are the exact ones times 2^(degree * k).
@@ -13,6 +14,34 @@ pub struct Curve {
     pub degree: u32,
     pub x: [i64; 4],
     pub y: [i64; 4],
+}
+
+impl Curve {
+    // The half from t = 0 to 1/2.
+    pub fn left(self) -> Curve
+        requires { ⌜ Halvable self ⌝ }
+        ensures { λ r. ⌜ r ≡ leftHalf self ⌝ }
+    {
+        let degree = self.degree;
+        let cx = self.x;
+        let cy = self.y;
+        let x = left_values(degree, cx);
+        let y = left_values(degree, cy);
+        Curve { degree, x, y }
+    }
+
+    // The half from t = 1/2 to 1.
+    pub fn right(self) -> Curve
+        requires { ⌜ Halvable self ⌝ }
+        ensures { λ r. ⌜ r ≡ rightHalf self ⌝ }
+    {
+        let degree = self.degree;
+        let cx = self.x;
+        let cy = self.y;
+        let x = right_values(degree, cx);
+        let y = right_values(degree, cy);
+        Curve { degree, x, y }
+    }
 }
 
 // How many halvings lead to a node: the place of its highest one bit.

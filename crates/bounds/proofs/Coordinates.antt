@@ -26,10 +26,10 @@ use Rattle.integers.proofs.Rounding.{floor-size, floor-floor, floor-raised, quo
 use Rattle.integers.proofs.Order.{gap, nonneg-by, le-by, pos-lt}
 use Rattle.integers.proofs.Machine.{Held, Count, abs-shift, tests}
 use Rattle.bezier.specs.Differences.{difference}
-use Rattle.bezier.specs.Bounds.{Each}
-use Rattle.bezier.specs.Halves.{listed, four}
+use Rattle.halves.specs.Sizes.{Each}
+use Rattle.halves.specs.Halves.{listed, four}
 use Rattle.bezier.proofs.Values.{listed-ext}
-use Rattle.bezier.proofs.Halving.{held-entry}
+use Rattle.halves.proofs.Halving.{held-entry}
 use Rattle.enclosure.specs.Rows.{pieces, thirds}
 use Rattle.enclosure.specs.Bounds.{rowSum, high}
 use Rattle.enclosure.specs.Thirds.{over, highOf, lowOf}

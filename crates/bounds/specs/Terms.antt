@@ -6,8 +6,8 @@ use Prim.Native.Nat.{ℕ, _≤_, _^_}
 use lib.IntN.{ℤ, pos, natAbs, negℤ, _+ℤ_, _-ℤ_, _*ℤ_}
 use lib.Signed.{ltZ}
 use Rattle.integers.specs.Entry.{entry}
-use Rattle.bezier.specs.Halves.{listed}
-use Rattle.bezier.specs.Bounds.{Each}
+use Rattle.halves.specs.Halves.{listed}
+use Rattle.halves.specs.Sizes.{Each}
 use Rattle.enclosure.specs.Rows.{Row, pieces, thirds}
 
 -- a coordinate of degree 1 to 3 that 64 bits have room for

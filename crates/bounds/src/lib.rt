@@ -4,7 +4,7 @@ ghost use Prim.Native.Nat.{_<_, _≤_, _^_, _*_, _+_};
 ghost use lib.IntN.{pos, _+ℤ_, _*ℤ_};
 ghost use Rattle.integers.specs.Entry.{entry};
 ghost use Rattle.integers.specs.Rounding.{ceiling};
-ghost use Rattle.bezier.specs.Bounds.{Each};
+ghost use Rattle.halves.specs.Sizes.{Each};
 ghost use Rattle.bezier.specs.Differences.{difference};
 ghost use Rattle.enclosure.specs.Rows.{thirds};
 ghost use Rattle.enclosure.specs.Bounds.{rowSum};

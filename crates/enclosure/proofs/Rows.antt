@@ -18,7 +18,7 @@ use Rattle.bernstein.specs.Value.{value}
 use Rattle.bernstein.proofs.Recursion.{casteljau-ext, casteljau-mix, value-is}
 use Rattle.bernstein.proofs.Stretch.{stretch, stretch-value}
 use Rattle.bernstein.proofs.Nonnegative.{nonnegative, nonnegative-right, value-times}
-use Rattle.bezier.specs.Halves.{listed}
+use Rattle.halves.specs.Halves.{listed}
 use Rattle.enclosure.specs.Rows.{Row, pieces, thirds}
 use Rattle.enclosure.specs.Hats.{hat}
 use Rattle.enclosure.specs.Enclosed.{Place, joined, RowBounds}

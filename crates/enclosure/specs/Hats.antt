@@ -2,7 +2,7 @@
 use mathlib.Core.List.{List}
 use Prim.Native.Nat.{ℕ, suc, _*_, _-_, min, max}
 use lib.IntN.{ℤ, pos, negℤ}
-use Rattle.bezier.specs.Halves.{listed}
+use Rattle.halves.specs.Halves.{listed}
 
 -- d times the Bernstein coefficients of the polynomial of degree d whose ends are 0 and whose second differences are 1 at place k and 0 elsewhere:
 -- coefficient j is −min(j, k + 1) · (d − max(j, k + 1)).

@@ -12,7 +12,8 @@ use Rattle.integers.specs.Entry.{entry}
 use Rattle.integers.proofs.Clash.{clash}
 use Rattle.refusals.specs.declared.Refusal.{Refusal}
 use Rattle.bezier.specs.declared.Curve.{Curve}
-use Rattle.bezier.specs.Bounds.{Each, Sized}
+use Rattle.halves.specs.Sizes.{Each}
+use Rattle.bezier.specs.Bounds.{Sized}
 use Rattle.bezier.specs.Points.{Equals}
 use Rattle.bezier.proofs.Sizes.{each-wider}
 use Rattle.boxes.specs.Records.{covers, recordLength}

@@ -16,7 +16,7 @@ use Rattle.integers.proofs.Order.{gap, gap<, natural, balance, le-by, pos-lt, p
 use Rattle.integers.proofs.Ranges.{yes-le, yes-lt}
 use Rattle.integers.proofs.First.{bad-none}
 use Rattle.bernstein.specs.Value.{value}
-use Rattle.bezier.specs.Bounds.{Each}
+use Rattle.halves.specs.Sizes.{Each}
 use Rattle.bezier.specs.Points.{scaled, sixteenths}
 use Rattle.bezier.proofs.Values.{value-high, value-low}
 use Rattle.boxes.specs.Ranges.{farthest, inRange, lowFine, boxNumberFine}

@@ -11,7 +11,8 @@ use lib.IntN.{ℤ, pos, pow, one}
 use Rattle.integers.specs.First.{firstBad}
 use Rattle.integers.specs.Rounding.{floor, ceiling}
 use Rattle.integers.proofs.Clash.{clash}
-use Rattle.bezier.specs.Halves.{triangle, left, right, leftHalf, rightHalf}
+use Rattle.halves.specs.Halves.{triangle, left, right}
+use Rattle.bezier.specs.Halves.{leftHalf, rightHalf}
 use Rattle.bezier.specs.Nodes.{descendIn, descend, depth, nodeCurve}
 use Rattle.boxes.specs.Records.{boxIndex, boxAtIndex}
 use Rattle.enclosure.specs.Bounds.{rowSum, high, low}

@@ -13,7 +13,7 @@ use Rattle.integers.proofs.Size.{Size}
 use Rattle.integers.proofs.Machine.{tests}
 use Rattle.bezier.specs.declared.Curve.{Curve}
 use Rattle.bezier.specs.Bounds.{Sized}
-use Rattle.bezier.specs.Halves.{listed}
+use Rattle.halves.specs.Halves.{listed}
 use Rattle.bezier.proofs.Sizes.{sized-halvable}
 use Rattle.node_boxes.specs.declared.Box.{Box}
 use Rattle.node_boxes.specs.declared.NodeBoxes.{NodeBoxes}

@@ -6,7 +6,8 @@ use Prim.Native.Nat.{ℕ}
 use lib.IntN.{pos, pow, one}
 use Rattle.integers.specs.Rounding.{floor, ceiling}
 use Rattle.bezier.specs.declared.Curve.{Curve}
-use Rattle.bezier.specs.Halves.{triangle, left, right, leftHalf, rightHalf}
+use Rattle.halves.specs.Halves.{triangle, left, right}
+use Rattle.bezier.specs.Halves.{leftHalf, rightHalf}
 use Rattle.bezier.specs.Nodes.{descendIn, descend, depth, nodeCurve}
 use Rattle.enclosure.specs.Bounds.{rowSum, high, low}
 use Rattle.node_boxes.specs.declared.Box.{Box}

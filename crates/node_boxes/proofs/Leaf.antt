@@ -11,7 +11,8 @@ use Rattle.integers.proofs.Ring.{ring, sides}
 use Rattle.integers.proofs.Order.{pow-positive, times-positive, balance, natural, gap, le-by, pos-lt, *ℤ-cancel, ≤ℤ-trans, _+₀_, _×₀_}
 use Rattle.integers.proofs.Size.{abs-within}
 use Rattle.bernstein.specs.Value.{value}
-use Rattle.bezier.specs.Bounds.{Each, Sized}
+use Rattle.halves.specs.Sizes.{Each}
+use Rattle.bezier.specs.Bounds.{Sized}
 use Rattle.bezier.specs.declared.Curve.{Curve}
 use Rattle.node_boxes.specs.declared.Box.{Box}
 use Rattle.enclosure.specs.Rows.{Row, pieces}

@@ -5,8 +5,8 @@ use lib.IntN.{ℤ, natAbs, _-ℤ_}
 use lib.Signed.{leZ}
 use Rattle.integers.specs.Entry.{entry}
 use Rattle.bezier.specs.declared.Curve.{Curve}
-use Rattle.bezier.specs.Bounds.{Each}
-use Rattle.bezier.specs.Halves.{listed}
+use Rattle.halves.specs.Sizes.{Each}
+use Rattle.halves.specs.Halves.{listed}
 use Rattle.enclosure.specs.Rows.{pieces}
 use Rattle.enclosure.specs.Thirds.{lowOf, highOf}
 use Rattle.node_boxes.specs.declared.Box.{Box}

@@ -16,8 +16,9 @@ use Rattle.integers.proofs.Size.{abs-within}
 use Rattle.refusals.specs.declared.Refusal.{Refusal}
 use Rattle.refusals.specs.declared.Refusal.the-variants.{Degree, CutShort, Coordinate}
 use Rattle.bezier.specs.declared.Curve.{Curve}
-use Rattle.bezier.specs.Halves.{listed}
-use Rattle.bezier.specs.Bounds.{Each, Sized}
+use Rattle.halves.specs.Halves.{listed}
+use Rattle.halves.specs.Sizes.{Each}
+use Rattle.bezier.specs.Bounds.{Sized}
 use Rattle.bezier.proofs.Sizes.{listed-under}
 use Rattle.outline_curves.specs.Curves.{coordinates, degreeAt, nextAt, values, curveAt}
 use Rattle.outline_curves.specs.declared.Found.{Found}

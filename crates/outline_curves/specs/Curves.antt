@@ -7,7 +7,7 @@ use lib.Dec.{leb}
 use lib.IntN.{ℤ, pos, natAbs}
 use Rattle.integers.specs.Entry.{entry}
 use Rattle.bezier.specs.declared.Curve.{Curve}
-use Rattle.bezier.specs.Halves.{listed}
+use Rattle.halves.specs.Halves.{listed}
 
 -- how many numbers follow a degree d, and where the next curve begins
 abbrev pub coordinates : ℕ → ℕ

@@ -1,7 +1,7 @@
 -- Four control values, each negated.
 use lib.IntN.{+ℤ-idl}
 use Rattle.integers.proofs.Machine.{fits! }
-use Rattle.bezier.proofs.Halving.{coordinates, are! }
+use Rattle.halves.proofs.Halving.{coordinates, are! }
 use Rattle.bounds.proofs.Coordinates.{bounded}
 use borrow.Author.Needs.{needs}
 use Rattle.bounds.proofs.negated.Statement.{statement}

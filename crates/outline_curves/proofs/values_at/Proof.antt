@@ -13,7 +13,7 @@ use mir.Val.{SFits}
 use Rattle.integers.specs.Entry.{entry}
 use Rattle.integers.proofs.Ranges.{stored}
 use Rattle.integers.proofs.Machine.{machine, fits!, is! }
-use Rattle.bezier.specs.Halves.{listed}
+use Rattle.halves.specs.Halves.{listed}
 use Rattle.outline_curves.specs.Curves.{values}
 use Rattle.integers.proofs.Between.{element-fits}
 use Rattle.outline_curves.proofs.values_at.Statement.{statement}

@@ -2,8 +2,8 @@
 use mathlib.Core.Path.{_≡_}
 use native.Mathlib.Omega.{arith}
 use borrow.Author.Needs.{needs}
-use Rattle.bezier.proofs.halves.left_values.Statement.{statement}
-use Rattle.bezier.proofs.halves.left_values.Tie as tie
+use Rattle.halves.proofs.left_values.Statement.{statement}
+use Rattle.halves.proofs.left_values.Tie as tie
 
 left-line-requires : tie.Need-left-line-requires
 left-line-requires c κs = search needs

@@ -3,10 +3,10 @@ use lib.IntN.{pow, one}
 use borrow.Author.Needs.{needs}
 use Rattle.integers.proofs.RingLaws.{one-*ℤ}
 use Rattle.integers.proofs.Machine.{fits! }
-use Rattle.bezier.specs.Halves.{right, triangle}
-use Rattle.bezier.proofs.Halving.{coordinate, coordinates, are! }
-use Rattle.bezier.proofs.halves.right_line.Statement.{statement}
-use Rattle.bezier.proofs.halves.right_line.Tie as tie
+use Rattle.halves.specs.Halves.{right, triangle}
+use Rattle.halves.proofs.Halving.{coordinate, coordinates, are! }
+use Rattle.halves.proofs.right_line.Statement.{statement}
+use Rattle.halves.proofs.right_line.Tie as tie
 
 array-copy-out-c0 : tie.Need-array-copy-out-c0
 array-copy-out-c0 c = search needs

@@ -11,7 +11,7 @@ use lib.IntN.{ℤ}
 use Rattle.integers.specs.Entry.{entry}
 use Rattle.integers.proofs.Table.{and-left, and-right}
 use Rattle.integers.proofs.Machine.{Held, machine}
-use Rattle.bezier.specs.Bounds.{Each}
+use Rattle.halves.specs.Sizes.{Each}
 
 -- ---- a control value
 abbrev pub held-entry : {B : ℕ} {cs : List ℤ} (k : ℕ) → Each B cs → Held (entry cs k)

@@ -2,8 +2,8 @@
 use mathlib.Core.Path.{_≡_}
 use native.Mathlib.Omega.{arith}
 use borrow.Author.Needs.{needs}
-use Rattle.bezier.proofs.halves.right_values.Statement.{statement}
-use Rattle.bezier.proofs.halves.right_values.Tie as tie
+use Rattle.halves.proofs.right_values.Statement.{statement}
+use Rattle.halves.proofs.right_values.Tie as tie
 
 right-line-requires : tie.Need-right-line-requires
 right-line-requires c κs = search needs

@@ -1,12 +1,12 @@
--- The right half of one coordinate of a cubic: the sums are those of de Casteljau's triangle.
+-- The left half of one coordinate of a cubic: the sums are those of de Casteljau's triangle.
 use lib.IntN.{pow, one}
 use borrow.Author.Needs.{needs}
 use Rattle.integers.proofs.RingLaws.{one-*ℤ}
 use Rattle.integers.proofs.Machine.{fits! }
-use Rattle.bezier.specs.Halves.{right, triangle}
-use Rattle.bezier.proofs.Halving.{coordinate, coordinates, are! }
-use Rattle.bezier.proofs.halves.right_cubic.Statement.{statement}
-use Rattle.bezier.proofs.halves.right_cubic.Tie as tie
+use Rattle.halves.specs.Halves.{left, triangle}
+use Rattle.halves.proofs.Halving.{coordinate, coordinates, are! }
+use Rattle.halves.proofs.left_cubic.Statement.{statement}
+use Rattle.halves.proofs.left_cubic.Tie as tie
 
 array-copy-out-c0 : tie.Need-array-copy-out-c0
 array-copy-out-c0 c = search needs
@@ -35,8 +35,8 @@ add-t0 c = fits! (search (coordinate, c .before .before .before .before .pre) de
 add-t1 : tie.Need-add-t1
 add-t1 c = fits! (search (coordinate, c .before .before .before .before .pre) depth 40) tt
 
-add-t14 : tie.Need-add-t14
-add-t14 c = fits! (search (coordinate, c .before .before .before .before .pre) depth 40) tt
+mul-t14 : tie.Need-mul-t14
+mul-t14 c = fits! (search (coordinate, c .before .before .before .before .pre) depth 40) tt
 
 mul-t21 : tie.Need-mul-t21
 mul-t21 c = fits! (search (coordinate, c .before .before .before .before .pre) depth 40) tt
@@ -44,15 +44,15 @@ mul-t21 c = fits! (search (coordinate, c .before .before .before .before .pre) d
 mul-t22 : tie.Need-mul-t22
 mul-t22 c = fits! (search (coordinate, c .before .before .before .before .pre) depth 40) tt
 
-mul-t23 : tie.Need-mul-t23
-mul-t23 c = fits! (search (coordinate, c .before .before .before .before .pre) depth 40) tt
+add-t23 : tie.Need-add-t23
+add-t23 c = fits! (search (coordinate, c .before .before .before .before .pre) depth 40) tt
 
 returns : tie.Need-returns
-unfolding right triangle pow one
+unfolding left triangle pow one
 returns c = simp one-*ℤ (are! (search (coordinates, c .before .before .before .before .pre) depth 40) tt)
 
-pub right-cubic-spec : {M : Type 1} → statement M
-right-cubic-spec =
+pub left-cubic-spec : {M : Type 1} → statement M
+left-cubic-spec =
     tie.close
     (tie.spec
     array-copy-out-c0
@@ -64,8 +64,8 @@ right-cubic-spec =
     add-s2
     add-t0
     add-t1
-    add-t14
+    mul-t14
     mul-t21
     mul-t22
-    mul-t23
+    add-t23
     returns)

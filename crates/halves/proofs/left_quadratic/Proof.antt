@@ -1,12 +1,12 @@
--- The right half of one coordinate of a quadratic: the sums are those of de Casteljau's triangle.
+-- The left half of one coordinate of a quadratic: the sums are those of de Casteljau's triangle.
 use lib.IntN.{pow, one}
 use borrow.Author.Needs.{needs}
 use Rattle.integers.proofs.RingLaws.{one-*ℤ}
 use Rattle.integers.proofs.Machine.{fits! }
-use Rattle.bezier.specs.Halves.{right, triangle}
-use Rattle.bezier.proofs.Halving.{coordinate, coordinates, are! }
-use Rattle.bezier.proofs.halves.right_quadratic.Statement.{statement}
-use Rattle.bezier.proofs.halves.right_quadratic.Tie as tie
+use Rattle.halves.specs.Halves.{left, triangle}
+use Rattle.halves.proofs.Halving.{coordinate, coordinates, are! }
+use Rattle.halves.proofs.left_quadratic.Statement.{statement}
+use Rattle.halves.proofs.left_quadratic.Tie as tie
 
 array-copy-out-c0 : tie.Need-array-copy-out-c0
 array-copy-out-c0 c = search needs
@@ -23,21 +23,21 @@ add-s0 c = fits! (search (coordinate, c .before .before .before .pre) depth 40) 
 add-s1 : tie.Need-add-s1
 add-s1 c = fits! (search (coordinate, c .before .before .before .pre) depth 40) tt
 
-add-t10 : tie.Need-add-t10
-add-t10 c = fits! (search (coordinate, c .before .before .before .pre) depth 40) tt
+mul-t10 : tie.Need-mul-t10
+mul-t10 c = fits! (search (coordinate, c .before .before .before .pre) depth 40) tt
 
 mul-t15 : tie.Need-mul-t15
 mul-t15 c = fits! (search (coordinate, c .before .before .before .pre) depth 40) tt
 
-mul-t16 : tie.Need-mul-t16
-mul-t16 c = fits! (search (coordinate, c .before .before .before .pre) depth 40) tt
+add-t16 : tie.Need-add-t16
+add-t16 c = fits! (search (coordinate, c .before .before .before .pre) depth 40) tt
 
 returns : tie.Need-returns
-unfolding right triangle pow one
+unfolding left triangle pow one
 returns c = simp one-*ℤ (are! (search (coordinates, c .before .before .before .pre) depth 40) tt)
 
-pub right-quadratic-spec : {M : Type 1} → statement M
-right-quadratic-spec =
+pub left-quadratic-spec : {M : Type 1} → statement M
+left-quadratic-spec =
     tie.close
     (tie.spec
     array-copy-out-c0
@@ -45,7 +45,7 @@ right-quadratic-spec =
     array-copy-out-c2
     add-s0
     add-s1
-    add-t10
+    mul-t10
     mul-t15
-    mul-t16
+    add-t16
     returns)

@@ -1,41 +1,12 @@
-// A curve's halves by the de Casteljau step at 1/2, exactly: no midpoint is divided, so a half of degree d has 2^d times the exact control values.
+// The halves of one coordinate by the de Casteljau step at 1/2, exactly: no midpoint is divided, so a half of degree d has 2^d times the exact control values.
 
 ghost use mathlib.Core.Path.{_≡_};
 ghost use Prim.Native.Nat.{_^_, _≤_};
-ghost use Rattle.bezier.specs.Halves.{left, right, four, leftHalf, rightHalf};
-ghost use Rattle.bezier.specs.Bounds.{Each, Halvable};
-use crate::Curve;
-
-impl Curve {
-    // The half from t = 0 to 1/2.
-    pub fn left(self) -> Curve
-        requires { ⌜ Halvable self ⌝ }
-        ensures { λ r. ⌜ r ≡ leftHalf self ⌝ }
-    {
-        let degree = self.degree;
-        let cx = self.x;
-        let cy = self.y;
-        let x = left_values(degree, cx);
-        let y = left_values(degree, cy);
-        Curve { degree, x, y }
-    }
-
-    // The half from t = 1/2 to 1.
-    pub fn right(self) -> Curve
-        requires { ⌜ Halvable self ⌝ }
-        ensures { λ r. ⌜ r ≡ rightHalf self ⌝ }
-    {
-        let degree = self.degree;
-        let cx = self.x;
-        let cy = self.y;
-        let x = right_values(degree, cx);
-        let y = right_values(degree, cy);
-        Curve { degree, x, y }
-    }
-}
+ghost use Rattle.halves.specs.Halves.{left, right, four};
+ghost use Rattle.halves.specs.Sizes.{Each};
 
 // One coordinate of the left half.
-fn left_values(degree: u32, c: [i64; 4]) -> [i64; 4]
+pub fn left_values(degree: u32, c: [i64; 4]) -> [i64; 4]
     requires { ⌜ (1 ≤ degree) × (degree ≤ 3) × Each (2 ^ 44) c ⌝ }
     ensures { λ r. ⌜ r ≡ four (left degree c) ⌝ }
 {
@@ -47,7 +18,7 @@ fn left_values(degree: u32, c: [i64; 4]) -> [i64; 4]
 }
 
 // One coordinate of the right half.
-fn right_values(degree: u32, c: [i64; 4]) -> [i64; 4]
+pub fn right_values(degree: u32, c: [i64; 4]) -> [i64; 4]
     requires { ⌜ (1 ≤ degree) × (degree ≤ 3) × Each (2 ^ 44) c ⌝ }
     ensures { λ r. ⌜ r ≡ four (right degree c) ⌝ }
 {

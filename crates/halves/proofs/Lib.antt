@@ -1,0 +1,2 @@
+-- How the code of one coordinate is proved.
+pub mod Halving
