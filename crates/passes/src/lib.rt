@@ -1,10 +1,8 @@
 // The two passes over the curves of an outline: the first counts their leaves or finds a node that is still too wide, the second writes the records.
 ghost use mathlib.Core.Path.{_≡_};
-ghost use mathlib.Core.Bool.{false};
 ghost use Prim.Native.Nat.{_+_, _*_, _≤_, _<_, _^_};
 ghost use lib.ListN.{length};
 ghost use lib.Seq.{sets};
-ghost use Rattle.node_boxes.specs.Boxes.{meets};
 ghost use Rattle.outline.specs.Checks.{outlineFrom};
 ghost use Rattle.tree.specs.Walked.{endsOf};
 ghost use Rattle.records.specs.Records.{recordsOf, allRecords};
@@ -51,26 +49,14 @@ pub fn count(ns: &[i32], t: i64, curves: usize) -> Counted
     Counted::Leaves(leaves)
 }
 
-// The records of a curve's leaves, from place `at` on. It returns the place after them. A curve that is one leaf needs no path.
+// The records of a curve's leaves, from place `at` on. It returns the place after them. The path is as in `walk`.
 pub fn write_curve(records: &mut [i32], at: usize, number: u32, curve: Curve, t: i64) -> usize
     requires { ⌜ (Ready t curve) × (number < 2 ^ 31) × (at + 18 * length (endsOf t curve) ≤ length (now records)) ⌝ }
     ensures { λ r. ⌜ (r ≡ at + 18 * length (endsOf t curve)) × (now (records .exit) ≡ sets (now (records .entry)) at (recordsOf number curve (endsOf t curve))) ⌝ }
 {
-    if node_boxes::meets(curve, 0, t) {
-        put_record(records, at, number, 1, curve);
-        return at + 18;
-    }
-    write_halves(records, at, number, curve, t)
-}
-
-// The same of a curve that is no leaf, from its left half on. The path is as in `walk`.
-fn write_halves(records: &mut [i32], at: usize, number: u32, curve: Curve, t: i64) -> usize
-    requires { ⌜ (Ready t curve) × (number < 2 ^ 31) × (at + 18 * length (endsOf t curve) ≤ length (now records)) × (meets t 0 curve ≡ false) ⌝ }
-    ensures { λ r. ⌜ (r ≡ at + 18 * length (endsOf t curve)) × (now (records .exit) ≡ sets (now (records .entry)) at (recordsOf number curve (endsOf t curve))) ⌝ }
-{
     let mut path = [curve; 8];
-    let mut part = curve.left();
-    let mut node: u32 = 2;
+    let mut part = curve;
+    let mut node: u32 = 1;
     let mut place = at;
     loop {
         let depth = bezier::depth(node);

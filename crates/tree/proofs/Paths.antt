@@ -1,9 +1,9 @@
 -- The curves on the way from the root to the node where a walk stands: a list holds the curve of each ancestor of the node at the ancestor's depth. Halving
 -- the node stores its own curve; after a leaf the list stands as it is, since the node after n is the right half of an ancestor of n.
 use mathlib.Core.Path.{_≡_, sym, _∙_, ap, ap₂, subst}
-use mathlib.Core.Bool.{Bool, true}
+use mathlib.Core.Bool.{Bool}
 use mathlib.Core.Logic.{_⊎_, inl, inr, ⊎-elim}
-use mathlib.Core.List.{List, [], _∷_}
+use mathlib.Core.List.{List, []}
 use Prim.Native.Nat.{ℕ, zero, suc, _+_, _-_, _*_, _/_, _^_, _≤_, _<_}
 use native.Mathlib.Nat.{pow-succ', div-one, zero-div, div-div-eq-div-mul}
 use native.Mathlib.Omega.{arith}
@@ -16,13 +16,13 @@ use Rattle.bezier.specs.Halves.{leftHalf, rightHalf}
 use Rattle.bezier.specs.Nodes.{depth, nodeCurve, after}
 use Rattle.bezier.specs.Bounds.{Sized, Halvable}
 use Rattle.bezier.proofs.Nodes.{node-induction}
-use Rattle.bezier.proofs.Numbers.{depth-one, depth-half, node-one, node-half, after-one, after-left, after-right}
+use Rattle.bezier.proofs.Numbers.{depth-half, node-one, node-half, after-one, after-left, after-right}
 use Rattle.bezier.proofs.Sizes.{node-sized, sized-halvable}
 use Rattle.node_boxes.specs.Boxes.{meets}
 use Rattle.tree.specs.Leaves.{Ancestor}
 use Rattle.tree.specs.Walked.{deepest, nodeMeets}
 use Rattle.tree.proofs.Halves.{half-induction}
-use Rattle.tree.proofs.Walking.{Walking, walking-start, not-deepest}
+use Rattle.tree.proofs.Walking.{Walking, not-deepest}
 
 -- ---- ancestors
 ancestor-half : {n b : ℕ} → 0 < n → b < 2 → Ancestor n (2 * n + b)
@@ -79,10 +79,6 @@ onward = half-induction (λ n. (after n ≡ 1) ⊎ Onward n (after n))
 -- what a list past its end is taken to hold
 abbrev pub missing : Curve
 missing = record { degree = 0; x = []; y = [] }
-
--- the curve that a path begins with
-abbrev pub root : List Curve → Curve
-root path = getD path 0 missing
 
 -- the walk of curve c stands at node n: the part is the node's curve, and the list holds those of its ancestors
 pub record Path (c : Curve) (n : ℕ) (path : List Curve) (part : Curve) : Type 0 where
@@ -146,7 +142,3 @@ module _ {test : ℕ → Bool} {passed : List ℕ} {c : Curve} {n : ℕ} {path :
               above = λ b u. p .above b (⊎-elim (λ q. subst (λ x. Ancestor x n) (sym q) (o .ancestor)) (λ v. ancestor-of-ancestor v (o .ancestor)) (ancestor-up (omega arith) u));
             });
           }
-
--- a path that begins below a curve, at its left half
-pub path-first : (c : Curve) (rest : List Curve) → length rest ≡ 7 → {r : Curve} → r ≡ leftHalf c → Path c 2 (c ∷ rest) r
-path-first c rest h e = path-half (walking-start (λ n. true) deepest) (path-start c {path = c ∷ rest} (ap suc h)) (omega arith) (sym depth-one) e

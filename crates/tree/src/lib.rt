@@ -1,8 +1,6 @@
 // The walk of a curve's nodes: from node 1 in the order of the parameter, by node numbers and without recursion.
 ghost use mathlib.Core.Path.{_≡_};
-ghost use mathlib.Core.Bool.{false};
 ghost use Rattle.bezier.specs.Bounds.{Sized};
-ghost use Rattle.node_boxes.specs.Boxes.{meets};
 ghost use Rattle.tree.specs.Walked.{walkedOf};
 use bezier::Curve;
 
@@ -23,14 +21,14 @@ pub fn walk(curve: Curve, t: i64) -> Walked
     walk_halves(curve, t)
 }
 
-// The same of a curve that is no leaf, from its left half on. The path holds the curves above the node's own, by depth, so that each step halves once.
+// The same by halving. The path holds the curves above the node's own, by depth, so that each step halves once.
 fn walk_halves(curve: Curve, t: i64) -> Walked
-    requires { ⌜ (Sized 0 curve) × (meets t 0 curve ≡ false) ⌝ }
+    requires { ⌜ Sized 0 curve ⌝ }
     ensures { λ r. ⌜ r ≡ walkedOf t curve ⌝ }
 {
     let mut path = [curve; 8];
-    let mut part = curve.left();
-    let mut node: u32 = 2;
+    let mut part = curve;
+    let mut node: u32 = 1;
     let mut leaves: usize = 0;
     loop {
         let depth = bezier::depth(node);

@@ -1,63 +1,198 @@
--- The records of a curve's leaves: one record where the curve is a leaf, and else those of its halves.
-use mathlib.Core.Path.{_≡_, sym, _∙_}
-use mathlib.Core.Bool.{true}
-use Prim.Native.Nat.{_+_, _≤_}
+-- The records of a curve's leaves. The loop's invariant: the walk stands at this node, the list holds the records of the leaves that it passed, and the
+-- path leads to the node. The measure is the node's rank.
+use mathlib.Core.Path.{_≡_, refl, sym, _∙_, ap}
+use mathlib.Core.Bool.{true, false}
+use Prim.Native.Nat.{_+_, _≤_, _<_}
 use native.Mathlib.Omega.{arith}
-use borrow.Author.Needs.{needs}
+use mir.Syntax.{w64}
+use mir.Val.{toZ}
 use mir.Facts.{toZ-ofZ}
 use lib.ListN.{length}
-use Rattle.bezier.proofs.Numbers.{node-one, after-one}
+use lib.Seq.{sets, length-sets}
+use Rattle.integers.proofs.Ranges.{stored}
+use Rattle.passes.specs.Writing.{Ready}
 use Rattle.tree.specs.Walked.{deepest, nodeMeets}
-use Rattle.tree.proofs.Walking.{walking-start}
-use Rattle.tree.proofs.Whole.{whole-meets}
-use Rattle.passes.proofs.Recording.{recorded-start, recorded-room, recorded-done, writable-leaf, put}
+use Rattle.records.specs.Records.{recordOf}
+use Rattle.tree.proofs.Rank.{rank}
+use Rattle.tree.proofs.Walking.{walking-below, not-deepest, walking-leaf, walking-halvable, half-falls, leaf-falls}
+use Rattle.tree.proofs.Failing.{none-passing}
+use Rattle.tree.proofs.Paths.{Path, Leads, path-start, path-sized, path-meets, path-halvable, path-half, path-after}
+use Rattle.passes.proofs.Recording.{Recorded, recorded-start, recorded-length, recorded-room, recorded-half, recorded-leaf, recorded-done, writable-leaf, put}
 use Rattle.passes.proofs.write_curve.Statement.{statement}
 use Rattle.passes.proofs.write_curve.Tie as tie
 
-meets-requires : tie.Need-meets-requires
-meets-requires c κs = search needs
+abbrev Inv-loop : tie.InvT-loop
+Inv-loop records₀ at number t path₀ part₀ node₀ place₀ records path part node place =
+    Recorded (toZ w64 t) part₀ number records₀ at node place records × Path part₀ node path part
 
--- the curve is a leaf
-passes : (c : tie.Then1) → let s = c .before .before in nodeMeets (s .args .t) (s .args .curve) 1 ≡ true
+abbrev μ-loop : tie.MeasureT-loop
+μ-loop records₀ at number t path₀ part₀ node₀ place₀ records path part node place = rank deepest node
+
+loop-holds : tie.Need-loop-holds Inv-loop μ-loop
+loop-holds c = (recorded-start, path-start (c .args .curve) refl)
+
+-- the contract's own, at the tolerance as it is stored
+ready : (c : tie.Start Inv-loop μ-loop) → Ready (stored w64 (c .args .t)) (c .args .curve)
+ready c = rw (toZ-ofZ (c .fits .t)) (c .pre .0)
+
+room : (c : tie.At-loop Inv-loop μ-loop) → c .loop .place + 18 ≤ length (c .loop .records)
+room c = recorded-room (c .loop .inv .0) (rw (toZ-ofZ (c .before .fits .t)) (c .before .pre .2))
+
+depth-requires : tie.Need-depth-requires Inv-loop μ-loop
+depth-requires c κs = omega (arith, c .loop .inv .0 .walking .node)
+
+meets-requires : tie.Need-meets-requires Inv-loop μ-loop
+meets-requires c κs =
+    let l = c .before .loop .inv in
+    rw (c .depth .ensures) (path-sized (l .0 .walking) (l .1) (c .before .before .pre .0 .sized), l .0 .walking .within)
+
+-- ---- a leaf
+passes : (c : tie.Then1 Inv-loop μ-loop) → let l = c .before .before .before in nodeMeets (stored w64 (l .before .args .t)) (l .before .args .curve) (l .loop .node) ≡ true
 passes c =
-    let s = c .before .before in
-    whole-meets (s .args .t) (s .args .curve) (rw (toZ-ofZ (s .fits .t)) at (c .before .meets .ensures)) (c .if1 .taken)
+    let l = c .before .before .before .loop .inv in
+    path-meets (l .0 .walking) (l .1) (stored w64 (c .before .before .before .before .args .t)) (c .before .before .depth .ensures) (c .before .meets .ensures) (c .if1 .taken)
 
-room : (c : tie.Then1) → let s = c .before .before in s .args .at + 18 ≤ length (s .args .records .now)
-room c =
-    let s = c .before .before in
-    recorded-room (recorded-start {T = s .args .t} {c = s .args .curve} {k = s .args .number} {l = s .args .records .now} {at = s .args .at}) (s .pre .2)
-
-put-record-requires : tie.Need-put-record-requires
+put-record-requires : tie.Need-put-record-requires Inv-loop μ-loop
 put-record-requires c κs =
-    let s = c .before .before .before in
-    let a = s .args in
-    let w = writable-leaf (s .pre .0) (walking-start (nodeMeets (a .t) (a .curve)) deepest) (passes (c .before)) in
-    (room (c .before), s .pre .1, omega arith, omega arith, rw (node-one (a .curve)) at w)
+    let l = c .before .before .before .before in
+    let w = l .loop .inv .0 .walking in
+    (room l, l .before .pre .1, walking-below w, w .node, rw (l .loop .inv .1 .here) (writable-leaf (ready (l .before)) w (passes (c .before))))
 
-add-result : tie.Need-add-result
-add-result c = search needs
+add-place : tie.Need-add-place Inv-loop μ-loop
+add-place c = let l = c .before .before .before .before .before .before in omega (arith, room l, recorded-length (l .loop .inv .0))
 
-same-length : tie.Need-same-length
-same-length c = search needs
+after-requires : tie.Need-after-requires Inv-loop μ-loop
+after-requires c κs = let w = c .before .before .before .before .before .before .loop .inv .0 .walking in (w .node, omega (arith, walking-below w))
 
-returns : tie.Need-returns
+-- the leaf's record stands in its place
+written : (c : tie.After-put-record Inv-loop μ-loop)
+    → let l = c .before .before .before .before .before in
+    c .put-record .last .0 ≡ sets (l .loop .records) (l .loop .place) (recordOf (l .before .args .number) (l .before .args .curve) (l .loop .node))
+written c =
+    let l = c .before .before .before .before .before in
+    put (l .loop .records) (l .loop .place) (l .before .args .number) (l .before .args .curve) (l .loop .node) (l .loop .inv .1 .here) (c .put-record .ensures)
+
+same-length : tie.Need-same-length Inv-loop μ-loop
+same-length c =
+    let l = c .before .before .before .before .before .before .before .before in
+    ap length (written (c .before .before .before))
+    ∙ length-sets (l .loop .records) (l .loop .place) (recordOf (l .before .args .number) (l .before .args .curve) (l .loop .node))
+    ∙ recorded-length (l .loop .inv .0)
+
+returns : tie.Need-returns Inv-loop μ-loop
 returns c =
-    let s = c .before .before .before .before .before in
-    let a = s .args in
-    recorded-done (recorded-start {T = a .t} {c = a .curve} {k = a .number} {l = a .records .now} {at = a .at}) (passes (c .before .before .before)) after-one
-    (put (a .records .now) (a .at) (a .number) (a .curve) 1 (sym (node-one (a .curve))) (c .before .put-record .ensures))
+    let l = c .before .before .before .before .before .before .before .before in
+    rw (toZ-ofZ (l .before .fits .t)) at
+    (recorded-done (l .loop .inv .0) (passes (c .before .before .before .before .before)) (sym (c .before .after .ensures) ∙ c .if2 .taken) (written (c .before .before .before)))
 
-write-halves-requires : tie.Need-write-halves-requires
-write-halves-requires c κs =
-    let s = c .before .before .before in
-    rw (toZ-ofZ (s .fits .t)) (s .pre .0, s .pre .1, s .pre .2, rw (toZ-ofZ (s .fits .t)) at (sym (c .before .before .meets .ensures) ∙ c .before .if1 .left))
+depth-requires-2 : tie.Need-depth-requires-2 Inv-loop μ-loop
+depth-requires-2 c κs =
+    let w = c .before .before .before .before .before .before .before .before .loop .inv .0 .walking in
+    omega (arith, c .before .after .ensures, walking-leaf w (passes (c .before .before .before .before .before)) (λ e. c .if2 .left (c .before .after .ensures ∙ e)) .node)
 
-same-length-2 : tie.Need-same-length-2
-same-length-2 c = search needs
+leads : (c : tie.After-depth2 Inv-loop μ-loop)
+    → let l = c .before .before .before .before .before .before .before .before .before in
+    Leads (l .before .args .curve) (c .before .before .after .result) (c .depth2 .result) (l .loop .path)
+leads c =
+    let l = c .before .before .before .before .before .before .before .before .before in
+    path-after (l .loop .inv .0 .walking) (l .loop .inv .1) (l .before .pre .0 .sized) (c .before .before .after .ensures) (c .depth2 .ensures) (c .before .if2 .left)
 
-returns-2 : tie.Need-returns-2
-returns-2 c = rw (toZ-ofZ (c .before .before .before .before .before .fits .t)) at (c .before .write-halves .ensures)
+sub-above : tie.Need-sub-above Inv-loop μ-loop
+sub-above c = leads c .deep
+
+cast-right : tie.Need-cast-right Inv-loop μ-loop
+cast-right c = omega (arith, leads c .within)
+
+mul-right : tie.Need-mul-right Inv-loop μ-loop
+mul-right c = omega (arith, leads c .within)
+
+array-copy-out-right : tie.Need-array-copy-out-right Inv-loop μ-loop
+array-copy-out-right c = omega (arith, leads c .within)
+
+right-requires : tie.Need-right-requires Inv-loop μ-loop
+right-requires c κs = leads (c .before) .halvable
+
+loop-less : tie.Need-loop-less Inv-loop μ-loop
+loop-less c =
+    let e = c .before .before .before .before .after .ensures in
+    let l = c .before .before .before .before .before .before .before .before .before .before .before .loop .inv in
+    rw e (leaf-falls (l .0 .walking) (λ o. c .before .before .before .if2 .left (e ∙ o)))
+
+loop-again : tie.Need-loop-again Inv-loop μ-loop
+loop-again c =
+    let e = c .before .before .before .before .after .ensures in
+    let r = c .before .before .before .before .before .before in
+    let l = r .before .before .before .before .before .loop .inv in (
+      rw e (recorded-leaf (l .0) (passes (r .before .before)) (λ o. c .before .before .before .if2 .left (e ∙ o)) (written r)),
+      leads (c .before .before) .on (c .right .ensures),
+    )
+
+-- ---- a node that does not pass
+fails : (c : tie.Else1 Inv-loop μ-loop) → let l = c .before .before .before in nodeMeets (stored w64 (l .before .args .t)) (l .before .args .curve) (l .loop .node) ≡ false
+fails c =
+    let l = c .before .before .before .loop .inv in
+    path-meets (l .0 .walking) (l .1) (stored w64 (c .before .before .before .before .args .t)) (c .before .before .depth .ensures) (c .before .meets .ensures) (c .if1 .left)
+
+-- it has halves
+halved : (c : tie.Else1 Inv-loop μ-loop) → c .before .before .before .loop .node < 256
+halved c = let l = c .before .before .before in walking-halvable (l .loop .inv .0 .walking) (none-passing _ _ (ready (l .before) .passing)) (fails c)
+
+shallow : (c : tie.Else1 Inv-loop μ-loop) → c .before .before .depth .result < 8
+shallow c = rw (c .before .before .depth .ensures) (not-deepest (c .before .before .before .loop .inv .0 .walking) (halved c))
+
+cast-path : tie.Need-cast-path Inv-loop μ-loop
+cast-path c = omega (arith, shallow c)
+
+mul-path : tie.Need-mul-path Inv-loop μ-loop
+mul-path c = omega (arith, shallow c)
+
+array-set-from-path : tie.Need-array-set-from-path Inv-loop μ-loop
+array-set-from-path c = shallow c
+
+left-requires : tie.Need-left-requires Inv-loop μ-loop
+left-requires c κs =
+    let l = c .before .before .before in
+    path-halvable (l .loop .inv .0 .walking) (l .loop .inv .1) (l .before .pre .0 .sized)
+
+mul-node : tie.Need-mul-node Inv-loop μ-loop
+mul-node c = omega (arith, halved (c .before))
+
+loop-less-2 : tie.Need-loop-less-2 Inv-loop μ-loop
+loop-less-2 c = half-falls (c .before .before .before .before .loop .inv .0 .walking) (halved (c .before))
+
+loop-again-2 : tie.Need-loop-again-2 Inv-loop μ-loop
+loop-again-2 c =
+    let l = c .before .before .before .before in (
+      recorded-half (l .loop .inv .0) (ready (l .before)) (fails (c .before)),
+      path-half (l .loop .inv .0 .walking) (l .loop .inv .1) (halved (c .before)) (c .before .before .before .depth .ensures) (c .left .ensures),
+    )
 
 pub write-curve-spec : {M : Type 1} → statement M
-write-curve-spec = tie.close (tie.spec meets-requires put-record-requires add-result same-length returns write-halves-requires same-length-2 returns-2)
+write-curve-spec =
+    tie.close
+    (tie.spec
+    Inv-loop
+    μ-loop
+    loop-holds
+    depth-requires
+    meets-requires
+    put-record-requires
+    add-place
+    after-requires
+    same-length
+    returns
+    depth-requires-2
+    sub-above
+    cast-right
+    mul-right
+    array-copy-out-right
+    right-requires
+    loop-less
+    loop-again
+    cast-path
+    mul-path
+    array-set-from-path
+    left-requires
+    mul-node
+    loop-less-2
+    loop-again-2)

@@ -13,15 +13,13 @@ use mir.Facts.{toZ-ofZ}
 use Rattle.integers.proofs.Ranges.{stored}
 use Rattle.bezier.specs.declared.Curve.{Curve}
 use Rattle.bezier.specs.Nodes.{after}
-use Rattle.bezier.proofs.Sizes.{sized-halvable}
 use Rattle.tree.specs.declared.Walked.the-variants.{Leaves, TooWide}
 use Rattle.tree.specs.Walked.{deepest, nodeMeets, endsOf, walkedOf}
 use Rattle.tree.proofs.Counting.{few-ends}
 use Rattle.tree.proofs.Failing.{none-exactly, some-exactly}
 use Rattle.tree.proofs.Walking.{Walking, walking-start, walking-half, walking-leaf, walking-failed, walking-done, all-passed, fewer-passed, walking-below, not-deepest, half-falls, leaf-falls}
 use Rattle.tree.proofs.Rank.{rank}
-use Rattle.tree.proofs.Paths.{root, Path, Leads, path-first, path-sized, path-meets, path-halvable, path-half, path-after}
-use Rattle.tree.proofs.Whole.{whole-meets}
+use Rattle.tree.proofs.Paths.{Path, Leads, path-start, path-sized, path-meets, path-halvable, path-half, path-after}
 use Rattle.tree.proofs.walk_halves.Statement.{statement}
 use Rattle.tree.proofs.walk_halves.Tie as tie
 
@@ -59,22 +57,13 @@ module _ {T : ℤ} {c : Curve} where
     counted-failed e l = rw (some-exactly (nodeMeets T c) (endsOf T c) node .1 (walking-failed (h .walking) e l), walkedOf)
 
 abbrev Inv-loop : tie.InvT-loop
-Inv-loop t path₀ part₀ node₀ leaves₀ path part node leaves = Counted (toZ w64 t) (root path₀) node leaves × Path (root path₀) node path part
+Inv-loop t path₀ part₀ node₀ leaves₀ path part node leaves = Counted (toZ w64 t) part₀ node leaves × Path part₀ node path part
 
 abbrev μ-loop : tie.MeasureT-loop
 μ-loop t path₀ part₀ node₀ leaves₀ path part node leaves = rank deepest node
 
-left-requires : tie.Need-left-requires Inv-loop μ-loop
-left-requires c κs = sized-halvable (omega arith) (c .pre .0)
-
--- from the curve, which is no leaf, to its left half
 loop-holds : tie.Need-loop-holds Inv-loop μ-loop
-loop-holds c =
-    let s = c .before in
-    let e = rw (← (toZ-ofZ (s .fits .t))) at (whole-meets (s .args .t) (s .args .curve) refl (s .pre .1)) in (
-      counted-half counted-start e (omega arith),
-      path-first (s .args .curve) _ refl (c .left .ensures),
-    )
+loop-holds c = (counted-start, path-start (c .args .curve) refl)
 
 depth-requires : tie.Need-depth-requires Inv-loop μ-loop
 depth-requires c κs = omega (arith, c .loop .inv .0 .walking .node)
@@ -82,13 +71,13 @@ depth-requires c κs = omega (arith, c .loop .inv .0 .walking .node)
 meets-requires : tie.Need-meets-requires Inv-loop μ-loop
 meets-requires c κs =
     let l = c .before .loop .inv in
-    rw (c .depth .ensures) (path-sized (l .0 .walking) (l .1) (c .before .before .before .pre .0), l .0 .walking .within)
+    rw (c .depth .ensures) (path-sized (l .0 .walking) (l .1) (c .before .before .pre), l .0 .walking .within)
 
 -- ---- a leaf
-passes : (c : tie.Then1 Inv-loop μ-loop) → let l = c .before .before .before in nodeMeets (stored w64 (l .before .before .args .t)) (l .before .before .args .curve) (l .loop .node) ≡ true
+passes : (c : tie.Then1 Inv-loop μ-loop) → let l = c .before .before .before in nodeMeets (stored w64 (l .before .args .t)) (l .before .args .curve) (l .loop .node) ≡ true
 passes c =
     let l = c .before .before .before .loop .inv in
-    path-meets (l .0 .walking) (l .1) (stored w64 (c .before .before .before .before .before .args .t)) (c .before .before .depth .ensures) (c .before .meets .ensures) (c .if1 .taken)
+    path-meets (l .0 .walking) (l .1) (stored w64 (c .before .before .before .before .args .t)) (c .before .before .depth .ensures) (c .before .meets .ensures) (c .if1 .taken)
 
 add-leaves : tie.Need-add-leaves Inv-loop μ-loop
 add-leaves c = omega (arith, counted-few (c .before .before .before .loop .inv .0))
@@ -99,7 +88,7 @@ after-requires c κs = let w = c .before .before .before .loop .inv .0 .walking 
 returns : tie.Need-returns Inv-loop μ-loop
 returns c =
     let l = c .before .before .before .before .before in
-    rw (toZ-ofZ (l .before .before .fits .t)) at (sym (counted-done (l .loop .inv .0) (passes (c .before .before)) (sym (c .before .after .ensures) ∙ c .if2 .taken)))
+    rw (toZ-ofZ (l .before .fits .t)) at (sym (counted-done (l .loop .inv .0) (passes (c .before .before)) (sym (c .before .after .ensures) ∙ c .if2 .taken)))
 
 depth-requires-2 : tie.Need-depth-requires-2 Inv-loop μ-loop
 depth-requires-2 c κs =
@@ -107,10 +96,10 @@ depth-requires-2 c κs =
     omega (arith, c .before .after .ensures, walking-leaf (l .walking) (passes (c .before .before)) (λ e. c .if2 .left (c .before .after .ensures ∙ e)) .node)
 
 leads : (c : tie.After-depth2 Inv-loop μ-loop)
-    → let l = c .before .before .before .before .before .before in Leads (l .before .before .args .curve) (c .before .before .after .result) (c .depth2 .result) (l .loop .path)
+    → let l = c .before .before .before .before .before .before in Leads (l .before .args .curve) (c .before .before .after .result) (c .depth2 .result) (l .loop .path)
 leads c =
     let l = c .before .before .before .before .before .before in
-    path-after (l .loop .inv .0 .walking) (l .loop .inv .1) (l .before .before .pre .0) (c .before .before .after .ensures) (c .depth2 .ensures) (c .before .if2 .left)
+    path-after (l .loop .inv .0 .walking) (l .loop .inv .1) (l .before .pre) (c .before .before .after .ensures) (c .depth2 .ensures) (c .before .if2 .left)
 
 sub-above : tie.Need-sub-above Inv-loop μ-loop
 sub-above c = leads c .deep
@@ -141,15 +130,15 @@ loop-again c =
     )
 
 -- ---- a node that does not pass
-fails : (c : tie.Else1 Inv-loop μ-loop) → let l = c .before .before .before in nodeMeets (stored w64 (l .before .before .args .t)) (l .before .before .args .curve) (l .loop .node) ≡ false
+fails : (c : tie.Else1 Inv-loop μ-loop) → let l = c .before .before .before in nodeMeets (stored w64 (l .before .args .t)) (l .before .args .curve) (l .loop .node) ≡ false
 fails c =
     let l = c .before .before .before .loop .inv in
-    path-meets (l .0 .walking) (l .1) (stored w64 (c .before .before .before .before .before .args .t)) (c .before .before .depth .ensures) (c .before .meets .ensures) (c .if1 .left)
+    path-meets (l .0 .walking) (l .1) (stored w64 (c .before .before .before .before .args .t)) (c .before .before .depth .ensures) (c .before .meets .ensures) (c .if1 .left)
 
 returns-2 : tie.Need-returns-2 Inv-loop μ-loop
 returns-2 c =
     let l = c .before .before .before .before in
-    rw (toZ-ofZ (l .before .before .fits .t)) at (sym (counted-failed (l .loop .inv .0) (fails (c .before)) (c .if3 .taken)))
+    rw (toZ-ofZ (l .before .fits .t)) at (sym (counted-failed (l .loop .inv .0) (fails (c .before)) (c .if3 .taken)))
 
 shallow : (c : tie.Else3 Inv-loop μ-loop) → c .before .before .before .depth .result < 8
 shallow c = rw (c .before .before .before .depth .ensures) (not-deepest (c .before .before .before .before .loop .inv .0 .walking) (c .if3 .left))
@@ -163,10 +152,10 @@ mul-path c = omega (arith, shallow c)
 array-set-from-path : tie.Need-array-set-from-path Inv-loop μ-loop
 array-set-from-path c = shallow c
 
-left-requires-2 : tie.Need-left-requires-2 Inv-loop μ-loop
-left-requires-2 c κs =
+left-requires : tie.Need-left-requires Inv-loop μ-loop
+left-requires c κs =
     let l = c .before .before .before .before in
-    path-halvable (l .loop .inv .0 .walking) (l .loop .inv .1) (l .before .before .pre .0)
+    path-halvable (l .loop .inv .0 .walking) (l .loop .inv .1) (l .before .pre)
 
 mul-node : tie.Need-mul-node Inv-loop μ-loop
 mul-node c = omega arith
@@ -178,7 +167,7 @@ loop-again-2 : tie.Need-loop-again-2 Inv-loop μ-loop
 loop-again-2 c =
     let l = c .before .before .before .before .before .loop .inv in (
       counted-half (l .0) (fails (c .before .before)) (c .before .if3 .left),
-      path-half (l .0 .walking) (l .1) (c .before .if3 .left) (c .before .before .before .before .depth .ensures) (c .left2 .ensures),
+      path-half (l .0 .walking) (l .1) (c .before .if3 .left) (c .before .before .before .before .depth .ensures) (c .left .ensures),
     )
 
 pub walk-halves-spec : {M : Type 1} → statement M
@@ -187,7 +176,6 @@ walk-halves-spec =
     (tie.spec
     Inv-loop
     μ-loop
-    left-requires
     loop-holds
     depth-requires
     meets-requires
@@ -206,7 +194,7 @@ walk-halves-spec =
     cast-path
     mul-path
     array-set-from-path
-    left-requires-2
+    left-requires
     mul-node
     loop-less-2
     loop-again-2)
