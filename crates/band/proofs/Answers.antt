@@ -22,7 +22,7 @@ use Rattle.outline.proofs.Accepted.{Accepted, checked-curves, checked-refused, 
 use Rattle.band.specs.declared.Banded.{Banded}
 use Rattle.band.specs.declared.Banded.the-variants.{Done, Refused}
 use Rattle.passes.specs.declared.Counted.the-variants.{Leaves, Refused as Stopped}
-use Rattle.tree.specs.Walked.{endsOf}
+use Rattle.walk.specs.Walked.{endsOf}
 use Rattle.records.specs.Records.{recordsOf, allRecords}
 use Rattle.passes.specs.Leaves.{curvesOf, firstTooWide, leavesOf, nodesOf}
 use Rattle.band.specs.Banding.{bandCurves, writtenBy, banded, written}

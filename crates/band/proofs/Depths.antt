@@ -19,7 +19,7 @@ use Rattle.bezier.proofs.Quarter.{quarter-x, quarter-y}
 use Rattle.node_boxes.proofs.Narrow.{width-meets}
 use Rattle.tree.specs.Tree.{ends, firstFailing}
 use Rattle.tree.specs.Leaves.{Leaf}
-use Rattle.tree.specs.Walked.{deepest, nodeMeets, endsOf}
+use Rattle.walk.specs.Walked.{deepest, nodeMeets, endsOf}
 use Rattle.tree.specs.Passing.{AllPass}
 use Rattle.band.specs.Outcomes.{Flat}
 use Rattle.tree.proofs.Halves.{left-half, right-half}

@@ -13,7 +13,7 @@ use Rattle.bezier.specs.declared.Curve.{Curve}
 use Rattle.bezier.specs.Bounds.{Sized}
 use Rattle.outline.specs.Checks.{toleranceFine, curves, outlined}
 use Rattle.outline.proofs.Accepted.{outlined-from, accepted-most, accepted-some, accepted-all}
-use Rattle.tree.specs.Walked.{deepest, nodeMeets, endsOf}
+use Rattle.walk.specs.Walked.{deepest, nodeMeets, endsOf}
 use Rattle.tree.proofs.Counting.{some-end}
 use Rattle.records.specs.Records.{allRecords}
 use Rattle.records.specs.Ranges.{SoundList}

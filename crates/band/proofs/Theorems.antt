@@ -18,7 +18,7 @@ use Rattle.outline.proofs.Accepted.{outlined-from, accepted-all}
 use Rattle.band.specs.declared.Banded.{Banded}
 use Rattle.band.specs.declared.Banded.the-variants.{Done, Refused}
 use Rattle.tree.specs.Leaves.{Leaf, Covers, EndToEnd}
-use Rattle.tree.specs.Walked.{deepest, nodeMeets, endsOf}
+use Rattle.walk.specs.Walked.{deepest, nodeMeets, endsOf}
 use Rattle.records.specs.Records.{allRecords}
 use Rattle.boxes.specs.Records.{recordLength}
 use Rattle.band.specs.Banding.{bandCurves, banded, written}

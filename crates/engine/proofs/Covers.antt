@@ -20,7 +20,7 @@ use Rattle.node_boxes.specs.Boxes.{boxAt}
 use Rattle.enclosure.proofs.Places.{located}
 use Rattle.node_boxes.proofs.Narrow.{Narrow, meets-narrow}
 use Rattle.tree.specs.Leaves.{Covers}
-use Rattle.tree.specs.Walked.{nodeMeets}
+use Rattle.walk.specs.Walked.{nodeMeets}
 use Rattle.boxes.specs.declared.Box.{Box}
 use Rattle.boxes.specs.Records.{recordLength, boxIndex, boxAtIndex}
 use Rattle.records.specs.Records.{boxNumbers, recordOf}

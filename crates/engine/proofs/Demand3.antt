@@ -19,7 +19,7 @@ use Rattle.bezier.proofs.Sizes.{each-wider}
 use Rattle.boxes.specs.Records.{covers, recordLength}
 use Rattle.outline.specs.Checks.{Outlined, curves}
 use Rattle.outline.proofs.Accepted.{outlined-from, accepted-all}
-use Rattle.tree.specs.Walked.{deepest, nodeMeets}
+use Rattle.walk.specs.Walked.{deepest, nodeMeets}
 use Rattle.tree.proofs.Leaves.{end-facts}
 use Rattle.band.specs.declared.Banded.the-variants.{Done}
 use Rattle.records.specs.Records.{recordOf, allRecords}

@@ -6,7 +6,7 @@ use native.Mathlib.Omega.{arith}
 use lib.ListN.{length}
 use lib.IntN.{ℤ}
 use Rattle.bezier.specs.declared.Curve.{Curve}
-use Rattle.tree.specs.Walked.{deepest, nodeMeets}
+use Rattle.walk.specs.Walked.{deepest, nodeMeets}
 use Rattle.passes.specs.Leaves.{leavesOf, nodesOf}
 use Rattle.tree.proofs.Counting.{nodes-met, few-ends}
 

@@ -13,7 +13,7 @@ use Rattle.integers.proofs.Stores.{sets-append}
 use Rattle.bezier.specs.declared.Curve.{Curve}
 use Rattle.outline_curves.specs.Curves.{nextAt, curveAt}
 use Rattle.outline.specs.Checks.{outlineFrom}
-use Rattle.tree.specs.Walked.{nodeMeets, endsOf}
+use Rattle.walk.specs.Walked.{nodeMeets, endsOf}
 use Rattle.records.specs.Records.{recordsOf, allRecords}
 use Rattle.passes.specs.Leaves.{curvesOf, leavesOf}
 use Rattle.passes.specs.Writing.{Ready, Fillable}

@@ -14,9 +14,9 @@ use Rattle.outline_curves.specs.Curves.{nextAt, curveAt}
 use Rattle.outline.specs.Checks.{outlineFrom}
 use Rattle.passes.specs.declared.Counted.{Counted}
 use Rattle.passes.specs.declared.Counted.the-variants.{Leaves, Refused}
-use Rattle.tree.specs.declared.Walked.the-variants.{Leaves as WalkLeaves, TooWide}
+use Rattle.walk.specs.declared.Walked.the-variants.{Leaves as WalkLeaves, TooWide}
 use Rattle.tree.specs.Tree.{firstFailing}
-use Rattle.tree.specs.Walked.{deepest, nodeMeets, endsOf, walkedOf}
+use Rattle.walk.specs.Walked.{deepest, nodeMeets, endsOf, walkedOf}
 use Rattle.passes.specs.Leaves.{curvesOf, firstTooWide, leavesOf}
 use Rattle.passes.specs.Counted.{Readable, countedOf}
 use Rattle.tree.proofs.Counting.{few-ends}

@@ -12,7 +12,7 @@ use Rattle.refusals.specs.declared.Refusal.{Refusal}
 use Rattle.refusals.specs.declared.Refusal.the-variants.{TooWide}
 use Rattle.bezier.specs.declared.Curve.{Curve}
 use Rattle.tree.specs.Tree.{firstFailing}
-use Rattle.tree.specs.Walked.{nodeMeets, endsOf}
+use Rattle.walk.specs.Walked.{nodeMeets, endsOf}
 use Rattle.passes.specs.Leaves.{firstTooWide}
 use Rattle.tree.specs.Passing.{AllPass}
 use Rattle.passes.specs.Meeting.{AllMeet, FirstWide}

@@ -9,7 +9,7 @@ use Rattle.refusals.specs.declared.Refusal.the-variants.{TooWide}
 use Rattle.bezier.specs.declared.Curve.{Curve}
 use Rattle.outline.specs.Checks.{Outlined, curves, faulty}
 use Rattle.tree.specs.Tree.{met, firstFailing}
-use Rattle.tree.specs.Walked.{deepest, nodeMeets, endsOf}
+use Rattle.walk.specs.Walked.{deepest, nodeMeets, endsOf}
 
 -- ---- the curves of an outline
 abbrev pub curvesOf : Outlined → List Curve

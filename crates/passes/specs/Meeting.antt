@@ -6,7 +6,7 @@ use lib.ListN.{length}
 use lib.IntN.{ℤ}
 use Rattle.bezier.specs.declared.Curve.{Curve}
 use Rattle.tree.specs.Passing.{AllPass, First}
-use Rattle.tree.specs.Walked.{nodeMeets, endsOf}
+use Rattle.walk.specs.Walked.{nodeMeets, endsOf}
 
 -- every end of every curve meets T
 pub record AllMeet (T : ℤ) (cs : List Curve) : Type 0 where

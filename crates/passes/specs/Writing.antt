@@ -8,7 +8,7 @@ use lib.Signed.{_≤ℤ_}
 use Rattle.bezier.specs.declared.Curve.{Curve}
 use Rattle.bezier.specs.Bounds.{Sized}
 use Rattle.tree.specs.Tree.{firstFailing}
-use Rattle.tree.specs.Walked.{nodeMeets, endsOf}
+use Rattle.walk.specs.Walked.{nodeMeets, endsOf}
 use Rattle.passes.specs.Leaves.{firstTooWide, leavesOf}
 use Rattle.passes.specs.Counted.{Readable}
 

@@ -4,7 +4,7 @@ ghost use Prim.Native.Nat.{_+_, _*_, _≤_, _<_, _^_};
 ghost use lib.ListN.{length};
 ghost use lib.Seq.{sets};
 ghost use Rattle.outline.specs.Checks.{outlineFrom};
-ghost use Rattle.tree.specs.Walked.{endsOf};
+ghost use Rattle.walk.specs.Walked.{endsOf};
 ghost use Rattle.records.specs.Records.{recordsOf, allRecords};
 ghost use Rattle.passes.specs.Leaves.{curvesOf};
 ghost use Rattle.passes.specs.Counted.{Readable, countedOf};
@@ -14,8 +14,8 @@ use outline_curves::curve_at;
 use outline_curves::next_at;
 use records::put_record;
 use refusals::Refusal;
-use tree::Walked;
-use tree::walk;
+use walk::Walked;
+use walk::walk;
 
 // What the first pass finds.
 pub enum Counted {

@@ -10,7 +10,7 @@ use lib.IntN.{ℤ, pos}
 use Rattle.integers.specs.Entry.{entry}
 use Rattle.integers.proofs.Order.{lt-or-ge}
 use Rattle.bezier.specs.declared.Curve.{Curve}
-use Rattle.tree.specs.Walked.{endsOf}
+use Rattle.walk.specs.Walked.{endsOf}
 use Rattle.boxes.specs.Records.{recordLength}
 use Rattle.records.specs.Records.{recordOf, recordsOf, allRecords}
 use Rattle.records.proofs.Lengths.{record-length, records-length}

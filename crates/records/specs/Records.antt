@@ -7,7 +7,7 @@ use Rattle.bezier.specs.Nodes.{depth, nodeCurve}
 use Rattle.node_boxes.specs.declared.Box.{Box}
 use Rattle.enclosure.specs.Rows.{pieces}
 use Rattle.node_boxes.specs.Boxes.{boxAt}
-use Rattle.tree.specs.Walked.{endsOf}
+use Rattle.walk.specs.Walked.{endsOf}
 
 abbrev pub boxNumbers : Box → List ℤ
 boxNumbers b = b .«x_low» ∷ b .«x_high» ∷ b .«y_low» ∷ b .«y_high» ∷ []

@@ -1,4 +1,4 @@
--- Laws of the tree of nodes and of the walk. Each file opens with what it holds.
+-- Laws of the tree of nodes and of a walk through it. Each file opens with what it holds.
 pub mod Halves
 pub mod Tree
 pub mod Leaves
@@ -7,5 +7,3 @@ pub mod Counting
 pub mod Failing
 pub mod Walking
 pub mod Rank
-pub mod Paths
-pub mod Whole

@@ -1,5 +1,4 @@
--- What a reader must believe of the tree of nodes: where a walk ends, leaves and what they cover, and what the walk of a curve finds.
+-- What a reader must believe of the tree of nodes: where a walk ends, leaves and what they cover.
 pub mod Tree
 pub mod Leaves
 pub mod Passing
-pub mod Walked

@@ -10,8 +10,8 @@ use mir.Facts.{toZ-ofZ}
 use Rattle.integers.proofs.Ranges.{stored}
 use Rattle.outline_curves.specs.Curves.{curveAt}
 use Rattle.outline_curves.proofs.Faultless.{faultless}
-use Rattle.tree.specs.declared.Walked.the-variants.{Leaves as WalkLeaves}
-use Rattle.tree.specs.Walked.{walkedOf}
+use Rattle.walk.specs.declared.Walked.the-variants.{Leaves as WalkLeaves}
+use Rattle.walk.specs.Walked.{walkedOf}
 use Rattle.passes.proofs.Outlines.{rest-next}
 use Rattle.passes.proofs.Passes.{Passed, passed-start, passed-wide, passed-few, passed-more, passed-done}
 use Rattle.passes.proofs.count.Statement.{statement}

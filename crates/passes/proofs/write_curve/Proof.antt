@@ -11,12 +11,12 @@ use lib.ListN.{length}
 use lib.Seq.{sets, length-sets}
 use Rattle.integers.proofs.Ranges.{stored}
 use Rattle.passes.specs.Writing.{Ready}
-use Rattle.tree.specs.Walked.{deepest, nodeMeets}
+use Rattle.walk.specs.Walked.{deepest, nodeMeets}
 use Rattle.records.specs.Records.{recordOf}
 use Rattle.tree.proofs.Rank.{rank}
 use Rattle.tree.proofs.Walking.{walking-below, not-deepest, walking-leaf, walking-halvable, half-falls, leaf-falls}
 use Rattle.tree.proofs.Failing.{none-passing}
-use Rattle.tree.proofs.Paths.{Path, Leads, path-start, path-sized, path-meets, path-halvable, path-half, path-after}
+use Rattle.walk.proofs.Paths.{Path, Leads, path-start, path-sized, path-meets, path-halvable, path-half, path-after}
 use Rattle.passes.proofs.Recording.{Recorded, recorded-start, recorded-length, recorded-room, recorded-half, recorded-leaf, recorded-done, writable-leaf, put}
 use Rattle.passes.proofs.write_curve.Statement.{statement}
 use Rattle.passes.proofs.write_curve.Tie as tie

@@ -8,9 +8,9 @@ use lib.IntN.{ℤ}
 use Rattle.bezier.specs.declared.Curve.{Curve}
 use Rattle.bezier.specs.Nodes.{depth, nodeCurve}
 use Rattle.node_boxes.specs.Boxes.{meets}
-use Rattle.tree.specs.declared.Walked.{Walked}
-use Rattle.tree.specs.declared.Walked.the-variants.{Leaves, TooWide}
+use Rattle.walk.specs.declared.Walked.{Walked}
+use Rattle.walk.specs.declared.Walked.the-variants.{Leaves, TooWide}
 use Rattle.tree.specs.Tree.{ends, firstFailing}
 
 -- greatest depth
 abbrev pub deepest : ℕ

@@ -13,15 +13,15 @@ use mir.Facts.{toZ-ofZ}
 use Rattle.integers.proofs.Ranges.{stored}
 use Rattle.bezier.specs.declared.Curve.{Curve}
 use Rattle.bezier.specs.Nodes.{after}
-use Rattle.tree.specs.declared.Walked.the-variants.{Leaves, TooWide}
-use Rattle.tree.specs.Walked.{deepest, nodeMeets, endsOf, walkedOf}
+use Rattle.walk.specs.declared.Walked.the-variants.{Leaves, TooWide}
+use Rattle.walk.specs.Walked.{deepest, nodeMeets, endsOf, walkedOf}
 use Rattle.tree.proofs.Counting.{few-ends}
 use Rattle.tree.proofs.Failing.{none-exactly, some-exactly}
 use Rattle.tree.proofs.Walking.{Walking, walking-start, walking-half, walking-leaf, walking-failed, walking-done, all-passed, fewer-passed, walking-below, not-deepest, half-falls, leaf-falls}
 use Rattle.tree.proofs.Rank.{rank}
-use Rattle.tree.proofs.Paths.{Path, Leads, path-start, path-sized, path-meets, path-halvable, path-half, path-after}
-use Rattle.tree.proofs.walk_halves.Statement.{statement}
-use Rattle.tree.proofs.walk_halves.Tie as tie
+use Rattle.walk.proofs.Paths.{Path, Leads, path-start, path-sized, path-meets, path-halvable, path-half, path-after}
+use Rattle.walk.proofs.walk_halves.Statement.{statement}
+use Rattle.walk.proofs.walk_halves.Tie as tie
 
 -- the walk stands at a node, and has counted the leaves that it passed
 record Counted (T : ℤ) (c : Curve) (node leaves : ℕ) : Type 0 where

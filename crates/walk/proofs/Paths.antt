@@ -19,10 +19,10 @@ use Rattle.bezier.proofs.Nodes.{node-induction}
 use Rattle.bezier.proofs.Numbers.{depth-half, node-one, node-half, after-one, after-left, after-right}
 use Rattle.bezier.proofs.Sizes.{node-sized, sized-halvable}
 use Rattle.node_boxes.specs.Boxes.{meets}
 use Rattle.tree.specs.Leaves.{Ancestor}
-use Rattle.tree.specs.Walked.{deepest, nodeMeets}
+use Rattle.walk.specs.Walked.{deepest, nodeMeets}
 use Rattle.tree.proofs.Halves.{half-induction}
 use Rattle.tree.proofs.Walking.{Walking, not-deepest}
 
 -- ---- ancestors
 ancestor-half : {n b : ℕ} → 0 < n → b < 2 → Ancestor n (2 * n + b)
