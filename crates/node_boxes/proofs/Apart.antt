@@ -1,12 +1,12 @@
 -- What the spread of the second differences says of a node: small enough, and every box is narrow; too large, and one of them is not.
-use mathlib.Core.Path.{_≡_, refl, sym, _∙_, ap, ap₂}
+use mathlib.Core.Path.{_≡_, refl, _∙_, ap₂}
 use mathlib.Core.Bool.{Bool, true, false, cond, _&&_}
 use mathlib.Core.Logic.{⊎-elim}
 use mathlib.Core.List.{List, [], _∷_}
-use Prim.Native.Nat.{ℕ, zero, suc, _^_, _≤_, _<_, zero-le}
+use Prim.Native.Nat.{ℕ, zero, suc, _^_, _≤_, _<_}
 use native.Mathlib.Omega.{arith}
 use lib.Dec.{T, lit<}
-use lib.IntN.{ℤ, pos, negsuc, negℤ, natAbs, _+ℤ_, _-ℤ_, _*ℤ_, +ℤ-idl, +ℤ-idr}
+use lib.IntN.{ℤ, pos, negℤ, natAbs, _+ℤ_, _-ℤ_, _*ℤ_}
 use lib.Signed.{ltZ, leZ, _≤ℤ_, _<ℤ_, ltZ-yes, ltZ-no, leZ-yes, clashℤ}
 use mir.Syntax.{w64}
 use mir.Val.{SFits}
@@ -14,11 +14,10 @@ use mir.Facts.{toZ-ofZ}
 use Rattle.integers.specs.Entry.{entry}
 use Rattle.integers.specs.Rounding.{floor, ceiling}
 use Rattle.integers.proofs.Ring.{ring, sides}
-use Rattle.integers.proofs.Order.{cond-cases, balance, natural, gap, gap<, le-by, clash-by, le-or-lt, lt-le, ≤ℤ-trans, *ℤ-mono, times-positive, pos-le, pos-lt, _+₀_, _×₀_}
-use Rattle.integers.proofs.Ranges.{stored, lt-yes, lt-no}
+use Rattle.integers.proofs.Order.{cond-cases, balance, natural, gap, gap<, le-by, clash-by, le-or-lt, lt-le, ≤ℤ-trans, *ℤ-mono, times-positive, pos-lt, _+₀_, _×₀_}
+use Rattle.integers.proofs.Ranges.{stored, lt-no}
 use Rattle.integers.proofs.Size.{abs-within}
 use Rattle.integers.proofs.Rounding.{floor-is, ceiling-is}
-use Rattle.integers.proofs.Machine.{Held}
 use Rattle.integers.proofs.Table.{and-left, and-right}
 use Rattle.bezier.specs.declared.Curve.{Curve}
 use Rattle.bezier.specs.Differences.{difference}
@@ -27,13 +26,13 @@ use Rattle.enclosure.specs.Rows.{Row, pieces, thirds}
 use Rattle.enclosure.specs.Bounds.{exchanged, chord, rowSum, high, low}
 use Rattle.enclosure.specs.Thirds.{over, highOf, lowOf}
 use Rattle.node_boxes.specs.Boxes.{meets}
-use Rattle.bounds.specs.Terms.{Small, Holds}
-use Rattle.node_boxes.specs.Spread.{apart, larger, spread, widest}
+use Rattle.row_sums.specs.Terms.{Small}
+use Rattle.spread.specs.Spread.{apart, larger, spread, widest}
 use Rattle.enclosure.proofs.Degrees.{degrees}
 use Rattle.enclosure.proofs.Width.{term-gap}
 use Rattle.enclosure.proofs.Reduced.{low-reduced, high-reduced}
 use Rattle.node_boxes.proofs.Narrow.{meets-narrow, narrow-meets}
-use Rattle.bounds.proofs.Coordinates.{over-positive}
+use Rattle.row_sums.proofs.Coordinates.{over-positive}
 
 -- ---- the larger of two numbers
 ≤ℤ-refl : {a : ℤ} → a ≤ℤ a
@@ -162,45 +161,7 @@ module _ (tolerance : ℤ) (depth : ℕ) (c : Curve) (s : Sized depth c) where
       refuted {b = false} f = refl
 
 -- ---- the code
-pub size-negative : (δ : ℤ) → ltZ δ (pos 0) ≡ true → pos 0 -ℤ δ ≡ pos (natAbs δ)
-size-negative (pos n) t = absurd (clashℤ (lt-yes t) (pos-le {n = n} zero-le))
-size-negative (negsuc n) t = +ℤ-idl (pos (suc n))
-
-pub size-other : (δ : ℤ) → ltZ δ (pos 0) ≡ false → δ ≡ pos (natAbs δ)
-size-other (pos n) t = refl
-size-other (negsuc n) t = absurd (clashℤ {a = negsuc n} {b = pos 0} (ltZ-yes tt) (lt-no t))
-
 pub tolerance-small : {t : ℤ} → SFits w64 t → ltZ (stored w64 t) (pos 1) ≡ false → ltZ (pos (2 ^ 20)) (stored w64 t) ≡ false → Small (2 ^ 20) t
 tolerance-small {t} fits least most =
     let one = lt-no {a = t} {b = pos 1} (rw (toZ-ofZ fits) at least) in
     record { size = abs-within (2 ^ 20) t (le-by (t ∷ []) (gap one +₀ natural 1048577) (search sides depth 20) refl) (lt-no (rw (toZ-ofZ fits) at most)) }
-
-pub larger-then : (a b : ℤ) {v : Bool} → ltZ a b ≡ v → cond v b a ≡ larger a b
-unfolding larger
-larger-then a b e = ap (λ (v : Bool). cond v b a) (sym e)
-
-pub larger-holds : {B : ℕ} {x y z r : ℤ} → Holds B (larger x y) r → (s : Held x) (u : Held y) → T (s .test && u .test) → larger (s .value) (u .value) ≡ z → Holds B z r
-larger-holds h s u t e = record { is = h .is ∙ ap₂ larger (s .is (and-left (s .test) (u .test) t)) (u .is (and-right (s .test) (u .test) t)) ∙ e; size = h .size }
-
-pub spread-line : (cs : List ℤ) → pos 0 ≡ spread 1 cs
-unfolding spread apart larger
-spread-line cs = refl
-
-cond-same : (b : Bool) (z : ℤ) → z ≡ cond b z z
-cond-same true z = refl
-cond-same false z = refl
-
-pub spread-quadratic : (cs : List ℤ) → pos 278 *ℤ pos (natAbs (difference cs 0)) ≡ spread 2 cs
-unfolding spread apart larger
-spread-quadratic cs =
-    sym (+ℤ-idr (pos 278 *ℤ pos (natAbs (difference cs 0))))
-    ∙ cond-same (ltZ (apart (thirds 2) 1 0 cs) (apart (thirds 2) 2 0 cs)) (apart (thirds 2) 1 0 cs)
-
-pub spread-cubic : (cs : List ℤ) → let a = pos (natAbs (difference cs 0)) in let b = pos (natAbs (difference cs 1)) in
-    larger (pos 697 *ℤ a +ℤ pos 193 *ℤ b) (pos 193 *ℤ a +ℤ pos 697 *ℤ b) ≡ spread 3 cs
-unfolding spread apart
-spread-cubic cs = ap₂ larger (two 697 193) (two 193 697)
-  where
-    two : (g h : ℕ) → let a = pos (natAbs (difference cs 0)) in let b = pos (natAbs (difference cs 1)) in
-        pos g *ℤ a +ℤ pos h *ℤ b ≡ pos g *ℤ a +ℤ (pos h *ℤ b +ℤ pos 0)
-    two g h = ap (λ z. pos g *ℤ pos (natAbs (difference cs 0)) +ℤ z) (sym (+ℤ-idr (pos h *ℤ pos (natAbs (difference cs 1)))))

@@ -4,11 +4,8 @@ ghost use Prim.Native.Nat.{_<_, _≤_, _^_};
 ghost use Rattle.bezier.specs.Bounds.{Sized};
 ghost use Rattle.enclosure.specs.Thirds.{lowOf, highOf};
 ghost use Rattle.node_boxes.specs.Boxes.{boxesOf, boxOf, AllSides, meets};
-ghost use Rattle.bounds.specs.Terms.{Readable};
-ghost use Rattle.node_boxes.specs.Spread.{within};
-
-mod spread;
-
+ghost use Rattle.row_sums.specs.Terms.{Readable};
+ghost use Rattle.node_boxes.specs.Within.{within};
 use bezier::Curve;
 
 // A box at a break point, in sixteenths of a stage unit.

@@ -5,7 +5,7 @@ use native.Mathlib.Omega.{arith}
 use lib.Dec.{lit<}
 use lib.Pow.{pow-mono}
 use Rattle.integers.proofs.Machine.{fits! }
-use Rattle.bounds.proofs.Coordinates.{bounded, holds!, shift-small, shifted, held-shift}
+use Rattle.row_sums.proofs.Coordinates.{bounded, holds!, shift-small, shifted, held-shift}
 use Rattle.bounds.proofs.denominator.Statement.{statement}
 use Rattle.bounds.proofs.denominator.Tie as tie
 

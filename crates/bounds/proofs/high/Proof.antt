@@ -6,7 +6,7 @@ use lib.Pow.{pow-pos}
 use mir.Syntax.{w64}
 use mir.Val.{toZ}
 use Rattle.integers.proofs.Machine.{Held, fits!, is! }
-use Rattle.bounds.proofs.Coordinates.{bounded, point, raised-holds}
+use Rattle.row_sums.proofs.Coordinates.{bounded, point, raised-holds}
 use borrow.Author.Needs.{needs}
 use Rattle.bounds.proofs.high.Statement.{statement}
 use Rattle.bounds.proofs.high.Tie as tie

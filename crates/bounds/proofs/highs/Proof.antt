@@ -3,7 +3,7 @@ use native.Mathlib.Omega.{arith}
 use lib.Dec.{lit<}
 use borrow.Author.Needs.{needs}
 use Rattle.enclosure.specs.Thirds.{highOf}
-use Rattle.bounds.proofs.Coordinates.{each-small, shift-small, four-hold, high-at}
+use Rattle.row_sums.proofs.Coordinates.{each-small, shift-small, four-hold, high-at}
 use Rattle.bounds.proofs.highs.Statement.{statement}
 use Rattle.bounds.proofs.highs.Tie as tie
 

@@ -1,7 +1,7 @@
 -- The lows of one coordinate: minus the highs of the negated control values.
 use lib.Dec.{lit≤}
 use borrow.Author.Needs.{needs}
-use Rattle.bounds.proofs.Coordinates.{each-more, readable-opposite, lows-from}
+use Rattle.row_sums.proofs.Coordinates.{each-more, readable-opposite, lows-from}
 use Rattle.bounds.proofs.lows.Statement.{statement}
 use Rattle.bounds.proofs.lows.Tie as tie
 

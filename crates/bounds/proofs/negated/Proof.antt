@@ -2,7 +2,7 @@
 use lib.IntN.{+ℤ-idl}
 use Rattle.integers.proofs.Machine.{fits! }
 use Rattle.halves.proofs.Halving.{coordinates, are! }
-use Rattle.bounds.proofs.Coordinates.{bounded}
+use Rattle.row_sums.proofs.Coordinates.{bounded}
 use borrow.Author.Needs.{needs}
 use Rattle.bounds.proofs.negated.Statement.{statement}
 use Rattle.bounds.proofs.negated.Tie as tie

@@ -5,7 +5,7 @@ use Rattle.integers.proofs.Ranges.{lt-yes, le-yes}
 use Rattle.integers.proofs.Machine.{fits!, flag! }
 use Rattle.bezier.proofs.Sizes.{sized-halvable}
 use Rattle.node_boxes.specs.Boxes.{meets}
-use Rattle.bounds.proofs.Coordinates.{bounded}
+use Rattle.row_sums.proofs.Coordinates.{bounded}
 use Rattle.node_boxes.proofs.Apart.{tolerance-small, close-meets, far-fails}
 use borrow.Author.Needs.{needs}
 use Rattle.node_boxes.proofs.meets.Statement.{statement}

@@ -1,7 +1,7 @@
 -- The box at a break point, from the lists of lows and highs.
 use borrow.Author.Needs.{needs}
 use Rattle.node_boxes.specs.Boxes.{boxOf}
-use Rattle.bounds.proofs.Coordinates.{each-stored}
+use Rattle.row_sums.proofs.Coordinates.{each-stored}
 use Rattle.node_boxes.proofs.NodeBoxes.at.Statement.{statement}
 use Rattle.node_boxes.proofs.NodeBoxes.at.Tie as tie
 

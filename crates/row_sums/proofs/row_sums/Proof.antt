@@ -6,10 +6,10 @@ use lib.IntN.{_+ℤ_}
 use borrow.Author.Needs.{needs}
 use Rattle.enclosure.specs.Rows.{thirds}
 use Rattle.enclosure.specs.Bounds.{rowSum}
-use Rattle.bounds.specs.Terms.{term}
-use Rattle.bounds.proofs.Coordinates.{four-hold, four-as, one-of, stored-is, sum-line, sum-quadratic, sum-cubic}
-use Rattle.bounds.proofs.row_sums.Statement.{statement}
-use Rattle.bounds.proofs.row_sums.Tie as tie
+use Rattle.row_sums.specs.Terms.{term}
+use Rattle.row_sums.proofs.Coordinates.{four-hold, four-as, one-of, stored-is, sum-line, sum-quadratic, sum-cubic}
+use Rattle.row_sums.proofs.row_sums.Statement.{statement}
+use Rattle.row_sums.proofs.row_sums.Tie as tie
 
 difference-at-requires : tie.Need-difference-at-requires
 difference-at-requires c κs = search needs

@@ -2,11 +2,11 @@
 use mathlib.Core.Path.{ap₂}
 use lib.IntN.{pos, _*ℤ_}
 use Rattle.integers.proofs.Machine.{fits! }
-use Rattle.bounds.proofs.Coordinates.{bounded, holds!, stored-is}
-use Rattle.node_boxes.specs.Spread.{larger, widest}
+use Rattle.row_sums.proofs.Coordinates.{bounded, holds!, stored-is}
+use Rattle.spread.specs.Spread.{larger, widest}
 use borrow.Author.Needs.{needs}
-use Rattle.node_boxes.proofs.spread.widest.Statement.{statement}
-use Rattle.node_boxes.proofs.spread.widest.Tie as tie
+use Rattle.spread.proofs.widest.Statement.{statement}
+use Rattle.spread.proofs.widest.Tie as tie
 
 spread-requires : tie.Need-spread-requires
 spread-requires c κs = search needs

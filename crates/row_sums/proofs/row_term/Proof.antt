@@ -1,9 +1,9 @@
 -- Row times difference: the sign of the difference chooses the row, whose entries a computed test bounds.
 use borrow.Author.Needs.{needs}
 use Rattle.integers.proofs.Machine.{fits!, flag! }
-use Rattle.bounds.proofs.Coordinates.{bounded, holds!, term-negative, term-other}
-use Rattle.bounds.proofs.row_term.Statement.{statement}
-use Rattle.bounds.proofs.row_term.Tie as tie
+use Rattle.row_sums.proofs.Coordinates.{bounded, holds!, term-negative, term-other}
+use Rattle.row_sums.proofs.row_term.Statement.{statement}
+use Rattle.row_sums.proofs.row_term.Tie as tie
 
 mul-result : tie.Need-mul-result
 mul-result c = search needs

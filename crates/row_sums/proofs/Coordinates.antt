@@ -33,7 +33,7 @@ use Rattle.halves.proofs.Halving.{held-entry}
 use Rattle.enclosure.specs.Rows.{pieces, thirds}
 use Rattle.enclosure.specs.Bounds.{rowSum, high}
 use Rattle.enclosure.specs.Thirds.{over, highOf, lowOf}
-use Rattle.bounds.specs.Terms.{Readable, Small, Holds, HoldsFour, numerator, highs, lows, term, opposite}
+use Rattle.row_sums.specs.Terms.{Readable, Small, Holds, HoldsFour, numerator, highs, lows, term, opposite}
 use Rattle.enclosure.proofs.Negated.{negated, entry-negated}
 use Rattle.enclosure.proofs.Negation.{low-is}
 use Rattle.enclosure.proofs.Reduced.{high-reduced}

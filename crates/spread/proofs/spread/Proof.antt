@@ -3,12 +3,12 @@ use mathlib.Core.Path.{_≡_, _∙_, ap, ap₂}
 use native.Mathlib.Omega.{arith}
 use lib.IntN.{pos, natAbs, _+ℤ_, _*ℤ_}
 use Rattle.integers.proofs.Machine.{fits! }
-use Rattle.node_boxes.specs.Spread.{larger}
-use Rattle.bounds.proofs.Coordinates.{bounded, holds!, small!, stored-is, restored}
-use Rattle.node_boxes.proofs.Apart.{spread-line, spread-quadratic, spread-cubic, larger-holds}
+use Rattle.spread.specs.Spread.{larger}
+use Rattle.row_sums.proofs.Coordinates.{bounded, holds!, small!, stored-is, restored}
+use Rattle.spread.proofs.Spreads.{spread-line, spread-quadratic, spread-cubic, larger-holds}
 use borrow.Author.Needs.{needs}
-use Rattle.node_boxes.proofs.spread.spread.Statement.{statement}
-use Rattle.node_boxes.proofs.spread.spread.Tie as tie
+use Rattle.spread.proofs.spread.Statement.{statement}
+use Rattle.spread.proofs.spread.Tie as tie
 
 difference-at-requires : tie.Need-difference-at-requires
 difference-at-requires c κs = search needs

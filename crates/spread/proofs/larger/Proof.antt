@@ -1,9 +1,9 @@
 -- The larger of two bounded numbers.
 use Rattle.integers.proofs.Machine.{flag! }
-use Rattle.bounds.proofs.Coordinates.{bounded, holds! }
-use Rattle.node_boxes.proofs.Apart.{larger-then}
-use Rattle.node_boxes.proofs.spread.larger.Statement.{statement}
-use Rattle.node_boxes.proofs.spread.larger.Tie as tie
+use Rattle.row_sums.proofs.Coordinates.{bounded, holds! }
+use Rattle.spread.proofs.Spreads.{larger-then}
+use Rattle.spread.proofs.larger.Statement.{statement}
+use Rattle.spread.proofs.larger.Tie as tie
 
 returns : tie.Need-returns
 returns c =

@@ -4,9 +4,9 @@ use lib.IntN.{_+ℤ_}
 use borrow.Author.Needs.{needs}
 use Rattle.integers.specs.Entry.{entry}
 use Rattle.integers.proofs.Machine.{fits! }
-use Rattle.bounds.proofs.Coordinates.{bounded, holds!, four-hold}
-use Rattle.bounds.proofs.added.Statement.{statement}
-use Rattle.bounds.proofs.added.Tie as tie
+use Rattle.row_sums.proofs.Coordinates.{bounded, holds!, four-hold}
+use Rattle.row_sums.proofs.added.Statement.{statement}
+use Rattle.row_sums.proofs.added.Tie as tie
 
 array-copy-out-t7 : tie.Need-array-copy-out-t7
 array-copy-out-t7 c = search needs

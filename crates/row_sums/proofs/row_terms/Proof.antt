@@ -4,10 +4,10 @@ use Prim.Native.Nat.{_+_}
 use native.Mathlib.Omega.{arith}
 use mir.Facts.{toZ-ofZ}
 use borrow.Author.Needs.{needs}
-use Rattle.bounds.specs.Terms.{term}
-use Rattle.bounds.proofs.Coordinates.{holds-as, restored, four-hold}
-use Rattle.bounds.proofs.row_terms.Statement.{statement}
-use Rattle.bounds.proofs.row_terms.Tie as tie
+use Rattle.row_sums.specs.Terms.{term}
+use Rattle.row_sums.proofs.Coordinates.{holds-as, restored, four-hold}
+use Rattle.row_sums.proofs.row_terms.Statement.{statement}
+use Rattle.row_sums.proofs.row_terms.Tie as tie
 
 row-term-requires : tie.Need-row-term-requires
 row-term-requires c κs = search needs

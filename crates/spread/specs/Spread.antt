@@ -1,9 +1,9 @@
--- What the contracts of the tests of a node cite: nothing here is part of a public promise.
-use mathlib.Core.Bool.{Bool, true, _&&_, cond}
+-- How far apart the lows and the highs of a node are before rounding. It is for the quick test of a node: nothing here is part of a public promise.
+use mathlib.Core.Bool.{cond}
 use mathlib.Core.List.{List, [], _∷_}
-use Prim.Native.Nat.{ℕ, zero, suc}
+use Prim.Native.Nat.{ℕ, suc}
 use lib.IntN.{ℤ, pos, natAbs, _+ℤ_, _-ℤ_, _*ℤ_}
-use lib.Signed.{ltZ, leZ}
+use lib.Signed.{ltZ}
 use Rattle.integers.specs.Entry.{entry}
 use Rattle.bezier.specs.declared.Curve.{Curve}
 use Rattle.bezier.specs.Differences.{difference}
@@ -24,8 +24,3 @@ spread d cs = larger (apart (thirds d) 1 0 cs) (apart (thirds d) 2 0 cs)
 -- over both coordinates, in parts of the bounds' denominator 1875 · 2^(d k)
 unfoldable pub widest : Curve → ℤ
 widest c = pos pieces *ℤ larger (spread (c .degree) (c .x)) (spread (c .degree) (c .y))
-
--- the first n highs are at most T above their lows
-abbrev pub within : ℕ → ℤ → (low high : ℕ → ℤ) → Bool
-within zero T low high = true
-within (suc n) T low high = within n T low high && leZ (high n -ℤ low n) T

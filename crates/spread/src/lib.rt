@@ -2,10 +2,10 @@
 ghost use Prim.Native.Nat.{_^_, _*_};
 ghost use lib.IntN.{pos, natAbs};
 ghost use Rattle.bezier.specs.Bounds.{Halvable};
-ghost use Rattle.bounds.specs.Terms.{Readable, Small, Holds};
-ghost use Rattle.node_boxes.specs.Spread.{larger, spread, widest};
+ghost use Rattle.row_sums.specs.Terms.{Readable, Small, Holds};
+ghost use Rattle.spread.specs.Spread.{larger, spread, widest};
 use bezier::Curve;
-use bounds::difference_at;
+use row_sums::difference_at;
 
 // The size of a second difference.
 fn size(difference: i64) -> i64

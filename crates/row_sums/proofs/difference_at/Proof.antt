@@ -1,9 +1,9 @@
 -- The second difference of a coordinate at a place.
 use Rattle.integers.proofs.Machine.{fits! }
-use Rattle.bounds.proofs.Coordinates.{bounded, holds!, difference-is}
+use Rattle.row_sums.proofs.Coordinates.{bounded, holds!, difference-is}
 use borrow.Author.Needs.{needs}
-use Rattle.bounds.proofs.difference_at.Statement.{statement}
-use Rattle.bounds.proofs.difference_at.Tie as tie
+use Rattle.row_sums.proofs.difference_at.Statement.{statement}
+use Rattle.row_sums.proofs.difference_at.Tie as tie
 
 mul-result : tie.Need-mul-result
 mul-result c = search needs

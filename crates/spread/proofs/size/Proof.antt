@@ -1,9 +1,9 @@
 -- The size of a second difference, by its sign.
 use Rattle.integers.proofs.Machine.{fits!, flag! }
-use Rattle.bounds.proofs.Coordinates.{bounded, holds! }
-use Rattle.node_boxes.proofs.Apart.{size-negative, size-other}
-use Rattle.node_boxes.proofs.spread.size.Statement.{statement}
-use Rattle.node_boxes.proofs.spread.size.Tie as tie
+use Rattle.row_sums.proofs.Coordinates.{bounded, holds! }
+use Rattle.spread.proofs.Spreads.{size-negative, size-other}
+use Rattle.spread.proofs.size.Statement.{statement}
+use Rattle.spread.proofs.size.Tie as tie
 
 sub-result : tie.Need-sub-result
 sub-result c = fits! (search (c .before .pre, bounded) depth 40) tt

@@ -1,0 +1,2 @@
+-- Laws of the code of the spread.
+pub mod Spreads

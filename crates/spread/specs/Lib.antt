@@ -1,0 +1,2 @@
+-- What the contracts of the quick test of a node cite.
+pub mod Spread
