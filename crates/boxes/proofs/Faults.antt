@@ -9,10 +9,10 @@ use lib.Signed.{leZ, _≤ℤ_}
 use Rattle.integers.specs.Entry.{entry}
 use Rattle.integers.specs.First.{firstBad}
 use Rattle.integers.proofs.Ranges.{le-yes, yes-le}
-use Rattle.integers.proofs.Clash.{clash}
 use Rattle.integers.proofs.Order.{≤ℤ-trans}
 use Rattle.integers.proofs.Between.{between-low, between-high}
 use Rattle.integers.proofs.First.{moved, bad-moved, bad-below}
+use Rattle.integers.proofs.Both.{both-true}
 use Rattle.boxes.specs.declared.Box.{Box}
 use Rattle.boxes.specs.Ranges.{farthest, inRange, lowFine, sideFine, boxNumberFine, numbersOf, boxFault, placeOr, Interval}
 
@@ -64,15 +64,11 @@ module _ (b : Box) where
         all-fine e = sym (fault-by b ∙ rw (xl, xh, yl, e))
 
 -- ---- a low and a high that are fine are an interval in range, and an interval in range is fine
-both : (a b : Bool) → (a && b) ≡ true → (a ≡ true) × (b ≡ true)
-both true b e = (refl, e)
-both false b e = clash (cc)
-
 module _ {low high : ℤ} where
   pub interval : lowFine low high ≡ true → inRange high ≡ true → Interval low high
   interval l h = record {
-    from = between-low (negℤ (pos farthest)) (pos farthest) low (both (inRange low) (leZ low high) l .0);
-    order = le-yes (both (inRange low) (leZ low high) l .1);
+    from = between-low (negℤ (pos farthest)) (pos farthest) low (both-true (inRange low) (leZ low high) l .0);
+    order = le-yes (both-true (inRange low) (leZ low high) l .1);
     to = between-high (negℤ (pos farthest)) (pos farthest) high h;
   }
 
@@ -90,8 +86,8 @@ module _ {low high : ℤ} where
 module _ (low high : ℤ) where
   pub side-interval : sideFine low high ≡ true → Interval low high
   side-interval e =
-      let a = both (leZ (negℤ (pos farthest)) low && leZ low high) (leZ high (pos farthest)) e in
-      let b = both (leZ (negℤ (pos farthest)) low) (leZ low high) (a .0) in
+      let a = both-true (leZ (negℤ (pos farthest)) low && leZ low high) (leZ high (pos farthest)) e in
+      let b = both-true (leZ (negℤ (pos farthest)) low) (leZ low high) (a .0) in
       record { from = le-yes (b .0); order = le-yes (b .1); to = le-yes (a .1) }
 
   pub interval-side : Interval low high → sideFine low high ≡ true

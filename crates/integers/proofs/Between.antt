@@ -1,6 +1,6 @@
 -- The test of a range: as orders, and as code finds it by comparing a number with one end and then with the other.
-use mathlib.Core.Path.{_≡_, refl, sym, subst}
-use mathlib.Core.Bool.{Bool, true, false, not, _&&_}
+use mathlib.Core.Path.{_≡_, sym, subst}
+use mathlib.Core.Bool.{Bool, true, false, not}
 use mathlib.Core.List.{List}
 use Prim.Native.Nat.{ℕ, _^_, _<_}
 use lib.Dec.{T}
@@ -13,6 +13,7 @@ use Rattle.integers.specs.Entry.{entry}
 use Rattle.integers.proofs.Ranges.{stored, lt-yes, lt-no, yes-le, no-le}
 use Rattle.integers.proofs.Table.{and-left, and-right}
 use Rattle.integers.specs.Between.{between}
+use Rattle.integers.proofs.Both.{and-false}
 
 module _ (low high z : ℤ) where
   pub between-low : between low high z ≡ true → low ≤ℤ z
@@ -20,10 +21,6 @@ module _ (low high z : ℤ) where
 
   pub between-high : between low high z ≡ true → z ≤ℤ high
   between-high e = leZ-yes (and-right (leZ low z) (leZ z high) (subst T (sym e) tt))
-
-and-false : (b : Bool) → (b && false) ≡ false
-and-false true = refl
-and-false false = refl
 
 -- a comparison the other way round
 turned : (a b : ℤ) (t : Bool) → ltZ b a ≡ t → leZ a b ≡ not t

@@ -9,6 +9,7 @@ pub mod Rounding
 pub mod Table
 pub mod Between
 pub mod Clash
+pub mod Both
 pub mod First
 pub mod Size
 pub mod Machine

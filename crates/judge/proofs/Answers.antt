@@ -1,6 +1,6 @@
 -- What judging answers, check by check.
 use mathlib.Core.Path.{_≡_, refl, sym, _∙_, ap, subst}
-use mathlib.Core.Bool.{Bool, true, false, not, _&&_}
+use mathlib.Core.Bool.{Bool, true, false, not}
 use mathlib.Core.List.{List}
 use mathlib.Core.Option.{none, some}
 use Prim.Native.Nat.{ℕ, _%_, _≤_, _<_}
@@ -18,6 +18,7 @@ use Rattle.judge.specs.declared.Judgement.{Judgement}
 use Rattle.judge.specs.declared.Judgement.the-variants.{Refused}
 use Rattle.judge.specs.Judging.{judgingFault, Verdict, Judged}
 use Rattle.judge.specs.Searching.{Passed}
+use Rattle.integers.proofs.Both.{and-false}
 
 eqb-is : (a b : ℕ) → a ≡ b → eqb a b ≡ true
 eqb-is a b e = go (eqb a b) (subst (λ n. T (eqb a n)) e (eqb-refl a))
@@ -32,10 +33,6 @@ eqb-not a b n = go (eqb a b) (λ t. n (eqb→eq a b t))
     go : (t : Bool) → (T t → ⊥) → t ≡ false
     go false u = refl
     go true u = absurd (u tt)
-
-and-false : (b : Bool) → (b && false) ≡ false
-and-false true = refl
-and-false false = refl
 
 module _ (most : ℕ) (ns : List ℤ) (x y : ℤ) where
   -- ---- 9

@@ -1,74 +1,25 @@
 -- A point beyond all boxes of a record on one side is held by none of its covers.
 use mathlib.Core.Path.{_≡_, refl, sym, ap, subst}
-use mathlib.Core.Logic.{⊎-elim}
-use mathlib.Core.Bool.{Bool, true, false, not, _&&_, _||_}
+use mathlib.Core.Bool.{Bool, true, false, not, _||_}
 use mathlib.Core.List.{List, [], _∷_}
-use Prim.Native.Nat.{ℕ, zero, suc, _+_, _*_, _≤_, _<_}
-use native.Mathlib.Nat.{eq-or-lt-of-le, le-of-suc-le-suc, zero-add}
+use Prim.Native.Nat.{ℕ, suc, _+_, _*_, _<_}
+use native.Mathlib.Nat.{zero-add}
 use native.Mathlib.Omega.{arith}
 use lib.IntN.{ℤ, pos, _-ℤ_}
-use lib.Signed.{leZ, ltZ}
+use lib.Signed.{ltZ}
 use Rattle.integers.specs.Entry.{entry}
 use Rattle.integers.proofs.Ring.{sides}
-use Rattle.integers.proofs.Clash.{clash}
 use Rattle.integers.proofs.Order.{gap<, lt-by}
-use Rattle.integers.proofs.Ranges.{lt-yes, yes-lt, no-lt, le-yes, le-no}
+use Rattle.integers.proofs.Ranges.{lt-yes, yes-lt}
 use Rattle.integers.proofs.First.{bad-none}
 use Rattle.boxes.specs.declared.Box.{Box}
 use Rattle.boxes.specs.Ranges.{placeOr}
 use Rattle.boxes.specs.Records.{covers, boxAtIndex}
 use Rattle.held.specs.Deciding.{sidesOf, sidesX, outside, apart, held}
 use Rattle.held.proofs.Cuts.{apart-x, apart-y}
-use Rattle.judge.specs.Searching.{heldAt, holderAt, allPass, belowAll, aboveAll, beyond}
-
-both : (a b : Bool) → (a && b) ≡ true → (a ≡ true) × (b ≡ true)
-both true b e = (refl, e)
-both false b e = clash (cc)
-
--- ---- a test of n numbers, one by one
-module _ (test : ℤ → Bool) (ns : List ℤ) (at : ℕ) where
-  -- the first i of four numbers pass
-  pub record Passing (i : ℕ) : Type 0 where
-    pub few : i ≤ suc covers
-    pub each : allPass test ns at i ≡ true
-
-  pub pass-none : Passing 0
-  pass-none = record { few = omega arith; each = refl }
-
-  module _ (i : ℕ) (p : Passing i) where
-    pub pass-more : i < suc covers → test (entry ns (at + 4 * i)) ≡ true → Passing (i + 1)
-    pass-more h f = let n : i + 1 ≡ suc i = omega arith in record { few = omega arith; each = rw (n, p .each, f) }
-
-    pub pass-done : suc covers ≤ i → true ≡ allPass test ns at (suc covers)
-    pass-done h =
-        let f = p .few in
-        let n : i ≡ suc covers = omega arith in
-        sym (rw n at (p .each))
-
-  fails : (n i : ℕ) → i < n → test (entry ns (at + 4 * i)) ≡ false → false ≡ allPass test ns at n
-  fails zero i h f = absurd (omega arith)
-  fails (suc n) i h f = ⊎-elim
-      (λ e. sym (rw (← e, f) (and-false (allPass test ns at i))))
-      (λ l. ap (λ b. b && test (entry ns (at + 4 * n))) (fails n i l f))
-      (eq-or-lt-of-le (le-of-suc-le-suc h))
-    where
-      and-false : (b : Bool) → (b && false) ≡ false
-      and-false true = refl
-      and-false false = refl
-
-  pub pass-fails : (i : ℕ) → i < suc covers → test (entry ns (at + 4 * i)) ≡ false → false ≡ allPass test ns at (suc covers)
-  pass-fails = fails (suc covers)
-
-  pass-each : (n : ℕ) → allPass test ns at n ≡ true → (i : ℕ) → i < n → test (entry ns (at + 4 * i)) ≡ true
-  pass-each zero e i h = absurd (omega arith)
-  pass-each (suc n) e i h =
-      let s = both (allPass test ns at n) (test (entry ns (at + 4 * n))) e in
-      ⊎-elim (λ f. rw f (s .1)) (pass-each n (s .0) i) (eq-or-lt-of-le (le-of-suc-le-suc h))
-
--- ---- a comparison turned round
-pub turned : (a b : ℤ) (t : Bool) → leZ a b ≡ t → ltZ b a ≡ not t
-turned a b true e = no-lt {a = b} {b = a} (le-yes {a = a} {b = b} e)
-turned a b false e = yes-lt {a = b} {b = a} (le-no {a = a} {b = b} e)
+use Rattle.beyond.proofs.Passing.{pass-each}
+use Rattle.beyond.specs.Sides.{belowAll, aboveAll, beyond}
+use Rattle.judge.specs.Searching.{heldAt, holderAt}
 
 -- ---- a cover
 below-out : (z a : ℤ) → ltZ z a ≡ true → ltZ (z -ℤ a) (pos 0) ≡ true

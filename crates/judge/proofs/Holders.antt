@@ -1,7 +1,7 @@
 -- The search for a cover that holds a point: what a list that passed its checks says of a record, the covers of a record one by one, and the records one by one.
 use mathlib.Core.Path.{_≡_, refl, sym, _∙_, ap, ap₂, subst}
 use mathlib.Core.Logic.{⊎-elim}
-use mathlib.Core.Bool.{Bool, true, false, not, _&&_}
+use mathlib.Core.Bool.{Bool, true, false, not}
 use mathlib.Core.List.{List}
 use mathlib.Core.Option.{none, some}
 use Prim.Native.Nat.{ℕ, zero, suc, _+_, _*_, _-_, _%_, _≤_, _<_}
@@ -16,6 +16,7 @@ use Rattle.integers.proofs.Clash.{clash}
 use Rattle.integers.proofs.Size.{abs-within}
 use Rattle.integers.proofs.Between.{between-low, between-high}
 use Rattle.integers.proofs.First.{none-bad, bad-none, bad-is}
+use Rattle.integers.proofs.Both.{both-true}
 use Rattle.boxes.specs.declared.Box.{Box}
 use Rattle.boxes.specs.Ranges.{farthest, inRange, lowFine, boxNumberFine, placeOr}
 use Rattle.boxes.specs.Records.{covers, recordLength, boxIndex, boxAtIndex}
@@ -33,15 +34,11 @@ pub range-size : (z : ℤ) → inRange z ≡ true → natAbs z ≤ farthest
 range-size z e = abs-within farthest z (between-low (negℤ (pos farthest)) (pos farthest) z e) (between-high (negℤ (pos farthest)) (pos farthest) z e)
 
 -- ---- a record that passed: its boxes are in range
-both : (a b : Bool) → (a && b) ≡ true → a ≡ true
-both true b e = refl
-both false b e = clash (cc)
-
 number-range : (p : ℕ) (z next : ℤ) → boxNumberFine p z next ≡ true → inRange z ≡ true
 number-range p z next e = go (p % 2) e
   where
     go : (q : ℕ) → _≡_ {A = Bool} (elim q [ zero ↦ lowFine z next | suc _ ↦ inRange z ]) true → inRange z ≡ true
-    go zero f = both (inRange z) (leZ z next) f
+    go zero f = both-true (inRange z) (leZ z next) f .0
     go (suc q) f = f
 
 module _ {most : ℕ} {ns : List ℤ} {at : ℕ} (r : RecordAt most ns at) where

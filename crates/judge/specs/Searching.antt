@@ -1,13 +1,11 @@
 -- How the code searches a leaf list that has passed its checks: the first cover of a record that holds a point. For private functions; places are counted from the index `at` where a record begins.
-use mathlib.Core.Bool.{Bool, true, not, _&&_, _||_}
+use mathlib.Core.Bool.{Bool, not}
 use mathlib.Core.List.{List}
 use mathlib.Core.Option.{Option, none}
 use mathlib.Core.Path.{_≡_}
-use Prim.Native.Nat.{ℕ, zero, suc, _+_, _*_, _%_, _≤_}
+use Prim.Native.Nat.{ℕ, suc, _+_, _*_, _%_, _≤_}
 use lib.ListN.{length}
 use lib.IntN.{ℤ, natAbs}
-use lib.Signed.{ltZ}
-use Rattle.integers.specs.Entry.{entry}
 use Rattle.integers.specs.First.{firstBad}
 use Rattle.boxes.specs.Ranges.{farthest}
 use Rattle.boxes.specs.Records.{covers, recordLength, boxAtIndex}
@@ -35,19 +33,3 @@ holderAt ns x y at = firstBad (λ i. not (heldAt ns x y at i)) covers 0
 pub record RecordAt (most : ℕ) (ns : List ℤ) (at : ℕ) : Type 0 where
   pub inside : at + recordLength ≤ length ns
   pub fine : recordFaultAt most ns at ≡ none
-
--- ---- a point beyond all boxes of a record on one side
--- each of the first n numbers that stand four apart, from index `at` on, passes a test: the lows of a record's boxes in one coordinate, or the highs
-abbrev pub allPass : (ℤ → Bool) → List ℤ → (at n : ℕ) → Bool
-allPass test ns at zero = true
-allPass test ns at (suc n) = allPass test ns at n && test (entry ns (at + 4 * n))
-
-abbrev pub belowAll : ℤ → List ℤ → ℕ → Bool
-belowAll z ns at = allPass (λ low. ltZ z low) ns at (suc covers)
-
-abbrev pub aboveAll : ℤ → List ℤ → ℕ → Bool
-aboveAll z ns at = allPass (λ high. ltZ high z) ns at (suc covers)
-
--- the first low of the coordinate stands at index `at`
-abbrev pub beyond : ℤ → List ℤ → ℕ → Bool
-beyond z ns at = belowAll z ns at || aboveAll z ns (at + 1)

@@ -5,7 +5,7 @@ ghost use Rattle.boxes.specs.Ranges.{placeOr};
 ghost use Rattle.judge.specs.Judging.{Verdict};
 ghost use Rattle.judge.specs.Searching.{Passed, InRange, RecordAt, holderAt};
 use crate::Judgement;
-use crate::beyond::beyond;
+use beyond::beyond;
 use held::holds;
 use leaf_list::box_in;
 

@@ -1,7 +1,6 @@
 // Judging: whether a point lies on the band that a leaf list describes.
 ghost use Rattle.judge.specs.Judging.{Judged};
 
-mod beyond;
 mod holder;
 
 use refusals::Refusal;

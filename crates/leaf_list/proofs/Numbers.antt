@@ -19,6 +19,7 @@ use Rattle.integers.proofs.Ranges.{stored, lt-yes, lt-no, le-yes, le-no, yes-lt
 use Rattle.integers.proofs.Clash.{clash}
 use Rattle.integers.proofs.Order.{lt-or-ge}
 use Rattle.integers.proofs.First.{orElse, moved, bad-parts, bad-moved, none-bad, bad-none}
+use Rattle.integers.proofs.Both.{and-false, both-true}
 use Rattle.boxes.specs.Ranges.{lowFine, inRange, sideFine, boxNumberFine, numbersOf, boxFault, placeOr}
 use Rattle.boxes.specs.Records.{recordLength, boxAtIndex}
 use Rattle.boxes.proofs.Faults.{fault-at, place-some, place-none, box-none, interval, interval-low, interval-high, side-interval, interval-side}
@@ -90,10 +91,6 @@ module _ (most : ℕ) {z : ℤ} (next : ℤ) (fits : SFits w32 z) where
   to-most true e = no-lt {a = z} (le-yes {a = pos most} {b = z} (rw (toZ-ofZ fits) at e))
   to-most false e = yes-lt {a = z} (le-no {a = pos most} {b = z} (rw (toZ-ofZ fits) at e))
 
-  and-false : (b : Bool) → (b && false) ≡ false
-  and-false true = refl
-  and-false false = refl
-
   pub curve-negative : ltZ (stored w32 z) (pos 0) ≡ true → numberFine most 0 z next ≡ false
   curve-negative e = rw (from-zero true e)
 
@@ -141,17 +138,13 @@ module _ (most : ℕ) (ns : List ℤ) (at : ℕ) where
       boxes-next = sym (ap (placeOr 18) (after-curve ∙ after-node ∙ bad-moved number 2 (boxFineAt ns (at + 2)) 16 box-number) ∙ shifted (boxesFaultAt ns (at + 2) 16))
 
 -- ---- a record at once
-both : (a b : Bool) → (a && b) ≡ true → (a ≡ true) × (b ≡ true)
-both true b e = (refl, e)
-both false b e = clash (cc)
-
 module _ (ns : List ℤ) (at : ℕ) where
   abbrev side : ℕ → Bool
   side i = sideFine (entry ns (at + 2 * i)) (entry ns (at + suc (2 * i)))
 
   each-side : (n : ℕ) → sidesFine ns at n ≡ true → (i : ℕ) → i < n → side i ≡ true
   each-side zero e i h = absurd (omega arith)
-  each-side (suc n) e i h = let s = both (sidesFine ns at n) (side n) e in ⊎-elim (λ f. rw f (s .1)) (each-side n (s .0) i) (eq-or-lt-of-le (le-of-suc-le-suc h))
+  each-side (suc n) e i h = let s = both-true (sidesFine ns at n) (side n) e in ⊎-elim (λ f. rw f (s .1)) (each-side n (s .0) i) (eq-or-lt-of-le (le-of-suc-le-suc h))
 
   all-sides : (n : ℕ) → ((i : ℕ) → i < n → side i ≡ true) → sidesFine ns at n ≡ true
   all-sides zero f = refl
@@ -181,8 +174,8 @@ module _ (ns : List ℤ) (at : ℕ) where
 module _ (most : ℕ) (ns : List ℤ) (at : ℕ) where
   pub record-fine : recordFine most ns at ≡ true → recordLength ≤ placeOr recordLength (recordFaultAt most ns at)
   record-fine e =
-      let a = both (fineAt most ns at 0 && fineAt most ns at 1) (sidesFine ns (at + 2) 8) e in
-      let b = both (fineAt most ns at 0) (fineAt most ns at 1) (a .0) in
+      let a = both-true (fineAt most ns at 0 && fineAt most ns at 1) (sidesFine ns (at + 2) 8) e in
+      let b = both-true (fineAt most ns at 0) (fineAt most ns at 1) (a .0) in
       let f = bad-none (boxFineAt ns (at + 2)) 16 0 (λ k h. rw zero-add (sides-boxes ns (at + 2) (a .1) k h)) in
       let g = boxes-next most ns at (b .0) (b .1) in
       omega (arith, g, ap (placeOr 16) f)

@@ -11,6 +11,7 @@ use lib.IntN.{ℤ, _-ℤ_}
 use lib.Signed.{leZ}
 use Rattle.integers.proofs.Size.{Size}
 use Rattle.integers.proofs.Machine.{tests}
+use Rattle.integers.proofs.Both.{and-false}
 use Rattle.bezier.specs.declared.Curve.{Curve}
 use Rattle.bezier.specs.Bounds.{Sized}
 use Rattle.halves.specs.Halves.{listed}
@@ -64,10 +65,6 @@ module _ {B : ℕ} {b : Box} (h : Sides B b) where
 pub ruleset box-sizes = (size-x-low, size-x-high, size-y-low, size-y-high, tests)
 
 -- ---- the test of several boxes
-and-false : (a : Bool) → (a && false) ≡ false
-and-false true = refl
-and-false false = refl
-
 module _ (T : ℤ) (low high : ℕ → ℤ) where
   pub within-more : (i : ℕ) → within i T low high ≡ true → leZ (high i -ℤ low i) T ≡ true → within (i + 1) T low high ≡ true
   within-more i e f = rw add-one (ap₂ _&&_ e f)

@@ -2,7 +2,7 @@
 ghost use mathlib.Core.Path.{_≡_};
 ghost use Prim.Native.Nat.{_+_, _≤_};
 ghost use lib.ListN.{length};
-ghost use Rattle.judge.specs.Searching.{belowAll, aboveAll, beyond};
+ghost use Rattle.beyond.specs.Sides.{belowAll, aboveAll, beyond};
 
 // Whether z is below the four numbers that stand four apart from index `at` on.
 fn below_all(leaves: &[i32], at: usize, z: i64) -> bool

@@ -2,8 +2,8 @@
 use mathlib.Core.Path.{sym, _∙_}
 use mir.Facts.{toZ-ofZ}
 use borrow.Author.Needs.{needs}
-use Rattle.judge.proofs.beyond.beyond.Statement.{statement}
-use Rattle.judge.proofs.beyond.beyond.Tie as tie
+use Rattle.beyond.proofs.beyond.Statement.{statement}
+use Rattle.beyond.proofs.beyond.Tie as tie
 
 below-all-requires : tie.Need-below-all-requires
 below-all-requires c κs = search needs

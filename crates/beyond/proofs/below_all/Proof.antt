@@ -10,9 +10,9 @@ use mir.Facts.{toZ-ofZ, sfits-widen}
 use Rattle.integers.specs.Entry.{entry}
 use Rattle.integers.proofs.Ranges.{stored}
 use Rattle.integers.proofs.Between.{element-fits}
-use Rattle.judge.proofs.Apart.{Passing, pass-none, pass-more, pass-done, pass-fails, turned}
-use Rattle.judge.proofs.beyond.below_all.Statement.{statement}
-use Rattle.judge.proofs.beyond.below_all.Tie as tie
+use Rattle.beyond.proofs.Passing.{Passing, pass-none, pass-more, pass-done, pass-fails, turned}
+use Rattle.beyond.proofs.below_all.Statement.{statement}
+use Rattle.beyond.proofs.below_all.Tie as tie
 
 abbrev Inv-loop : tie.InvT-loop
 Inv-loop leaves at z i₀ i = Passing (λ a. ltZ (toZ w64 z) a) leaves at i

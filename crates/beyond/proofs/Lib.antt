@@ -1,0 +1,2 @@
+-- Laws of the quick look at a record.
+pub mod Passing

@@ -1,0 +1,2 @@
+-- What the contracts of the quick look at a record cite.
+pub mod Sides
