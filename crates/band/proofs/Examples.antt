@@ -14,7 +14,7 @@ use Rattle.enclosure.specs.Bounds.{rowSum, high, low}
 use Rattle.node_boxes.specs.Boxes.{boxAt, meets}
 use Rattle.outline_curves.specs.Curves.{curveAt}
 use Rattle.integers.specs.First.{firstBad}
-use Rattle.outline_curves.specs.Faults.{faultAt}
+use Rattle.curve_faults.specs.Faults.{faultAt}
 use Rattle.outline.specs.Checks.{outlineFrom, outlined}
 use Rattle.band.specs.declared.Banded.{Banded}
 use Rattle.band.specs.declared.Banded.the-variants.{Done, Refused}

@@ -16,7 +16,7 @@ use Rattle.refusals.specs.Refusals.{numberOf}
 use Rattle.bezier.specs.declared.Curve.{Curve}
 use Rattle.outline_curves.specs.Curves.{coordinates, degreeAt, nextAt, curveAt}
 use Rattle.integers.specs.Between.{between}
-use Rattle.outline_curves.specs.Faults.{firstBeyond, faultAt}
+use Rattle.curve_faults.specs.Faults.{firstBeyond, faultAt}
 use Rattle.outline.specs.Checks.{Outlined, curves, faulty, toleranceFine, withCurve, outlineFrom, outlined}
 use Rattle.band.specs.declared.Banded.the-variants.{Refused}
 use Rattle.band.specs.Banding.{bandCurves, banded}

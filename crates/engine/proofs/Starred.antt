@@ -18,7 +18,7 @@ use Rattle.boxes.specs.Records.{boxIndex, boxAtIndex}
 use Rattle.enclosure.specs.Bounds.{rowSum, high, low}
 use Rattle.node_boxes.specs.Boxes.{boxAt, meets}
 use Rattle.outline_curves.specs.Curves.{curveAt}
-use Rattle.outline_curves.specs.Faults.{faultAt}
+use Rattle.curve_faults.specs.Faults.{faultAt}
 use Rattle.outline.specs.Checks.{outlineFrom, outlined}
 use Rattle.tree.specs.Tree.{ends, met, firstFailing}
 use Rattle.records.specs.Records.{recordOf, recordsOf, allRecords}

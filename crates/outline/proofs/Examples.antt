@@ -8,7 +8,7 @@ use lib.IntN.{ℤ, pos, negsuc, negℤ}
 use Rattle.refusals.specs.Refusals.{numberOf, spotOf}
 use Rattle.outline_curves.specs.Curves.{curveAt}
 use Rattle.integers.specs.First.{firstBad}
-use Rattle.outline_curves.specs.Faults.{faultAt}
+use Rattle.curve_faults.specs.Faults.{faultAt}
 use Rattle.outline.specs.Checks.{Outlined, curves, faulty, toleranceFine, outlineFrom, outlined}
 
 -- the number and the spot of a refusal, or 0 and how many curves there are

@@ -15,11 +15,11 @@ use Rattle.refusals.specs.declared.Refusal.{Refusal}
 use Rattle.refusals.specs.declared.Refusal.the-variants.{TooManyCurves}
 use Rattle.bezier.specs.declared.Curve.{Curve}
 use Rattle.outline_curves.specs.Curves.{nextAt, curveAt}
-use Rattle.outline_curves.specs.Faults.{faultAt}
+use Rattle.curve_faults.specs.Faults.{faultAt}
 use Rattle.outline.specs.Checks.{Outlined, curves, faulty, withCurve, outlineFrom}
 use Rattle.integers.proofs.Clash.{clash}
 use Rattle.outline_curves.proofs.Degrees.{degree-inside}
-use Rattle.outline_curves.proofs.Faultless.{faultless}
+use Rattle.curve_faults.proofs.Faultless.{faultless}
 
 -- ---- one step
 module _ (ns : List ℤ) (at : ℕ) where

@@ -13,7 +13,7 @@ use Rattle.bezier.specs.declared.Curve.{Curve}
 use Rattle.outline.specs.declared.Checked.{Checked}
 use Rattle.outline.specs.declared.Checked.the-variants.{Curves, Refused}
 use Rattle.outline_curves.specs.Curves.{nextAt, curveAt}
-use Rattle.outline_curves.specs.Faults.{faultAt}
+use Rattle.curve_faults.specs.Faults.{faultAt}
 
 -- ---- 1: the tolerance is 2 to 1,048,576
 abbrev pub toleranceFine : ℤ → Bool

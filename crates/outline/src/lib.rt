@@ -1,8 +1,8 @@
 // The checks of a tolerance and of an outline.
 ghost use mathlib.Core.Path.{_≡_};
 ghost use Rattle.outline.specs.Checks.{toleranceFine, outlined, checkedOf};
-use outline_curves::Fault;
-use outline_curves::fault_at;
+use curve_faults::Fault;
+use curve_faults::fault_at;
 use outline_curves::next_at;
 use refusals::Refusal;
 

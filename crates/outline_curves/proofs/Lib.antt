@@ -1,3 +1,2 @@
--- Laws of one curve of an outline. Each file opens with what it holds.
+-- Laws of where a curve of an outline stands. Each file opens with what it holds.
 pub mod Degrees
-pub mod Faultless

@@ -1,3 +1,2 @@
--- What a reader must believe of one curve of an outline: what is read of it, and its faults in document 01's order.
+-- What a reader must believe of one curve of an outline: where it stands, and what is read of it.
 pub mod Curves
-pub mod Faults

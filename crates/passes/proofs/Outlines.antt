@@ -9,7 +9,7 @@ use lib.IntN.{ℤ}
 use Rattle.bezier.specs.declared.Curve.{Curve}
 use Rattle.bezier.specs.Bounds.{Sized}
 use Rattle.outline_curves.specs.Curves.{nextAt, curveAt}
-use Rattle.outline_curves.specs.Faults.{faultAt}
+use Rattle.curve_faults.specs.Faults.{faultAt}
 use Rattle.outline.specs.Checks.{curves, outlineFrom}
 use Rattle.outline.proofs.Steps.{outline-begins}
 use Rattle.outline.proofs.Accepted.{accepted-head}

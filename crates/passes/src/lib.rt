@@ -10,7 +10,7 @@ ghost use Rattle.passes.specs.Leaves.{curvesOf};
 ghost use Rattle.passes.specs.Counted.{Readable, countedOf};
 ghost use Rattle.passes.specs.Writing.{Ready, Fillable};
 use bezier::Curve;
-use outline_curves::curve_at;
+use curve_values::curve_at;
 use outline_curves::next_at;
 use records::put_record;
 use refusals::Refusal;

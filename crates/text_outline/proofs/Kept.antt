@@ -18,9 +18,9 @@ use Rattle.bezier.proofs.Values.{listed-ext}
 use Rattle.outline_curves.specs.Curves.{coordinates, degreeAt, nextAt, values, curveAt}
 use Rattle.integers.specs.Between.{between}
 use Rattle.integers.specs.First.{firstBad}
-use Rattle.outline_curves.specs.Faults.{coordinateFine, firstBeyond, faultAt, foundOf, faultOf}
+use Rattle.curve_faults.specs.Faults.{coordinateFine, firstBeyond, faultAt, foundOf, faultOf}
 use Rattle.outline.specs.Checks.{faulty, withCurve, outlineFrom, outlined}
-use Rattle.outline_curves.proofs.Faultless.{coordinateFault, fault-degree, fault-coordinate}
+use Rattle.curve_faults.proofs.Faultless.{coordinateFault, fault-degree, fault-coordinate}
 use Rattle.outline.proofs.Steps.{outline-full, outline-faulty, outline-step}
 use Rattle.forms.specs.declared.Points.{Points}
 use Rattle.forms.specs.declared.Form.{Form}

@@ -14,12 +14,12 @@ use Rattle.refusals.specs.declared.Refusal.the-variants.{EmptyOutline, TooManyC
 use Rattle.bezier.specs.declared.Curve.{Curve}
 use Rattle.outline.specs.declared.Checked.{Checked}
 use Rattle.outline.specs.declared.Checked.the-variants.{Curves, Refused}
-use Rattle.outline_curves.specs.declared.Fault.the-variants.{Is, Nothing}
+use Rattle.curve_faults.specs.declared.Fault.the-variants.{Is, Nothing}
 use Rattle.outline_curves.specs.Curves.{nextAt, curveAt}
-use Rattle.outline_curves.specs.Faults.{faultAt, faultOf}
+use Rattle.curve_faults.specs.Faults.{faultAt, faultOf}
 use Rattle.outline.specs.Checks.{Outlined, curves, faulty, withCurve, outlineFrom, outlined, checkedOf}
 use Rattle.integers.proofs.Clash.{clash}
-use Rattle.outline_curves.proofs.Faultless.{faultless}
+use Rattle.curve_faults.proofs.Faultless.{faultless}
 use Rattle.outline.proofs.Steps.{outline-ended, outline-full, outline-faulty, outline-step}
 use Rattle.outline.proofs.check_outline.Statement.{statement}
 use Rattle.outline.proofs.check_outline.Tie as tie

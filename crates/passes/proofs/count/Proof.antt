@@ -9,7 +9,7 @@ use mir.Val.{toZ}
 use mir.Facts.{toZ-ofZ}
 use Rattle.integers.proofs.Ranges.{stored}
 use Rattle.outline_curves.specs.Curves.{curveAt}
-use Rattle.outline_curves.proofs.Faultless.{faultless}
+use Rattle.curve_faults.proofs.Faultless.{faultless}
 use Rattle.walk.specs.declared.Walked.the-variants.{Leaves as WalkLeaves}
 use Rattle.walk.specs.Walked.{walkedOf}
 use Rattle.passes.proofs.Outlines.{rest-next}

@@ -5,7 +5,7 @@ use native.Mathlib.Omega.{arith}
 use mir.Syntax.{w64}
 use mir.Val.{toZ}
 use mir.Facts.{toZ-ofZ}
-use Rattle.outline_curves.proofs.Faultless.{faultless}
+use Rattle.curve_faults.proofs.Faultless.{faultless}
 use Rattle.passes.proofs.Outlines.{rest-next}
 use Rattle.passes.proofs.Filling.{Filled, filled-start, filled-length, filled-ready, filled-room, filled-on, filled-done}
 use Rattle.passes.proofs.write_all.Statement.{statement}

@@ -1,12 +1,12 @@
--- `outline_curves::curve_at` meets its contract: without a fault all coordinates are inside the list, x from `at + 1` on and y from `at + 2` on.
+-- `curve_values::curve_at` meets its contract: without a fault all coordinates are inside the list, x from `at + 1` on and y from `at + 2` on.
 use Prim.Native.Nat.{_+_, _≤_}
 use native.Mathlib.Omega.{arith}
 use lib.ListN.{length}
 use Rattle.outline_curves.specs.Curves.{coordinates, curveAt}
 use Rattle.outline_curves.proofs.Degrees.{degree-most}
-use Rattle.outline_curves.proofs.Faultless.{Faultless, faultless}
-use Rattle.outline_curves.proofs.curve_at.Statement.{statement}
-use Rattle.outline_curves.proofs.curve_at.Tie as tie
+use Rattle.curve_faults.proofs.Faultless.{Faultless, faultless}
+use Rattle.curve_values.proofs.curve_at.Statement.{statement}
+use Rattle.curve_values.proofs.curve_at.Tie as tie
 
 whole : (c : tie.Start) → Faultless (c .args .ns .now) (c .args .at)
 whole c = faultless (c .args .ns .now) (c .args .at) (c .pre)

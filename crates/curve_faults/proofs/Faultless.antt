@@ -20,17 +20,17 @@ use Rattle.halves.specs.Halves.{listed}
 use Rattle.halves.specs.Sizes.{Each}
 use Rattle.bezier.specs.Bounds.{Sized}
 use Rattle.bezier.proofs.Sizes.{listed-under}
 use Rattle.outline_curves.specs.Curves.{coordinates, degreeAt, nextAt, values, curveAt}
-use Rattle.outline_curves.specs.declared.Found.{Found}
-use Rattle.outline_curves.specs.declared.Found.the-variants.{At, Nothing as NotFound}
-use Rattle.outline_curves.specs.declared.Fault.{Fault}
-use Rattle.outline_curves.specs.declared.Fault.the-variants.{Is, Nothing as NoFault}
+use Rattle.curve_faults.specs.declared.Found.{Found}
+use Rattle.curve_faults.specs.declared.Found.the-variants.{At, Nothing as NotFound}
+use Rattle.curve_faults.specs.declared.Fault.{Fault}
+use Rattle.curve_faults.specs.declared.Fault.the-variants.{Is, Nothing as NoFault}
 use Rattle.integers.specs.Between.{between}
-use Rattle.outline_curves.specs.Faults.{coordinateFine, firstBeyond, faultAt, foundOf, faultOf}
+use Rattle.curve_faults.specs.Faults.{coordinateFine, firstBeyond, faultAt, foundOf, faultOf}
 use Rattle.integers.proofs.Clash.{clash}
 use Rattle.integers.proofs.Between.{between-low, between-high}
 use Rattle.integers.proofs.First.{none-bad}
 use Rattle.outline_curves.proofs.Degrees.{degree-least, degree-most}
 
 -- ---- the checks one after the other; the last as the code has its answer
 abbrev pub coordinateFault : Found → Fault

@@ -1,4 +1,4 @@
--- `outline_curves::values_at` meets its contract. The loop's invariant: the first k control values are read, and zeros stand behind them. The
+-- `curve_values::values_at` meets its contract. The loop's invariant: the first k control values are read, and zeros stand behind them. The
 -- measure is how many of the four places are left.
 use mathlib.Core.Path.{_≡_, refl, _∙_, ap}
 use mathlib.Core.Bool.{cond}
@@ -14,10 +14,10 @@ use Rattle.integers.specs.Entry.{entry}
 use Rattle.integers.proofs.Ranges.{stored}
 use Rattle.integers.proofs.Machine.{machine, fits!, is! }
 use Rattle.halves.specs.Halves.{listed}
 use Rattle.outline_curves.specs.Curves.{values}
 use Rattle.integers.proofs.Between.{element-fits}
-use Rattle.outline_curves.proofs.values_at.Statement.{statement}
-use Rattle.outline_curves.proofs.values_at.Tie as tie
+use Rattle.curve_values.proofs.values_at.Statement.{statement}
+use Rattle.curve_values.proofs.values_at.Tie as tie
 
 -- the first k are read
 abbrev read : List ℤ → ℕ → ℕ → List ℤ

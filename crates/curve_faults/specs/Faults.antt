@@ -11,11 +11,11 @@ use Rattle.integers.specs.Between.{between}
 use Rattle.integers.specs.First.{firstBad}
 use Rattle.refusals.specs.declared.Refusal.{Refusal}
 use Rattle.refusals.specs.declared.Refusal.the-variants.{Degree, CutShort, Coordinate}
-use Rattle.outline_curves.specs.declared.Found.{Found}
-use Rattle.outline_curves.specs.declared.Found.the-variants.{At, Nothing as NotFound}
-use Rattle.outline_curves.specs.declared.Fault.{Fault}
-use Rattle.outline_curves.specs.declared.Fault.the-variants.{Is, Nothing as NoFault}
+use Rattle.curve_faults.specs.declared.Found.{Found}
+use Rattle.curve_faults.specs.declared.Found.the-variants.{At, Nothing as NotFound}
+use Rattle.curve_faults.specs.declared.Fault.{Fault}
+use Rattle.curve_faults.specs.declared.Fault.the-variants.{Is, Nothing as NoFault}
 use Rattle.outline_curves.specs.Curves.{coordinates, degreeAt, nextAt}
 
 -- ---- 4: the first of n numbers from index i on that is no coordinate, −1,048,576 to 1,048,576
 abbrev pub coordinateFine : ℤ → Bool

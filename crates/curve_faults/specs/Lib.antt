@@ -1,0 +1,2 @@
+-- What a reader must believe of the faults of one curve of an outline, in document 01's order.
+pub mod Faults

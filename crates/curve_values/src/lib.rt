@@ -1,0 +1,35 @@
+// Reading one curve of an outline that has no fault.
+ghost use mathlib.Core.Path.{_≡_};
+ghost use mathlib.Core.Option.{none};
+ghost use Prim.Native.Nat.{_+_, _*_, _≤_, _<_};
+ghost use lib.ListN.{length};
+ghost use Rattle.outline_curves.specs.Curves.{values, curveAt};
+ghost use Rattle.curve_faults.specs.Faults.{faultAt};
+use bezier::Curve;
+use outline_curves::degree_at;
+
+// The curve whose degree stands at index `at`, at depth 0: its control values are the coordinates themselves.
+pub fn curve_at(ns: &[i32], at: usize) -> Curve
+    requires { ⌜ faultAt (now ns) at ≡ none ⌝ }
+    ensures { λ r. ⌜ r ≡ curveAt (now (ns .entry)) at ⌝ }
+{
+    let degree = degree_at(ns, at);
+    let x = values_at(ns, degree, at + 1);
+    let y = values_at(ns, degree, at + 2);
+    Curve { degree, x, y }
+}
+
+// The control values of one coordinate: every other number from index `from` on, degree + 1 of them, and zeros up to four.
+fn values_at(ns: &[i32], degree: u32, from: usize) -> [i64; 4]
+    requires { ⌜ (degree ≤ 3) × (from + 2 * degree < length (now ns)) ⌝ }
+    ensures { λ r. ⌜ r ≡ values (now (ns .entry)) degree from ⌝ }
+{
+    let d = degree as usize;
+    let mut cs: [i64; 4] = [0; 4];
+    let mut k: usize = 0;
+    while k <= d {
+        cs[k] = ns[from + 2 * k] as i64;
+        k += 1;
+    }
+    cs
+}
