@@ -26,7 +26,8 @@ use Rattle.text.specs.Meaning.{numbersOf, faultFrom, meaningOf, meaning}
 use Rattle.text.proofs.Examples.{listing}
 use Rattle.decimals.specs.Decimals.{digits, decimal, spaced, spacedNatural}
 use Rattle.render.specs.Answers.{doneLine, refusedLine}
-use Rattle.leaf_lines.specs.Leaves.{fourNumbers, boxBytes, boxesBytes, leafLine, leafLines}
+use Rattle.box_bytes.specs.Boxes.{fourNumbers, boxBytes, boxesBytes}
+use Rattle.leaf_lines.specs.Leaves.{leafLine, leafLines}
 use Rattle.leaf_list.specs.Checks.{numberFault}
 use Rattle.held.specs.Deciding.{held}
 use Rattle.judge.specs.Judging.{judgingFault}

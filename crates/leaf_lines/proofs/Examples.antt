@@ -3,7 +3,8 @@ use mathlib.Core.Path.{_≡_, refl}
 use mathlib.Core.List.{List, [], _∷_}
 use lib.IntN.{ℤ, pos}
 use Rattle.decimals.specs.Decimals.{digits, decimal, spaced}
-use Rattle.leaf_lines.specs.Leaves.{fourNumbers, boxBytes, boxesBytes, leafLine, leafLines}
+use Rattle.box_bytes.specs.Boxes.{fourNumbers, boxBytes, boxesBytes}
+use Rattle.leaf_lines.specs.Leaves.{leafLine, leafLines}
 
 -- the record of curve A at tolerance 44
 abbrev record-a : List ℤ

@@ -2,7 +2,8 @@
 use Prim.Native.Nat.{_-_}
 use borrow.Author.Needs.{needs}
 use Rattle.leaf_lines.specs.Leaves.{leafLines}
-use Rattle.leaf_lines.proofs.LeafLines.{Putting, leaves-start, leaves-more, leaves-all}
+use Rattle.box_bytes.proofs.Boxes.{Putting}
+use Rattle.leaf_lines.proofs.LeafLines.{leaves-start, leaves-more, leaves-all}
 use Rattle.leaf_lines.proofs.put_leaves.Statement.{statement}
 use Rattle.leaf_lines.proofs.put_leaves.Tie as tie
 

@@ -1,8 +1,8 @@
--- `leaf_lines::put_element` meets its contract.
+-- `box_bytes::put_element` meets its contract.
 use borrow.Author.Needs.{needs}
-use Rattle.leaf_lines.proofs.LeafLines.{element-put}
-use Rattle.leaf_lines.proofs.put_element.Statement.{statement}
-use Rattle.leaf_lines.proofs.put_element.Tie as tie
+use Rattle.box_bytes.proofs.Boxes.{element-put}
+use Rattle.box_bytes.proofs.put_element.Statement.{statement}
+use Rattle.box_bytes.proofs.put_element.Tie as tie
 
 mul-value : tie.Need-mul-value
 mul-value c = search needs

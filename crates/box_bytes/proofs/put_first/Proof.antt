@@ -1,8 +1,8 @@
--- `leaf_lines::put_first` meets its contract.
+-- `box_bytes::put_first` meets its contract.
 use borrow.Author.Needs.{needs}
-use Rattle.leaf_lines.proofs.LeafLines.{first-put}
-use Rattle.leaf_lines.proofs.put_first.Statement.{statement}
-use Rattle.leaf_lines.proofs.put_first.Tie as tie
+use Rattle.box_bytes.proofs.Boxes.{first-put}
+use Rattle.box_bytes.proofs.put_first.Statement.{statement}
+use Rattle.box_bytes.proofs.put_first.Tie as tie
 
 mul-value : tie.Need-mul-value
 mul-value c = search needs

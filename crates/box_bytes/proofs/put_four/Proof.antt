@@ -1,8 +1,8 @@
--- `leaf_lines::put_four` meets its contract.
+-- `box_bytes::put_four` meets its contract.
 use borrow.Author.Needs.{needs}
-use Rattle.leaf_lines.proofs.LeafLines.{four-put}
-use Rattle.leaf_lines.proofs.put_four.Statement.{statement}
-use Rattle.leaf_lines.proofs.put_four.Tie as tie
+use Rattle.box_bytes.proofs.Boxes.{four-put}
+use Rattle.box_bytes.proofs.put_four.Statement.{statement}
+use Rattle.box_bytes.proofs.put_four.Tie as tie
 
 put-first-requires : tie.Need-put-first-requires
 put-first-requires c κs = search needs

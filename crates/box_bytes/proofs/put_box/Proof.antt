@@ -1,8 +1,8 @@
--- `leaf_lines::put_box` meets its contract.
+-- `box_bytes::put_box` meets its contract.
 use borrow.Author.Needs.{needs}
-use Rattle.leaf_lines.proofs.LeafLines.{box-put}
-use Rattle.leaf_lines.proofs.put_box.Statement.{statement}
-use Rattle.leaf_lines.proofs.put_box.Tie as tie
+use Rattle.box_bytes.proofs.Boxes.{box-put}
+use Rattle.box_bytes.proofs.put_box.Statement.{statement}
+use Rattle.box_bytes.proofs.put_box.Tie as tie
 
 slice-aggregate-put-word : tie.Need-slice-aggregate-put-word
 slice-aggregate-put-word c = search needs

@@ -1,10 +1,10 @@
--- `leaf_lines::put_boxes` meets its contract. The loop's invariant: so many boxes are put.
+-- `box_bytes::put_boxes` meets its contract. The loop's invariant: so many boxes are put.
 use Prim.Native.Nat.{_-_}
 use borrow.Author.Needs.{needs}
-use Rattle.leaf_lines.specs.Leaves.{boxesBytes}
-use Rattle.leaf_lines.proofs.LeafLines.{Putting, boxes-start, boxes-more, boxes-all}
-use Rattle.leaf_lines.proofs.put_boxes.Statement.{statement}
-use Rattle.leaf_lines.proofs.put_boxes.Tie as tie
+use Rattle.box_bytes.specs.Boxes.{boxesBytes}
+use Rattle.box_bytes.proofs.Boxes.{Putting, boxes-start, boxes-more, boxes-all}
+use Rattle.box_bytes.proofs.put_boxes.Statement.{statement}
+use Rattle.box_bytes.proofs.put_boxes.Tie as tie
 
 abbrev Inv-loop : tie.InvT-loop
 Inv-loop ns k out₀ from at₀ i₀ out at i = Putting 50 (boxesBytes ns k) 4 out₀ «from» out at i

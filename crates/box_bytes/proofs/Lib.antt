@@ -1,0 +1,2 @@
+-- Laws of the bytes of boxes. Each file opens with what it holds.
+pub mod Boxes
