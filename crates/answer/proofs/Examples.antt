@@ -24,7 +24,8 @@ use Rattle.forms.specs.Forms as Forms
 use Rattle.text.specs.Lines.{linesFrom, linesOf, gather}
 use Rattle.text.specs.Meaning.{numbersOf, faultFrom, meaningOf, meaning}
 use Rattle.text.proofs.Examples.{listing}
-use Rattle.decimals.specs.Decimals.{digits, decimal, spaced, spacedNatural}
+use Rattle.digits.specs.Digits.{digits}
+use Rattle.decimals.specs.Decimals.{decimal, spaced, spacedNatural}
 use Rattle.render.specs.Answers.{doneLine, refusedLine}
 use Rattle.box_bytes.specs.Boxes.{fourNumbers, boxBytes, boxesBytes}
 use Rattle.leaf_lines.specs.Leaves.{leafLine, leafLines}

@@ -2,7 +2,8 @@
 use mathlib.Core.Path.{_≡_, refl}
 use mathlib.Core.List.{[], _∷_}
 use lib.IntN.{pos, negℤ}
-use Rattle.decimals.specs.Decimals.{digits, decimal, spaced, spacedNatural}
+use Rattle.digits.specs.Digits.{digits}
+use Rattle.decimals.specs.Decimals.{decimal, spaced, spacedNatural}
 
 pub zero-written : decimal (pos 0) ≡ 48 ∷ []
 unfolding decimal digits

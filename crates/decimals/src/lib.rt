@@ -1,12 +1,13 @@
 // Words and decimal numbers put into a list of bytes, one after the other. Each function asks for the room that it may need, and returns the place after what
 // it has put.
 ghost use mathlib.Core.Path.{_≡_};
-ghost use mathlib.Core.List.{[], _∷_};
-ghost use Prim.Native.Nat.{_+_, _≤_, _<_};
+ghost use Prim.Native.Nat.{_+_, _≤_};
 ghost use lib.ListN.{length};
 ghost use lib.IntN.{natAbs};
 ghost use Rattle.appends.specs.Appends.{Appended, Within};
-ghost use Rattle.decimals.specs.Decimals.{digits, decimal, spaced, spacedNatural};
+ghost use Rattle.decimals.specs.Decimals.{decimal, spaced, spacedNatural};
+use digits::put_byte;
+use digits::put_digits;
 
 // A space and a number.
 pub fn put_spaced(out: &mut [u8], at: usize, value: i32) -> usize
@@ -51,29 +52,6 @@ pub fn put_word(out: &mut [u8], at: usize, word: &[u8]) -> usize
         j += 1;
     }
     at + j
-}
-
-// The digits of n, the last `places` of them at most.
-fn put_digits(out: &mut [u8], at: usize, n: u64, places: usize) -> usize
-    requires { ⌜ at + places ≤ length (now out) ⌝ }
-    ensures { λ r. ⌜ Within (now (out .entry)) at places (digits places n) (now (out .exit)) r ⌝ }
-{
-    if places == 0 {
-        return at;
-    }
-    if n < 10 {
-        return put_byte(out, at, 48 + (n as u8));
-    }
-    let i = put_digits(out, at, n / 10, places - 1);
-    put_byte(out, i, 48 + ((n % 10) as u8))
-}
-
-fn put_byte(out: &mut [u8], at: usize, b: u8) -> usize
-    requires { ⌜ at < length (now out) ⌝ }
-    ensures { λ r. ⌜ Appended (now (out .entry)) at (b ∷ []) (now (out .exit)) r ⌝ }
-{
-    out[at] = b;
-    at + 1
 }
 
 // The absolute value.

@@ -17,7 +17,8 @@ use Rattle.numerals.specs.declared.Natural.the-variants.{Is as IsNatural, Nothi
 use Rattle.numerals.specs.Numerals.{byte, isDigit, valueFrom, digitCount, naturalAt, plus, minus, numberAt}
 use Rattle.numerals.proofs.Places.{byte-first, byte-inside}
 use Rattle.numerals.proofs.Runs.{value-grows}
-use Rattle.decimals.specs.Decimals.{digits, decimal}
+use Rattle.digits.specs.Digits.{digits}
+use Rattle.decimals.specs.Decimals.{decimal}
 use Rattle.exact_lines.specs.Written.{Written}
 
 -- ---- how many places are allowed does not matter, where there are enough

@@ -14,7 +14,8 @@ use lib.Signed.{mag}
 use Rattle.numerals.specs.declared.Number.the-variants.{Is}
 use Rattle.numerals.specs.declared.Natural.the-variants.{Is as IsNatural}
 use Rattle.numerals.specs.Numerals.{byte, isDigit, valueFrom, digitCount, naturalAt, numberAt}
-use Rattle.decimals.specs.Decimals.{digits, decimal}
+use Rattle.digits.specs.Digits.{digits}
+use Rattle.decimals.specs.Decimals.{decimal}
 use Rattle.exact_lines.specs.Written.{Written}
 use Rattle.exact_lines.proofs.Decimals.{zero-decimal, positive-decimal, negative-decimal}
 

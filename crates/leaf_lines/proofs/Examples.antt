@@ -2,7 +2,8 @@
 use mathlib.Core.Path.{_≡_, refl}
 use mathlib.Core.List.{List, [], _∷_}
 use lib.IntN.{ℤ, pos}
-use Rattle.decimals.specs.Decimals.{digits, decimal, spaced}
+use Rattle.digits.specs.Digits.{digits}
+use Rattle.decimals.specs.Decimals.{decimal, spaced}
 use Rattle.box_bytes.specs.Boxes.{fourNumbers, boxBytes, boxesBytes}
 use Rattle.leaf_lines.specs.Leaves.{leafLine, leafLines}
 

@@ -16,7 +16,8 @@ use Rattle.refusals.specs.declared.Refusal.the-variants.{PointX, PointY}
 use Rattle.boxes.specs.Ranges.{inRange}
 use Rattle.appends.specs.Appends.{Appended, Within}
 use Rattle.appends.proofs.Appends.{append-none, append-both, appended-length, within}
-use Rattle.decimals.specs.Decimals.{digits, spacedNatural}
+use Rattle.digits.specs.Digits.{digits}
+use Rattle.decimals.specs.Decimals.{spacedNatural}
 use Rattle.forms.specs.declared.Points.{Points}
 use Rattle.forms.specs.declared.Form.{Form}
 use Rattle.forms.specs.declared.Form.the-variants.{Tolerance, Curve, Point, NoForm}

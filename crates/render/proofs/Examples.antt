@@ -2,7 +2,8 @@
 use mathlib.Core.Path.{_≡_, refl}
 use mathlib.Core.List.{[], _∷_}
 use Rattle.refusals.specs.declared.Refusal.the-variants.{PointX, TextTooLong, TooWide}
-use Rattle.decimals.specs.Decimals.{digits, spacedNatural}
+use Rattle.digits.specs.Digits.{digits}
+use Rattle.decimals.specs.Decimals.{spacedNatural}
 use Rattle.render.specs.Answers.{doneLine, refusedLine}
 
 -- "(done 1 1 1)"

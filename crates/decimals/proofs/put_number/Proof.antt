@@ -1,12 +1,10 @@
 -- `decimals::put_number` meets its contract: one law a return.
-use Rattle.decimals.proofs.Digits.{number-plus, number-minus}
+use Rattle.decimals.proofs.Numbers.{number-plus, number-minus}
 use borrow.Author.Needs.{needs}
 use Rattle.decimals.proofs.put_number.Statement.{statement}
 use Rattle.decimals.proofs.put_number.Tie as tie
 use Rattle.decimals.proofs.put_number.Reads as reads
 use Rattle.decimals.proofs.put_number.Lts as lts
-use Rattle.decimals.proofs.put_byte.Reads as put-byte-reads
-use Rattle.decimals.proofs.put_digits.Reads as put-digits-reads
 
 magnitude-requires : tie.Need-magnitude-requires
 magnitude-requires c κs = search needs

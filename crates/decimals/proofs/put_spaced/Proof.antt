@@ -1,11 +1,10 @@
 -- `decimals::put_spaced` meets its contract.
-use Rattle.decimals.proofs.Digits.{spaced-number}
+use Rattle.decimals.proofs.Numbers.{spaced-number}
 use borrow.Author.Needs.{needs}
 use Rattle.decimals.proofs.put_spaced.Statement.{statement}
 use Rattle.decimals.proofs.put_spaced.Tie as tie
 use Rattle.decimals.proofs.put_spaced.Reads as reads
 use Rattle.decimals.proofs.put_spaced.Lts as lts
-use Rattle.decimals.proofs.put_byte.Reads as put-byte-reads
 use Rattle.decimals.proofs.put_number.Reads as put-number-reads
 
 put-byte-requires : tie.Need-put-byte-requires

@@ -1,12 +1,10 @@
 -- `decimals::put_spaced_natural` meets its contract.
-use Rattle.decimals.proofs.Digits.{spaced-natural}
+use Rattle.decimals.proofs.Numbers.{spaced-natural}
 use borrow.Author.Needs.{needs}
 use Rattle.decimals.proofs.put_spaced_natural.Statement.{statement}
 use Rattle.decimals.proofs.put_spaced_natural.Tie as tie
 use Rattle.decimals.proofs.put_spaced_natural.Reads as reads
 use Rattle.decimals.proofs.put_spaced_natural.Lts as lts
-use Rattle.decimals.proofs.put_byte.Reads as put-byte-reads
-use Rattle.decimals.proofs.put_digits.Reads as put-digits-reads
 
 put-byte-requires : tie.Need-put-byte-requires
 put-byte-requires c κs = search needs

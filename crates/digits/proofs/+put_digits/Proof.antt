@@ -1,15 +1,15 @@
--- `decimals::put_digits` meets its contract: one law a return. The measure is `places`.
+-- `digits::put_digits` meets its contract: one law a return. The measure is `places`.
 use borrow.Author.Needs.{needs}
-use Rattle.decimals.proofs.Digits.{digits-none, digits-one, digits-more}
+use Rattle.digits.proofs.Digits.{digits-none, digits-one, digits-more}
 use Prim.Native.Nat.{ℕ, _<_}
 use borrow.Fn.Kinds.{In}
 use borrow.Fn.PlainCycle.{Measures, is, falls, and}
-use Rattle.decimals.proofs.put_digits.Reads as put-digits
-use Rattle.decimals.proofs.put_digits.Kinds as put-digits-kinds
-use Rattle.decimals.proofs.+put_digits.Lts-put_digits as put-digits-lts
-use Rattle.decimals.proofs.put_byte.Reads as put-byte-reads
-use Rattle.decimals.proofs.+put_digits.{statement}
-use Rattle.decimals.proofs.+put_digits.Tie.{close}
+use Rattle.digits.proofs.put_digits.Reads as put-digits
+use Rattle.digits.proofs.put_digits.Kinds as put-digits-kinds
+use Rattle.digits.proofs.+put_digits.Lts-put_digits as put-digits-lts
+use Rattle.digits.proofs.put_byte.Reads as put-byte-reads
+use Rattle.digits.proofs.+put_digits.{statement}
+use Rattle.digits.proofs.+put_digits.Tie.{close}
 
 abbrev μ-put-digits : Measures 1 put-digits-kinds.ps ℕ
 μ-put-digits κs a = a .1 .1 .1 .0

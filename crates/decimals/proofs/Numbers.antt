@@ -1,10 +1,9 @@
 -- What each way through the functions that put numbers leaves.
 use mathlib.Core.Path.{_≡_, sym, ap, _∙_, subst}
 use mathlib.Core.Bool.{Bool, true, false}
-use mathlib.Core.List.{List, [], _∷_, _++_}
-use Prim.Native.Nat.{ℕ, suc, _+_, _-_, _/_, _%_, _^_, _≤_, _<_}
+use mathlib.Core.List.{List, [], _∷_}
+use Prim.Native.Nat.{ℕ}
 use native.Mathlib.Omega.{arith}
-use borrow.Author.Tests.{lt-ltb, le-ltb}
 use lib.IntN.{ℤ, pos, natAbs}
 use lib.Signed.{ltZ}
 use mir.Syntax.{w32}
@@ -12,29 +11,9 @@ use mir.Val.{SFits}
 use mir.Facts.{toZ-ofZ}
 use Rattle.integers.proofs.Ranges.{stored}
 use Rattle.appends.specs.Appends.{Appended, Within}
-use Rattle.appends.proofs.Appends.{append-none, append-both, within}
-use Rattle.decimals.specs.Decimals.{digits, decimal, spaced, spacedNatural}
-
--- ---- digits: no place, a digit alone, the digits before the last and the last
-module _ (d : List ℕ) (i n places : ℕ) where
-  pub digits-none : places ≡ 0 → Within d i places (digits places n) d i
-  unfolding digits
-  digits-none e = rw e (within (append-none d i) (omega arith))
-
-  module _ (h : places ≡ 0 → ⊥) where
-    one-more : digits places n ≡ digits (suc (places - 1)) n
-    one-more = ap (λ (k : ℕ). digits k n) (omega arith)
-
-    pub digits-one : (o : List ℕ) (j : ℕ) → n < 10 → Appended d i ((48 + n) ∷ []) o j → Within d i places (digits places n) o j
-    unfolding digits
-    digits-one o j l a = within (subst (λ (xs : List ℕ). Appended d i xs o j) (sym (one-more ∙ simp (lt-ltb _ _ l))) a) (omega (arith, a .next))
-
-    pub digits-more : (o : List ℕ) (j : ℕ) → 10 ≤ n → Within d i (places - 1) (digits (places - 1) (n / 10)) o j → (u : List ℕ) (k : ℕ) → Appended o j ((48 + n % 10) ∷ []) u k → Within d i places (digits places n) u k
-    unfolding digits
-    digits-more o j l a u k b =
-        within
-        (subst (λ (xs : List ℕ). Appended d i xs u k) (sym (one-more ∙ simp (le-ltb _ _ l))) (append-both d o u (digits (places - 1) (n / 10)) ((48 + n % 10) ∷ []) i j k (a .put) b))
-        (omega (arith, a .small, b .next))
+use Rattle.appends.proofs.Appends.{append-both, within}
+use Rattle.digits.specs.Digits.{digits}
+use Rattle.decimals.specs.Decimals.{decimal, spaced, spacedNatural}
 
 -- ---- a number: its absolute value is n
 module _ (d : List ℕ) (i : ℕ) (z : ℤ) (n : ℕ) (m : n ≡ natAbs (stored w32 z)) (h : SFits w32 z) where

@@ -1,0 +1,2 @@
+-- Laws of digits that are written. Each file opens with what it holds.
+pub mod Digits
