@@ -3,7 +3,7 @@ ghost use mathlib.Core.Path.{_≡_};
 ghost use Prim.Native.Nat.{_≤_, _^_};
 ghost use lib.IntN.{natAbs};
 ghost use Rattle.boxes.specs.Ranges.{farthest};
-ghost use Rattle.held.specs.Deciding.{SmallWeights, SmallRange, SmallSides, BoxInRange, ordered, later, earlier, sidesOf, sidesX, sidesY, outside, apart, cut, cutSides, heldBy, held};
+ghost use Rattle.held.specs.Deciding.{SmallWeights, SmallRange, SmallSides, BoxInRange, ordered, later, earlier, sidesX, sidesY, outside, apart, cut, cutSides, heldBy, held};
 use boxes::Box;
 
 // The weights of two boxes, not both 0.

@@ -3,12 +3,11 @@ use mathlib.Core.Path.{_≡_, refl, sym, _∙_, ap, subst}
 use mathlib.Core.Bool.{Bool, true, false, not, _&&_}
 use mathlib.Core.List.{List}
 use mathlib.Core.Option.{Option, none, some}
-use Prim.Native.Nat.{ℕ, suc, _+_, _*_, _/_, _%_, _≤_, _<_}
+use Prim.Native.Nat.{ℕ, suc, _+_, _*_, _/_, _%_, _<_}
 use native.Mathlib.Omega.{arith}
 use lib.Dec.{T, eqb, eqb→eq}
 use lib.ListN.{length}
 use lib.IntN.{ℤ}
-use Rattle.integers.specs.First.{firstBad}
 use Rattle.integers.proofs.Clash.{clash}
 use Rattle.integers.proofs.First.{none-bad, bad-is, bad-below}
 use Rattle.boxes.specs.Records.{covers, recordLength, boxIndex, boxAtIndex}

@@ -1,6 +1,6 @@
 -- Numerals at the edges, each by computation: leading zeros, −0, the ends of 32 bits, and digits without end.
 use mathlib.Core.Path.{_≡_, refl}
-use mathlib.Core.List.{List, [], _∷_, _++_}
+use mathlib.Core.List.{List, [], _∷_}
 use Prim.Native.Nat.{ℕ}
 use lib.IntN.{pos, negℤ}
 use lib.ListN.{replicate}

@@ -1,5 +1,4 @@
 // The outline that a text gives: the numbers of its curves, put into a list one after the other.
-ghost use mathlib.Core.Path.{_≡_};
 ghost use mathlib.Core.List.{[], _∷_};
 ghost use Prim.Native.Nat.{_+_, _≤_, _<_};
 ghost use lib.ListN.{length};

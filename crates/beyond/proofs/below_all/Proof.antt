@@ -1,4 +1,4 @@
--- `judge::beyond::below_all` meets its contract. The loop's invariant: the first i numbers pass.
+-- `beyond::below_all` meets its contract. The loop's invariant: the first i numbers pass.
 use mathlib.Core.Bool.{true, false}
 use Prim.Native.Nat.{_+_, _*_, _-_}
 use native.Mathlib.Omega.{arith}

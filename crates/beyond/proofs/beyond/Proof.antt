@@ -1,4 +1,4 @@
--- `judge::beyond::beyond` meets its contract: below, or else above.
+-- `beyond::beyond` meets its contract: below, or else above.
 use mathlib.Core.Path.{sym, _∙_}
 use mir.Facts.{toZ-ofZ}
 use borrow.Author.Needs.{needs}

@@ -1,4 +1,4 @@
--- `band::count::count` meets its contract. The loop's invariant: with k curves done and so many leaves counted, the whole outline's answer is what the
+-- `passes::count` meets its contract. The loop's invariant: with k curves done and so many leaves counted, the whole outline's answer is what the
 -- rest of it gives, counted on. The measure is the number of curves left.
 use mathlib.Core.Path.{_≡_, sym, _∙_, ap}
 use Prim.Native.Nat.{_-_}
