@@ -10,7 +10,6 @@ use native.Mathlib.Omega.{arith}
 use native.Mathlib.Numerals.{add-one, add-two}
 use lib.Dec.{T, leb, ltb, leb→le, lit<}
 use lib.Pow.{pow-mono, pow-pos}
-use lib.ListN.{length}
 use lib.IntN.{ℤ, pos, natAbs, negℤ, _+ℤ_, _-ℤ_, _*ℤ_, +ℤ-idl, +ℤ-idr}
 use lib.Signed.{ltZ, shrZ, quotZ, _<ℤ_, ltZ-yes}
 use mir.Syntax.{w64}
@@ -18,7 +17,7 @@ use mir.Val.{toZ}
 use mir.Facts.{toZ-ofZ, toZ-pos}
 use Rattle.integers.specs.Entry.{entry}
 use Rattle.integers.specs.Rounding.{floor, ceiling}
-use Rattle.integers.proofs.Table.{every, at, and-left, and-right}
+use Rattle.integers.proofs.Table.{and-left, and-right}
 use Rattle.integers.proofs.Ring.{ring, sides}
 use Rattle.integers.proofs.Ranges.{stored}
 use Rattle.integers.proofs.Size.{fits-size, abs-neg, abs-high, abs-low}
@@ -33,7 +32,7 @@ use Rattle.halves.proofs.Halving.{held-entry}
 use Rattle.enclosure.specs.Rows.{pieces, thirds}
 use Rattle.enclosure.specs.Bounds.{rowSum, high}
 use Rattle.enclosure.specs.Thirds.{over, highOf, lowOf}
-use Rattle.row_sums.specs.Terms.{Readable, Small, Holds, HoldsFour, numerator, highs, lows, term, opposite}
+use Rattle.row_sums.specs.Terms.{Readable, Small, Holds, HoldsFour, numerator, term, opposite}
 use Rattle.enclosure.proofs.Negated.{negated, entry-negated}
 use Rattle.enclosure.proofs.Negation.{low-is}
 use Rattle.enclosure.proofs.Reduced.{high-reduced}
@@ -62,22 +61,7 @@ held-holds {B} {z} {r} h = record { value = z; bound = B; test = true; is = λ t
 abbrev pub held-small : {B : ℕ} {z : ℤ} → Small B z → Held z
 held-small {B} {z} h = record { value = z; bound = B; test = true; is = λ t. refl; under = λ t. h .size }
 
-abbrev pub small? : ℕ → ℤ → Bool
-small? k x = leb (natAbs x) 4400
-
-pub small-at : (xs : List ℤ) → T (every small? 0 xs) → (k : ℕ) → k < length xs → natAbs (entry xs k) ≤ 4400
-small-at xs t k h = leb→le (natAbs (entry xs k)) 4400 (at small? xs (pos 0) t k h)
-
-abbrev pub held-table : (xs : List ℤ) → T (every small? 0 xs) → (k : ℕ) → k < length xs → Held (entry xs k)
-held-table xs t k h = record { value = entry xs k; bound = 4400; test = true; is = λ _. refl; under = λ _. small-at xs t k h }
-
-abbrev pub held-low : (place : ℕ) → place < 12 → Held (entry lows place)
-held-low place h = held-table lows tt place h
-
-abbrev pub held-high : (place : ℕ) → place < 12 → Held (entry highs place)
-held-high place h = held-table highs tt place h
-
-pub ruleset bounded = (held-entry, held-holds, held-small, held-low, held-high, tests)
+pub ruleset bounded = (held-entry, held-holds, held-small, tests)
 
 -- ---- four numbers
 pub each-four : {B : ℕ} {a b c d : ℤ} → natAbs a ≤ B → natAbs b ≤ B → natAbs c ≤ B → natAbs d ≤ B → Each B (a ∷ b ∷ c ∷ d ∷ [])
@@ -89,6 +73,18 @@ each-four {B} {a} {b} {c} {d} ha hb hc hd = record { under = under }
     under (suc (suc zero)) = hc
     under (suc (suc (suc zero))) = hd
     under (suc (suc (suc (suc k)))) = zero-le
+
+-- four numbers whose sizes a computed test bounds
+pub each-by : {B : ℕ} {a b c d : ℤ} → T (leb (natAbs a) B && (leb (natAbs b) B && (leb (natAbs c) B && leb (natAbs d) B))) → Each B (a ∷ b ∷ c ∷ d ∷ [])
+each-by {B} {a} {b} {c} {d} t =
+    let p = leb (natAbs a) B in
+    let q = leb (natAbs b) B in
+    let r = leb (natAbs c) B in
+    let s = leb (natAbs d) B in
+    let u = and-right p (q && (r && s)) t in
+    let v = and-right q (r && s) u in
+    each-four (leb→le (natAbs a) B (and-left p (q && (r && s)) t)) (leb→le (natAbs b) B (and-left q (r && s) u))
+    (leb→le (natAbs c) B (and-left r s v)) (leb→le (natAbs d) B (and-right r s v))
 
 pub four-hold : {B : ℕ} (f : ℕ → ℤ) {a b c d : ℤ} → Holds B (f 0) a → Holds B (f 1) b → Holds B (f 2) c → Holds B (f 3) d → HoldsFour B f (a ∷ b ∷ c ∷ d ∷ [])
 four-hold f ha hb hc hd = record {
@@ -126,34 +122,29 @@ each-small {B} h k t = record { size = subst (λ z. natAbs z ≤ B) (sym (each-s
 pub difference-is : (cs : List ℤ) (k : ℕ) → entry cs k -ℤ pos 2 *ℤ entry cs (k + 1) +ℤ entry cs (k + 2) ≡ difference cs k
 difference-is cs k = ap₂ (λ (a b : ℕ). entry cs k -ℤ pos 2 *ℤ entry cs a +ℤ entry cs b) (add-one k) (add-two k)
 
-pub term-negative : (place : ℕ) (δ : ℤ) → ltZ δ (pos 0) ≡ true → entry lows place *ℤ δ ≡ term place δ
-unfolding term
-term-negative place δ t = ap (λ (b : Bool). cond b (entry lows place) (entry highs place) *ℤ δ) (sym t)
+module _ (high low : List ℤ) (i : ℕ) (δ : ℤ) where
+  pub term-negative : ltZ δ (pos 0) ≡ true → entry low i *ℤ δ ≡ term high low i δ
+  unfolding term
+  term-negative t = ap (λ (b : Bool). cond b (entry low i) (entry high i) *ℤ δ) (sym t)
 
-pub term-other : (place : ℕ) (δ : ℤ) → ltZ δ (pos 0) ≡ false → entry highs place *ℤ δ ≡ term place δ
-unfolding term
-term-other place δ t = ap (λ (b : Bool). cond b (entry lows place) (entry highs place) *ℤ δ) (sym t)
+  pub term-other : ltZ δ (pos 0) ≡ false → entry high i *ℤ δ ≡ term high low i δ
+  unfolding term
+  term-other t = ap (λ (b : Bool). cond b (entry low i) (entry high i) *ℤ δ) (sym t)
 
 -- ---- the sums, by the degree
 pub sum-line : (i : ℕ) (cs : List ℤ) → pos 0 ≡ rowSum (thirds 1) i 0 cs
 unfolding rowSum
 sum-line i cs = refl
 
-pub sum-quadratic : (i : ℕ) (cs : List ℤ) → i < 4 → term i (difference cs 0) ≡ rowSum (thirds 2) i 0 cs
-unfolding rowSum term
-sum-quadratic zero cs h = sym (+ℤ-idr (term 0 (difference cs 0)))
-sum-quadratic (suc zero) cs h = sym (+ℤ-idr (term 1 (difference cs 0)))
-sum-quadratic (suc (suc zero)) cs h = sym (+ℤ-idr (term 2 (difference cs 0)))
-sum-quadratic (suc (suc (suc zero))) cs h = sym (+ℤ-idr (term 3 (difference cs 0)))
-sum-quadratic (suc (suc (suc (suc i)))) cs h = absurd (omega arith)
+-- one row, and two
+module _ (h l : List ℤ) (i : ℕ) (cs : List ℤ) where
+  pub sum-one : term h l i (difference cs 0) ≡ rowSum (record { high = h; low = l } ∷ []) i 0 cs
+  unfolding rowSum term
+  sum-one = sym (+ℤ-idr (term h l i (difference cs 0)))
 
-pub sum-cubic : (i : ℕ) (cs : List ℤ) → i < 4 → term (4 + i) (difference cs 0) +ℤ term (8 + i) (difference cs 1) ≡ rowSum (thirds 3) i 0 cs
-unfolding rowSum term
-sum-cubic zero cs h = ap (λ z. term 4 (difference cs 0) +ℤ z) (sym (+ℤ-idr (term 8 (difference cs 1))))
-sum-cubic (suc zero) cs h = ap (λ z. term 5 (difference cs 0) +ℤ z) (sym (+ℤ-idr (term 9 (difference cs 1))))
-sum-cubic (suc (suc zero)) cs h = ap (λ z. term 6 (difference cs 0) +ℤ z) (sym (+ℤ-idr (term 10 (difference cs 1))))
-sum-cubic (suc (suc (suc zero))) cs h = ap (λ z. term 7 (difference cs 0) +ℤ z) (sym (+ℤ-idr (term 11 (difference cs 1))))
-sum-cubic (suc (suc (suc (suc i)))) cs h = absurd (omega arith)
+  pub sum-two : (h₁ l₁ : List ℤ) → term h l i (difference cs 0) +ℤ term h₁ l₁ i (difference cs 1) ≡ rowSum (record { high = h; low = l } ∷ record { high = h₁; low = l₁ } ∷ []) i 0 cs
+  unfolding rowSum term
+  sum-two h₁ l₁ = ap (λ z. term h l i (difference cs 0) +ℤ z) (sym (+ℤ-idr (term h₁ l₁ i (difference cs 1))))
 
 -- ---- the denominator: a power of 2 by a shift
 pub shift-small : {d k : ℕ} → d ≤ 3 → k ≤ 8 → d * k ≤ 24

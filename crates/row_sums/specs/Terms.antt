@@ -1,14 +1,14 @@
 -- What the contracts of the functions of one coordinate cite, beside the bounds: nothing here is part of a public promise.
 use mathlib.Core.Path.{_≡_}
 use mathlib.Core.Bool.{cond}
-use mathlib.Core.List.{List, [], _∷_, _++_}
+use mathlib.Core.List.{List}
 use Prim.Native.Nat.{ℕ, _≤_, _^_}
 use lib.IntN.{ℤ, pos, natAbs, negℤ, _+ℤ_, _-ℤ_, _*ℤ_}
 use lib.Signed.{ltZ}
 use Rattle.integers.specs.Entry.{entry}
 use Rattle.halves.specs.Halves.{listed}
 use Rattle.halves.specs.Sizes.{Each}
-use Rattle.enclosure.specs.Rows.{Row, pieces, thirds}
+use Rattle.enclosure.specs.Rows.{pieces}
 
 -- a coordinate of degree 1 to 3 that 64 bits have room for
 pub record Readable (cs : List ℤ) (d : ℕ) : Type 0 where
@@ -34,20 +34,9 @@ pub record HoldsFour (B : ℕ) (f : ℕ → ℤ) (rs : List ℤ) : Type 0 where
 abbrev pub numerator : ℕ → (first last sum : ℤ) → ℤ
 numerator i first last sum = pos 10000 *ℤ ((pos pieces -ℤ pos i) *ℤ first +ℤ pos i *ℤ last) +ℤ pos pieces *ℤ sum
 
--- the rows of degrees 2 and 3 in one list: high rows, and low rows
-abbrev pub joined : (Row → List ℤ) → List Row → List ℤ
-joined f [] = []
-joined f (ρ ∷ ρs) = f ρ ++ joined f ρs
-
-abbrev pub highs : List ℤ
-highs = joined (λ ρ. ρ .high) (thirds 2 ++ thirds 3)
-
-abbrev pub lows : List ℤ
-lows = joined (λ ρ. ρ .low) (thirds 2 ++ thirds 3)
-
--- row × difference for a high, with the row's place in the list
-unfoldable pub term : ℕ → ℤ → ℤ
-term place δ = cond (ltZ δ (pos 0)) (entry lows place) (entry highs place) *ℤ δ
+-- row × difference for a high at break point i: the difference chooses its row by its own sign
+unfoldable pub term : (high low : List ℤ) → ℕ → ℤ → ℤ
+term high low i δ = cond (ltZ δ (pos 0)) (entry low i) (entry high i) *ℤ δ
 
 -- four control values, each negated
 abbrev pub opposite : List ℤ → List ℤ

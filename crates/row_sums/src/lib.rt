@@ -1,6 +1,6 @@
 // The sums of row times second difference of one coordinate at the break points.
-ghost use Prim.Native.Nat.{_<_, _≤_, _^_, _*_, _+_};
-ghost use lib.IntN.{_+ℤ_};
+ghost use Prim.Native.Nat.{_<_, _^_, _*_};
+ghost use lib.IntN.{_+ℤ_, _*ℤ_};
 ghost use Rattle.integers.specs.Entry.{entry};
 ghost use Rattle.halves.specs.Sizes.{Each};
 ghost use Rattle.bezier.specs.Differences.{difference};
@@ -8,35 +8,18 @@ ghost use Rattle.enclosure.specs.Rows.{thirds};
 ghost use Rattle.enclosure.specs.Bounds.{rowSum};
 ghost use Rattle.row_sums.specs.Terms.{Readable, Small, Holds, HoldsFour, term};
 
-// The high rows and the low rows: degree 2, then the first and the second of degree 3, four break points each.
-const HIGH: [i64; 12] = [0, -2222, -2222, 0, 0, -3703, -2962, 0, 0, -2962, -3703, 0];
+// The rows, high and low, at the four break points: of degree 2, and the first and the second of degree 3.
+const HIGH: [i64; 4] = [0, -2222, -2222, 0];
 
-const LOW: [i64; 12] = [
-    -278,
-    -2500,
-    -2500,
-    -278,
-    -696,
-    -4400,
-    -3155,
-    -88,
-    -88,
-    -3155,
-    -4400,
-    -696,
-];
+const LOW: [i64; 4] = [-278, -2500, -2500, -278];
 
-// Row times difference for a high: the difference chooses its row by its own sign.
-fn row_term(place: usize, difference: i64) -> i64
-    requires { ⌜ (place < 12) × (Small (2 ^ 46) difference) ⌝ }
-    ensures { λ r. ⌜ Holds (4400 * 2 ^ 46) (term place difference) r ⌝ }
-{
-    if difference < 0 {
-        LOW[place] * difference
-    } else {
-        HIGH[place] * difference
-    }
-}
+const HIGH_FIRST: [i64; 4] = [0, -3703, -2962, 0];
+
+const LOW_FIRST: [i64; 4] = [-696, -4400, -3155, -88];
+
+const HIGH_SECOND: [i64; 4] = [0, -2962, -3703, 0];
+
+const LOW_SECOND: [i64; 4] = [-88, -3155, -4400, -696];
 
 // The second difference of the control values from place k on.
 pub fn difference_at(c: [i64; 4], k: usize) -> i64
@@ -46,16 +29,29 @@ pub fn difference_at(c: [i64; 4], k: usize) -> i64
     c[k] - 2 * c[k + 1] + c[k + 2]
 }
 
-// Row times difference at the four break points, for the row that begins at a place.
-fn row_terms(place: usize, difference: i64) -> [i64; 4]
-    requires { ⌜ (place ≤ 8) × (Small (2 ^ 46) difference) ⌝ }
-    ensures { λ r. ⌜ HoldsFour (4400 * 2 ^ 46) (λ i. term (place + i) difference) r ⌝ }
+// A row times a difference.
+fn row_times(row: [i64; 4], difference: i64) -> [i64; 4]
+    requires { ⌜ (Each 4400 row) × (Small (2 ^ 46) difference) ⌝ }
+    ensures { λ r. ⌜ HoldsFour (4400 * 2 ^ 46) (λ i. entry row i *ℤ difference) r ⌝ }
 {
-    let t0 = row_term(place, difference);
-    let t1 = row_term(place + 1, difference);
-    let t2 = row_term(place + 2, difference);
-    let t3 = row_term(place + 3, difference);
-    [t0, t1, t2, t3]
+    [
+        row[0] * difference,
+        row[1] * difference,
+        row[2] * difference,
+        row[3] * difference,
+    ]
+}
+
+// Row times difference for a high: the difference chooses its row by its own sign.
+fn row_terms(high: [i64; 4], low: [i64; 4], difference: i64) -> [i64; 4]
+    requires { ⌜ (Each 4400 high) × (Each 4400 low) × (Small (2 ^ 46) difference) ⌝ }
+    ensures { λ r. ⌜ HoldsFour (4400 * 2 ^ 46) (λ i. term high low i difference) r ⌝ }
+{
+    if difference < 0 {
+        row_times(low, difference)
+    } else {
+        row_times(high, difference)
+    }
 }
 
 // The sums of the terms of two rows.
@@ -73,10 +69,10 @@ pub fn row_sums(c: [i64; 4], degree: u32) -> [i64; 4]
 {
     match degree {
         1 => [0, 0, 0, 0],
-        2 => row_terms(0, difference_at(c, 0)),
+        2 => row_terms(HIGH, LOW, difference_at(c, 0)),
         _ => added(
-            row_terms(4, difference_at(c, 0)),
-            row_terms(8, difference_at(c, 1)),
+            row_terms(HIGH_FIRST, LOW_FIRST, difference_at(c, 0)),
+            row_terms(HIGH_SECOND, LOW_SECOND, difference_at(c, 1)),
         ),
     }
 }

@@ -1,13 +1,13 @@
 -- The sums of row times difference, by the degree.
 use mathlib.Core.Path.{_≡_, _∙_, ap, ap₂}
-use Prim.Native.Nat.{_+_, zero-le}
+use Prim.Native.Nat.{zero-le}
 use native.Mathlib.Omega.{arith}
 use lib.IntN.{_+ℤ_}
 use borrow.Author.Needs.{needs}
 use Rattle.enclosure.specs.Rows.{thirds}
 use Rattle.enclosure.specs.Bounds.{rowSum}
 use Rattle.row_sums.specs.Terms.{term}
-use Rattle.row_sums.proofs.Coordinates.{four-hold, four-as, one-of, stored-is, sum-line, sum-quadratic, sum-cubic}
+use Rattle.row_sums.proofs.Coordinates.{each-by, four-hold, four-as, one-of, stored-is, sum-line, sum-one, sum-two}
 use Rattle.row_sums.proofs.row_sums.Statement.{statement}
 use Rattle.row_sums.proofs.row_sums.Tie as tie
 
@@ -15,19 +15,19 @@ difference-at-requires : tie.Need-difference-at-requires
 difference-at-requires c κs = search needs
 
 row-terms-requires : tie.Need-row-terms-requires
-row-terms-requires c κs = search needs
+row-terms-requires c κs = (each-by tt, each-by tt, search needs)
 
 difference-at-requires-2 : tie.Need-difference-at-requires-2
 difference-at-requires-2 c κs = search needs
 
 row-terms-requires-2 : tie.Need-row-terms-requires-2
-row-terms-requires-2 c κs = search needs
+row-terms-requires-2 c κs = (each-by tt, each-by tt, search needs)
 
 difference-at-requires-3 : tie.Need-difference-at-requires-3
 difference-at-requires-3 c κs = search needs
 
 row-terms-requires-3 : tie.Need-row-terms-requires-3
-row-terms-requires-3 c κs = search needs
+row-terms-requires-3 c κs = (each-by tt, each-by tt, search needs)
 
 added-requires : tie.Need-added-requires
 added-requires c κs = search needs
@@ -41,7 +41,7 @@ returns c =
 returns-2 : tie.Need-returns-2
 returns-2 c =
     let b = c .before .before in
-    rw (b .match .keys2) (four-as tt (λ i h. ap₂ term {x = 0 + i} {y = i} (omega arith) (stored-is (c .before .difference-at .ensures) tt) ∙ sum-quadratic i (b .before .args .c) h) (c .row-terms .ensures))
+    rw (b .match .keys2) (four-as tt (λ i h. ap (term _ _ i) (stored-is (c .before .difference-at .ensures) tt) ∙ sum-one _ _ i (b .before .args .c)) (c .row-terms .ensures))
 
 returns-3 : tie.Need-returns-3
 returns-3 c =
@@ -49,9 +49,9 @@ returns-3 c =
     let e : b .before .args .degree ≡ 3 = omega arith in
     rw e (four-as tt (λ i h.
     ap₂ _+ℤ_
-    (one-of (c .before .before .before .row-terms2 .ensures) i h .is ∙ ap (term (4 + i)) (stored-is (c .before .before .before .before .difference-at2 .ensures) tt))
-    (one-of (c .before .row-terms3 .ensures) i h .is ∙ ap (term (8 + i)) (stored-is (c .before .before .difference-at3 .ensures) tt))
-    ∙ sum-cubic i (b .before .args .c) h) (c .added .ensures))
+    (one-of (c .before .before .before .row-terms2 .ensures) i h .is ∙ ap (term _ _ i) (stored-is (c .before .before .before .before .difference-at2 .ensures) tt))
+    (one-of (c .before .row-terms3 .ensures) i h .is ∙ ap (term _ _ i) (stored-is (c .before .before .difference-at3 .ensures) tt))
+    ∙ sum-two _ _ i (b .before .args .c) _ _) (c .added .ensures))
 
 pub row-sums-spec : {M : Type 1} → statement M
 row-sums-spec =

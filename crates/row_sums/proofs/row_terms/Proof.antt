@@ -1,55 +1,34 @@
--- Row times difference at the four break points.
-use mathlib.Core.Path.{ap, ap₂}
-use Prim.Native.Nat.{_+_}
-use native.Mathlib.Omega.{arith}
+-- Row times difference at the four break points: the sign of the difference chooses the row.
+use mathlib.Core.Path.{_∙_, ap}
+use lib.IntN.{_*ℤ_}
 use mir.Facts.{toZ-ofZ}
 use borrow.Author.Needs.{needs}
-use Rattle.row_sums.specs.Terms.{term}
-use Rattle.row_sums.proofs.Coordinates.{holds-as, restored, four-hold}
+use Rattle.integers.specs.Entry.{entry}
+use Rattle.row_sums.proofs.Coordinates.{four-as, term-negative, term-other}
 use Rattle.row_sums.proofs.row_terms.Statement.{statement}
 use Rattle.row_sums.proofs.row_terms.Tie as tie
 
-row-term-requires : tie.Need-row-term-requires
-row-term-requires c κs = search needs
+row-times-requires : tie.Need-row-times-requires
+row-times-requires c κs = search needs
 
-add-row-term : tie.Need-add-row-term
-add-row-term c = search needs
-
-row-term-requires-2 : tie.Need-row-term-requires-2
-row-term-requires-2 c κs = search needs
-
-add-row-term-2 : tie.Need-add-row-term-2
-add-row-term-2 c = search needs
-
-row-term-requires-3 : tie.Need-row-term-requires-3
-row-term-requires-3 c κs = search needs
-
-add-row-term-3 : tie.Need-add-row-term-3
-add-row-term-3 c = search needs
-
-row-term-requires-4 : tie.Need-row-term-requires-4
-row-term-requires-4 c κs = search needs
+row-times-requires-2 : tie.Need-row-times-requires-2
+row-times-requires-2 c κs = search needs
 
 returns : tie.Need-returns
 returns c =
-    let s = c .before .before .before .before in
+    let s = c .before .before in
     let a = s .args in
     let e = toZ-ofZ (s .fits .difference) in
-    four-hold (λ i. term (a .place + i) (a .difference))
-    (restored (holds-as (ap₂ term {x = a .place} {y = a .place + 0} (omega arith) e) (c .before .before .before .row-term .ensures)) tt)
-    (restored (holds-as (ap (term (a .place + 1)) e) (c .before .before .row-term2 .ensures)) tt)
-    (restored (holds-as (ap (term (a .place + 2)) e) (c .before .row-term3 .ensures)) tt)
-    (restored (holds-as (ap (term (a .place + 3)) e) (c .row-term4 .ensures)) tt)
+    let t = rw e at (c .before .if1 .taken) in
+    four-as tt (λ i h. ap (λ d. entry (a .low) i *ℤ d) e ∙ term-negative (a .high) (a .low) i (a .difference) t) (c .row-times .ensures)
+
+returns-2 : tie.Need-returns-2
+returns-2 c =
+    let s = c .before .before in
+    let a = s .args in
+    let e = toZ-ofZ (s .fits .difference) in
+    let t = rw e at (c .before .if1 .left) in
+    four-as tt (λ i h. ap (λ d. entry (a .high) i *ℤ d) e ∙ term-other (a .high) (a .low) i (a .difference) t) (c .row-times2 .ensures)
 
 pub row-terms-spec : {M : Type 1} → statement M
-row-terms-spec =
-    tie.close
-    (tie.spec
-    row-term-requires
-    add-row-term
-    row-term-requires-2
-    add-row-term-2
-    row-term-requires-3
-    add-row-term-3
-    row-term-requires-4
-    returns)
+row-terms-spec = tie.close (tie.spec row-times-requires row-times-requires-2 returns returns-2)
