@@ -20,6 +20,8 @@ use Rattle.numerals.proofs.Runs.{value-grows}
 use Rattle.digits.specs.Digits.{digits}
 use Rattle.decimals.specs.Decimals.{decimal}
 use Rattle.exact_lines.specs.Written.{Written}
+use Rattle.integers.proofs.Clash.{clash}
+use Rattle.integers.proofs.Both.{both-true}
 
 -- ---- how many places are allowed does not matter, where there are enough
 one-more : (p k n : ℕ) → 10 ≤ n → digits p (n / 10) ≡ digits k (n / 10) → digits (suc p) n ≡ digits (suc k) n
@@ -56,18 +58,9 @@ last-digit p v d l h =
     let g : 10 ≤ 10 * v + d = omega arith in
     simp (le-ltb _ _ g, q, r)
 
--- ---- two constructors are never equal
-pub clash : {X : Type 0} → _≡_ {A = ℕ} 0 1 → X
-clash e = absurd (omega arith)
-
 -- ---- a digit is a byte from 48 to 57
-and-true : (a b : Bool) → (a && b) ≡ true → (a ≡ true) × (b ≡ true)
-and-true true true e = (refl, refl)
-and-true true false e = clash (cc)
-and-true false b e = clash (cc)
-
 digit-range : (b : ℕ) → isDigit b ≡ true → (48 ≤ b) × (b ≤ 57)
-digit-range b e = let r = and-true (leb 48 b) (leb b 57) e in (leb-true 48 b (r .0), leb-true b 57 (r .1))
+digit-range b e = let r = both-true (leb 48 b) (leb b 57) e in (leb-true 48 b (r .0), leb-true b 57 (r .1))
 
 -- ---- the digits that bytes start with, after a number v of which p + 1 places are written
 read-digits : (bs : List ℕ) (p v : ℕ) → 1 ≤ v → digits (suc p + digitCount bs) (valueFrom v bs) ≡ digits (suc p) v ++ take (digitCount bs) bs

@@ -9,6 +9,7 @@ use lib.Dec.{eqb}
 use lib.ListN.{length, drop}
 use lib.Seq.{drop-drop}
 use lib.IntN.{ℤ, pos}
+use Rattle.integers.proofs.Clash.{clash}
 use Rattle.numerals.specs.declared.Number.{Number}
 use Rattle.numerals.specs.declared.Number.the-variants.{Is, Nothing}
 use Rattle.numerals.specs.Numerals.{byte, numberAt}
@@ -21,7 +22,7 @@ use Rattle.pairs.specs.Pairs.{startsWith, wordAt, numberThen, pairAt, spacedPai
 use Rattle.forms.specs.Forms.{tolerance, curve, point, closing, points, toleranceAt, pointAt, curveEnd, curveFourth, curveThird, curveAt, formAt}
 use Rattle.decimals.specs.Decimals.{decimal}
 use Rattle.exact_lines.specs.Written.{Written, pairBytes, toleranceLine, pointLine, curveLine, LineWritten}
-use Rattle.exact_lines.proofs.Decimals.{clash, written-both, byte-written, number-written}
+use Rattle.exact_lines.proofs.Decimals.{written-both, byte-written, number-written}
 
 -- ---- words
 starts : (w bs : List ℕ) → startsWith w bs ≡ true → bs ≡ w ++ drop (length w) bs

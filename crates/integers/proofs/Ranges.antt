@@ -32,7 +32,7 @@ pub le-no : {a b : ℤ} → leZ a b ≡ false → b <ℤ a
 le-no e = leZ-no (subst (λ (b : Bool). T (not b)) (sym e) tt)
 
 -- ---- which test an order gives
-T-true : (b : Bool) → T b → b ≡ true
+pub T-true : (b : Bool) → T b → b ≡ true
 T-true true t = refl
 T-true false t = absurd t
 

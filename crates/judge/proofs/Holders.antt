@@ -10,6 +10,7 @@ use native.Mathlib.Omega.{arith}
 use lib.ListN.{length}
 use lib.IntN.{ℤ, pos, negℤ, natAbs}
 use lib.Signed.{leZ}
+use borrow.Author.Tests.{not-true, not-false}
 use Rattle.integers.specs.Entry.{entry}
 use Rattle.integers.specs.First.{firstBad}
 use Rattle.integers.proofs.Clash.{clash}
@@ -102,26 +103,18 @@ module _ (ns : List ℤ) (x y : ℤ) (at : ℕ) where
       let e : i ≡ covers = omega arith in
       sym (ap (placeOr covers) (rw e at (m .none-holds)))
 
-  not-held : (b : Bool) → not b ≡ false → b ≡ true
-  not-held true e = refl
-  not-held false e = clash (cc)
-
-  not-missed : (b : Bool) → not b ≡ true → b ≡ false
-  not-missed false e = refl
-  not-missed true e = clash (cc)
-
   pub holder-holds : (i : ℕ) → i ≡ placeOr covers (holderAt ns x y at) → i < covers → heldAt ns x y at i ≡ true
   unfolding holderAt
   holder-holds i e h =
       let s = place-some covers (holderAt ns x y at) (subst (λ k. k < covers) e h) in
-      not-held (heldAt ns x y at i) (bad-is missed covers 0 i (s ∙ ap some (sym e)))
+      not-false (heldAt ns x y at i) (bad-is missed covers 0 i (s ∙ ap some (sym e)))
 
   pub holder-none : covers ≤ placeOr covers (holderAt ns x y at) → (i : ℕ) → i < covers → heldAt ns x y at i ≡ false
   unfolding holderAt
   holder-none h i l =
       let e = none-bad missed covers 0 (place-none missed covers h) i l in
       let n : 0 + i ≡ i = omega arith in
-      not-missed (heldAt ns x y at i) (rw n at e)
+      not-true (heldAt ns x y at i) (rw n at e)
 
 -- ---- the records of a list that passed
 module _ {most : ℕ} {ns : List ℤ} (passed : Passed most ns) where

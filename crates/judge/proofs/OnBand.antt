@@ -8,6 +8,7 @@ use native.Mathlib.Omega.{arith}
 use lib.Dec.{T, eqb, eqb→eq}
 use lib.ListN.{length}
 use lib.IntN.{ℤ}
+use borrow.Author.Tests.{not-false}
 use Rattle.integers.proofs.Clash.{clash}
 use Rattle.integers.proofs.First.{none-bad, bad-is, bad-below}
 use Rattle.boxes.specs.Records.{covers, recordLength, boxIndex, boxAtIndex}
@@ -27,10 +28,6 @@ module _ (ns : List ℤ) (x y : ℤ) (whole : length ns % recordLength ≡ 0) wh
   held-missed : (b : Bool) → not b ≡ true → b ≡ true → ⊥
   held-missed true e f = clash (cc)
   held-missed false e f = clash (cc)
-
-  not-missed : (b : Bool) → not b ≡ false → b ≡ true
-  not-missed true e = refl
-  not-missed false e = clash (cc)
 
   -- a cover that holds the point is found
   pub on-found : (k i : ℕ) → Verdict none ns x y (On k i) → onBand ns x y ≡ true
@@ -59,7 +56,7 @@ module _ (ns : List ℤ) (x y : ℤ) (whole : length ns % recordLength ≡ 0) wh
       go : (o : Option ℕ) → firstHolder ns x y ≡ o → _≡_ {A = Bool} (elim o [ some j ↦ true | none ↦ false ]) false
       go none e = refl
       go (some j) e =
-          let h = not-missed _ (bad-is missed (covers * (length ns / recordLength)) 0 j e) in
+          let h = not-false _ (bad-is missed (covers * (length ns / recordLength)) 0 j e) in
           let b = bad-below missed (covers * (length ns / recordLength)) 0 j e in
           absurd (v (j / covers) (j % covers) (omega arith) (omega arith) (held-exactly (boxAtIndex ns (boxIndex (j / covers) (j % covers))) (boxAtIndex ns (boxIndex (j / covers) (suc (j % covers)))) x y .0 h))
 

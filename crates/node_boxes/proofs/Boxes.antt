@@ -21,7 +21,7 @@ use Rattle.node_boxes.specs.declared.NodeBoxes.{NodeBoxes}
 use Rattle.enclosure.specs.Thirds.{lowOf, highOf}
 use Rattle.node_boxes.specs.Boxes.{Sides, boxAt, boxesOf, boxOf, narrow, allNarrow, meets}
 use Rattle.row_sums.specs.Terms.{Readable}
-use Rattle.node_boxes.specs.Within.{within}
+use Rattle.node_boxes.specs.Widths.{within}
 use Rattle.row_sums.proofs.Coordinates.{entry-listed}
 
 module _ {k : ℕ} {c : Curve} (h : Sized k c) (l : k ≤ 8) where

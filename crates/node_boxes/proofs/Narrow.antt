@@ -1,6 +1,6 @@
 -- What the test says that a node meets the tolerance: at every break point the width of both coordinates is at most the tolerance.
-use mathlib.Core.Path.{_≡_, refl, sym, subst}
-use mathlib.Core.Bool.{Bool, true, false, _&&_}
+use mathlib.Core.Path.{_≡_, sym, subst}
+use mathlib.Core.Bool.{Bool, true, _&&_}
 use mathlib.Core.Logic.{⊎-elim}
 use mathlib.Core.List.{List}
 use Prim.Native.Nat.{ℕ, zero, suc, _*_, _-_, _^_, _≤_, _<_, suc-le-suc}
@@ -10,6 +10,7 @@ use lib.Dec.{T}
 use lib.IntN.{ℤ, pos, natAbs, _-ℤ_, _*ℤ_}
 use lib.Signed.{leZ, _≤ℤ_, leZ-yes}
 use Rattle.integers.proofs.Table.{and-left, and-right, both-pass}
+use Rattle.integers.proofs.Ranges.{T-true}
 use Rattle.bezier.specs.declared.Curve.{Curve}
 use Rattle.bezier.specs.Differences.{difference}
 use Rattle.node_boxes.specs.declared.Box.{Box}
@@ -34,10 +35,6 @@ module _ (tolerance : ℤ) (box : ℕ → Box) where
   all-narrow zero f = tt
   all-narrow (suc n) f = both-pass (allNarrow n tolerance box) (narrow tolerance (box n)) (all-narrow n (λ i l. f i (omega arith))) (f n (le-refl (suc n)))
 
-passed : (b : Bool) → T b → b ≡ true
-passed true t = refl
-passed false t = absurd t
-
 abbrev slim : ℤ → (d depth : ℕ) → List ℤ → ℕ → Bool
 slim tolerance d depth cs i = leZ (highOf d depth cs i -ℤ lowOf d depth cs i) tolerance
 
@@ -59,7 +56,7 @@ module _ (tolerance : ℤ) (depth : ℕ) (c : Curve) where
 
   pub narrow-meets : Narrow tolerance depth c → meets tolerance depth c ≡ true
   unfolding meets boxAt
-  narrow-meets n = passed (allNarrow (suc pieces) tolerance (boxAt depth c))
+  narrow-meets n = T-true (allNarrow (suc pieces) tolerance (boxAt depth c))
       (all-narrow tolerance (boxAt depth c) (suc pieces) (λ i l. let h = le-of-suc-le-suc l in both-pass (x-slim i) (y-slim i) (n .x i h .le) (n .y i h .le)))
 
 -- the width law of a curve

@@ -1,4 +1,4 @@
--- What a reader must believe of a node's boxes: the boxes, and the test that a node meets the tolerance. `Within` is only for the contracts of
+-- What a reader must believe of a node's boxes: the boxes, and the test that a node meets the tolerance. `Widths` is only for the contracts of
 -- private functions.
 pub mod Boxes
-pub mod Within
+pub mod Widths

@@ -5,7 +5,7 @@ ghost use Rattle.bezier.specs.Bounds.{Sized};
 ghost use Rattle.enclosure.specs.Thirds.{lowOf, highOf};
 ghost use Rattle.node_boxes.specs.Boxes.{boxesOf, boxOf, AllSides, meets};
 ghost use Rattle.row_sums.specs.Terms.{Readable};
-ghost use Rattle.node_boxes.specs.Within.{within};
+ghost use Rattle.node_boxes.specs.Widths.{within};
 use bezier::Curve;
 
 // A box at a break point, in sixteenths of a stage unit.

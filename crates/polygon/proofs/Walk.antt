@@ -1,7 +1,7 @@
 -- From a path to the list of the points where it moves on: neighbours in the list are steps of the path that move, and no point comes twice if no two such steps
 -- begin at one point.
 use mathlib.Core.Path.{_≡_, refl, sym, _∙_, ap, subst}
-use mathlib.Core.Bool.{Bool, true, false, _&&_}
+use mathlib.Core.Bool.{Bool, true, false}
 use mathlib.Core.Logic.{_⊎_, inl, inr, ⊎-elim}
 use mathlib.Core.List.{List, [], _∷_, _++_, append-assoc, append-nil}
 use Prim.Native.Nat.{ℕ, zero, suc, _≤_, _<_}
@@ -13,6 +13,7 @@ use lib.Signed.{leZ, ≤ℤ-refl}
 use Rattle.integers.proofs.Clash.{clash}
 use Rattle.integers.proofs.Order.{≤ℤ-antisymm, lt-or-ge}
 use Rattle.integers.proofs.Ranges.{le-yes, yes-le}
+use Rattle.integers.proofs.Both.{both-true}
 use Rattle.polygon.specs.declared.Point.{Point}
 use Rattle.polygon.specs.Polygon.{equal, same, unless, moves}
 use Rattle.polygon.proofs.Edges.{point-≡}
@@ -22,15 +23,11 @@ abbrev pub origin : Point
 origin = record { x = pos 0; y = pos 0 }
 
 -- ---- two points are one, or not
-and-both : (a b : Bool) → (a && b) ≡ true → (a ≡ true) × (b ≡ true)
-and-both true b e = (refl, e)
-and-both false b e = clash (cc)
-
 equal-≡ : {a b : ℤ} → equal a b ≡ true → a ≡ b
-equal-≡ {a} {b} e = let h = and-both (leZ a b) (leZ b a) e in ≤ℤ-antisymm (le-yes (h .0)) (le-yes (h .1))
+equal-≡ {a} {b} e = let h = both-true (leZ a b) (leZ b a) e in ≤ℤ-antisymm (le-yes (h .0)) (le-yes (h .1))
 
 same-≡ : (p q : Point) → same p q ≡ true → p ≡ q
-same-≡ p q e = let h = and-both (equal (p .x) (q .x)) (equal (p .y) (q .y)) e in point-≡ (equal-≡ (h .0)) (equal-≡ (h .1))
+same-≡ p q e = let h = both-true (equal (p .x) (q .x)) (equal (p .y) (q .y)) e in point-≡ (equal-≡ (h .0)) (equal-≡ (h .1))
 
 same-refl : (q : Point) → same q q ≡ true
 same-refl q = rw (yes-le (≤ℤ-refl (q .x)), yes-le (≤ℤ-refl (q .y)))

@@ -28,6 +28,7 @@ use Rattle.bezier.specs.Differences.{difference}
 use Rattle.halves.specs.Sizes.{Each}
 use Rattle.halves.specs.Halves.{listed, four}
 use Rattle.bezier.proofs.Values.{listed-ext}
+use Rattle.bezier.proofs.Sizes.{each-wider}
 use Rattle.halves.proofs.Halving.{held-entry}
 use Rattle.enclosure.specs.Rows.{pieces, thirds}
 use Rattle.enclosure.specs.Bounds.{rowSum, high}
@@ -92,11 +93,8 @@ four-hold f ha hb hc hd = record {
   size = each-four (ha .size) (hb .size) (hc .size) (hd .size);
 }
 
-pub each-more : {B C : ℕ} {cs : List ℤ} → B ≤ C → Each B cs → Each C cs
-each-more l h = record { under = λ k. le-trans (h .under k) l }
-
 pub four-as : {B C : ℕ} {f g : ℕ → ℤ} {rs : List ℤ} → T (leb B C) → ((i : ℕ) → i < 4 → f i ≡ g i) → HoldsFour B f rs → HoldsFour C g rs
-four-as {B} {C} {f} {g} t e h = record { is = h .is ∙ listed-ext 4 f g e; size = each-more (leb→le B C t) (h .size) }
+four-as {B} {C} {f} {g} t e h = record { is = h .is ∙ listed-ext 4 f g e; size = each-wider (leb→le B C t) (h .size) }
 
 pub entry-listed : (f : ℕ → ℤ) (i : ℕ) → i < 4 → entry (listed 4 f) i ≡ f i
 entry-listed f zero h = refl

@@ -4,11 +4,11 @@ use mathlib.Core.Bool.{Bool, true, false, cond}
 use mathlib.Core.List.{List, [], _∷_}
 use mathlib.Core.Option.{Option, none, some}
 use Prim.Native.Nat.{ℕ, _+_, _≤_}
-use native.Mathlib.Omega.{arith}
 use borrow.Author.Tests.{ltb-false}
 use lib.Dec.{ltb}
 use lib.ListN.{length}
 use lib.IntN.{ℤ}
+use Rattle.integers.proofs.Clash.{clash}
 use Rattle.refusals.specs.declared.Refusal.{Refusal}
 use Rattle.refusals.specs.declared.Refusal.the-variants.{TextTooLong}
 use Rattle.forms.specs.declared.Form.{Form}
@@ -20,9 +20,6 @@ pub record AcceptedText (s : List ℕ) (ns : List ℤ) (ps : List (ℤ × ℤ)) 
   pub size : length s ≤ mostBytes
   pub outline : ns ≡ gather curveNumbers (linesOf s)
   pub points : ps ≡ gather pointOf (linesOf s)
-
-clash : {X : Type 0} → _≡_ {A = ℕ} 0 1 → X
-clash e = absurd (omega arith)
 
 accepted-unless : (o : Option Refusal) (T U : ℤ) (xs ys : List ℤ) (ps qs : List (ℤ × ℤ)) → unless o (means T xs ps) ≡ means U ys qs → (ys ≡ xs) × (qs ≡ ps)
 accepted-unless none T U xs ys ps qs e = (cc, cc)

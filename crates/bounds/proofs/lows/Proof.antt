@@ -1,12 +1,13 @@
 -- The lows of one coordinate: minus the highs of the negated control values.
 use lib.Dec.{lit≤}
+use Rattle.bezier.proofs.Sizes.{each-wider}
 use borrow.Author.Needs.{needs}
-use Rattle.row_sums.proofs.Coordinates.{each-more, readable-opposite, lows-from}
+use Rattle.row_sums.proofs.Coordinates.{readable-opposite, lows-from}
 use Rattle.bounds.proofs.lows.Statement.{statement}
 use Rattle.bounds.proofs.lows.Tie as tie
 
 negated-requires : tie.Need-negated-requires
-negated-requires c κs = each-more (lit≤ tt) (c .pre .0 .values)
+negated-requires c κs = each-wider (lit≤ tt) (c .pre .0 .values)
 
 highs-requires : tie.Need-highs-requires
 highs-requires c κs = (rw (c .negated .ensures) (readable-opposite (c .before .pre .0)), c .before .pre .1)

@@ -10,7 +10,7 @@ use mir.Facts.{toZ-ofZ}
 use Rattle.integers.specs.Entry.{entry}
 use Rattle.integers.proofs.Ranges.{lt-yes, lt-no, yes-le, no-le}
 use Rattle.integers.proofs.Machine.{fits!, flag! }
-use Rattle.node_boxes.specs.Within.{within}
+use Rattle.node_boxes.specs.Widths.{within}
 use Rattle.row_sums.proofs.Coordinates.{bounded}
 use Rattle.node_boxes.proofs.Boxes.{within-more, not-within}
 use Rattle.node_boxes.proofs.is_narrow.Statement.{statement}
