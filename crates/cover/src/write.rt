@@ -8,11 +8,11 @@ ghost use Rattle.polygon.specs.Polygon.{pathPoint, unless, verticesOf, vertices
 use boxes::Box;
 use polygon::Ends;
 use polygon::Point;
-use polygon::across;
-use polygon::ends_of;
-use polygon::is_same;
-use polygon::path_point;
-use polygon::upright;
+use path_points::across;
+use path_points::ends_of;
+use path_points::is_same;
+use path_points::path_point;
+use path_points::upright;
 
 // The two numbers of a point, as vertex number `count`.
 fn put_point(list: &mut [i32], count: usize, p: Point)

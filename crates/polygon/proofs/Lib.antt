@@ -1,6 +1,5 @@
 -- Laws of the polygon round two boxes. Each file opens with what it holds.
 pub mod Examples
-pub mod Spans
 pub mod Vertices
 pub mod Edges
 pub mod Reach

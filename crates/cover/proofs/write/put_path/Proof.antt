@@ -11,7 +11,7 @@ use Rattle.cover.proofs.write.put_path.Statement.{statement}
 use Rattle.cover.proofs.write.put_path.Tie as tie
 use Rattle.cover.proofs.write.put_path.Reads as reads
 use Rattle.cover.proofs.write.put_path.Lts as lts
-use Rattle.polygon.proofs.path_point.Reads as path-point-reads
+use Rattle.path_points.proofs.path_point.Reads as path-point-reads
 use Rattle.cover.proofs.write.put_point.Reads as put-point-reads
 use Rattle.cover.proofs.write.put_unless.Reads as put-unless-reads
 

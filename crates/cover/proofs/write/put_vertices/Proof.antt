@@ -3,7 +3,7 @@ use mathlib.Core.Path.{_∙_, ap}
 use lib.ListN.{length}
 use lib.Seq.{sets}
 use Rattle.polygon.specs.Polygon.{numbers}
-use Rattle.polygon.proofs.Spans.{vertices-are}
+use Rattle.path_points.proofs.Spans.{vertices-are}
 use borrow.Author.Needs.{needs}
 use Rattle.cover.proofs.write.put_vertices.Statement.{statement}
 use Rattle.cover.proofs.write.put_vertices.Tie as tie

@@ -1,9 +1,9 @@
 -- `polygon::ends_of` meets its contract.
 use Rattle.integers.proofs.Between.{number-fits}
-use Rattle.polygon.proofs.Spans.{ends-are}
+use Rattle.path_points.proofs.Spans.{ends-are}
 use borrow.Author.Needs.{needs}
-use Rattle.polygon.proofs.ends_of.Statement.{statement}
-use Rattle.polygon.proofs.ends_of.Tie as tie
+use Rattle.path_points.proofs.ends_of.Statement.{statement}
+use Rattle.path_points.proofs.ends_of.Tie as tie
 
 joined-requires : tie.Need-joined-requires
 joined-requires c κs = search needs

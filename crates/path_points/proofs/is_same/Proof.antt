@@ -1,8 +1,8 @@
 -- `polygon::is_same` meets its contract.
 use Rattle.integers.proofs.Between.{number-fits}
-use Rattle.polygon.proofs.Spans.{same-by-y, same-by-x}
-use Rattle.polygon.proofs.is_same.Statement.{statement}
-use Rattle.polygon.proofs.is_same.Tie as tie
+use Rattle.path_points.proofs.Spans.{same-by-y, same-by-x}
+use Rattle.path_points.proofs.is_same.Statement.{statement}
+use Rattle.path_points.proofs.is_same.Tie as tie
 
 returns : tie.Need-returns
 returns c =

@@ -1,9 +1,9 @@
 -- `polygon::joined` meets its contract.
 use Rattle.integers.proofs.Between.{number-fits}
-use Rattle.polygon.proofs.Spans.{joined-is}
+use Rattle.path_points.proofs.Spans.{joined-is}
 use borrow.Author.Needs.{needs}
-use Rattle.polygon.proofs.joined.Statement.{statement}
-use Rattle.polygon.proofs.joined.Tie as tie
+use Rattle.path_points.proofs.joined.Statement.{statement}
+use Rattle.path_points.proofs.joined.Tie as tie
 
 lower-requires : tie.Need-lower-requires
 lower-requires c κs = search needs

@@ -1,7 +1,7 @@
 -- `polygon::lower` meets its contract.
-use Rattle.polygon.proofs.Spans.{lower-then, lower-else}
-use Rattle.polygon.proofs.lower.Statement.{statement}
-use Rattle.polygon.proofs.lower.Tie as tie
+use Rattle.path_points.proofs.Spans.{lower-then, lower-else}
+use Rattle.path_points.proofs.lower.Statement.{statement}
+use Rattle.path_points.proofs.lower.Tie as tie
 
 returns : tie.Need-returns
 returns c = lower-then (c .before .fits .a) (c .before .fits .b) (c .if1 .taken)

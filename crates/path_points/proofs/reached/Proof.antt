@@ -1,9 +1,9 @@
 -- `polygon::reached` meets its contract: each return is one outcome of the two comparisons.
 use mathlib.Core.Path.{_∙_}
-use Rattle.polygon.proofs.Spans.{reached-first, reached-second, reached-both}
+use Rattle.path_points.proofs.Spans.{reached-first, reached-second, reached-both}
 use borrow.Author.Needs.{needs}
-use Rattle.polygon.proofs.reached.Statement.{statement}
-use Rattle.polygon.proofs.reached.Tie as tie
+use Rattle.path_points.proofs.reached.Statement.{statement}
+use Rattle.path_points.proofs.reached.Tie as tie
 
 returns : tie.Need-returns
 returns c = reached-first (c .before .fits .a) (c .before .fits .b) _ _ (c .if1 .taken)

@@ -1,10 +1,10 @@
 -- `polygon::path_point` meets its contract: each arm is one point of the list.
 use mathlib.Core.Path.{refl, sym}
 use Rattle.integers.proofs.Between.{number-fits}
 use Rattle.polygon.specs.Polygon.{pathPoint}
-use Rattle.polygon.proofs.Spans.{point-is, path-rest}
-use Rattle.polygon.proofs.path_point.Statement.{statement}
-use Rattle.polygon.proofs.path_point.Tie as tie
+use Rattle.path_points.proofs.Spans.{point-is, path-rest}
+use Rattle.path_points.proofs.path_point.Statement.{statement}
+use Rattle.path_points.proofs.path_point.Tie as tie
 
 returns : tie.Need-returns
 unfolding pathPoint

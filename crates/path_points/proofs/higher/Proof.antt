@@ -1,7 +1,7 @@
 -- `polygon::higher` meets its contract.
-use Rattle.polygon.proofs.Spans.{higher-then, higher-else}
-use Rattle.polygon.proofs.higher.Statement.{statement}
-use Rattle.polygon.proofs.higher.Tie as tie
+use Rattle.path_points.proofs.Spans.{higher-then, higher-else}
+use Rattle.path_points.proofs.higher.Statement.{statement}
+use Rattle.path_points.proofs.higher.Tie as tie
 
 returns : tie.Need-returns
 returns c = higher-then (c .before .fits .a) (c .before .fits .b) (c .if1 .taken)

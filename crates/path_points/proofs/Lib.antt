@@ -1,0 +1,2 @@
+-- Laws of the code of the path.
+pub mod Spans
