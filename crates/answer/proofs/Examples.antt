@@ -31,8 +31,8 @@ use Rattle.box_bytes.specs.Boxes.{fourNumbers, boxBytes, boxesBytes}
 use Rattle.leaf_lines.specs.Leaves.{leafLine, leafLines}
 use Rattle.leaf_list.specs.Checks.{numberFault}
 use Rattle.held.specs.Deciding.{held}
-use Rattle.judge.specs.Judging.{judgingFault}
-use Rattle.judge.specs.OnBand.{firstHolder}
+use Rattle.judging.specs.Judging.{judgingFault}
+use Rattle.judging.specs.OnBand.{firstHolder}
 use Rattle.band_answers.specs.Bands.{bandLines}
 use Rattle.point_answers.specs.Points.{pointLine, pointLines}
 use Rattle.answer.specs.Answers.{answerTo, answerOf}

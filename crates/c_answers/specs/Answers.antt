@@ -2,8 +2,8 @@
 use Rattle.refusals.specs.Refusals.{numberOf, spotOf}
 use Rattle.band.specs.declared.Banded.{Banded}
 use Rattle.band.specs.declared.Banded.the-variants.{Done, Refused}
-use Rattle.judge.specs.declared.Judgement.{Judgement}
-use Rattle.judge.specs.declared.Judgement.the-variants.{On, Off, Refused as PointRefused}
+use Rattle.judging.specs.declared.Judgement.{Judgement}
+use Rattle.judging.specs.declared.Judgement.the-variants.{On, Off, Refused as PointRefused}
 use Rattle.c_answers.specs.declared.Answer.{Answer}
 use Rattle.c_answers.specs.declared.JudgingAnswer.{JudgingAnswer}
 

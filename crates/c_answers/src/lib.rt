@@ -4,7 +4,7 @@ ghost use Rattle.c_answers.specs.Answers.{answerOf, judgingAnswerOf};
 ghost use Rattle.c_answers.specs.Drawings.{drawingOf};
 use band::Banded;
 use cover::Drawn;
-use judge::Judgement;
+use judging::Judgement;
 
 // What banding answers, in numbers: a refusal's number and spot, or 0 and 0 and the report.
 #[repr(C)]

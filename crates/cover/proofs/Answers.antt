@@ -15,7 +15,7 @@ use Rattle.polygon.specs.Polygon.{pathOf, vertices, numbers}
 use Rattle.polygon.proofs.Vertices.{vertices-most}
 use Rattle.cover.specs.declared.Drawn.the-variants.{Vertices, Refused}
 use Rattle.cover.specs.Drawing.{twoBoxesFault, drawn, writtenBy, drawnInto}
-use Rattle.cover.proofs.Writing.{numbers-length, in-front}
+use Rattle.vertices.proofs.Writing.{numbers-length, in-front}
 
 module _ (a b : Box) where
   few : length (vertices a b) ≤ 8

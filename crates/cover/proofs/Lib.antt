@@ -1,5 +1,4 @@
 -- Laws of drawing. Each file opens with what it holds.
-pub mod Writing
 pub mod Faults
 pub mod Answers
 pub mod Theorems

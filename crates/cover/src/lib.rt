@@ -5,9 +5,7 @@ ghost use Rattle.boxes.specs.Ranges.{placeOr};
 ghost use Rattle.cover.specs.Drawing.{twoBoxesFault, drawn, drawnInto};
 use boxes::Box;
 use refusals::Refusal;
-use write::put_vertices;
-
-mod write;
+use vertices::put_vertices;
 
 // What drawing answers: how many vertices were written, or the first fault.
 pub enum Drawn {

@@ -31,9 +31,9 @@ use Rattle.records.proofs.Sound.{record-curve, record-node}
 use Rattle.records.proofs.Standing.{Found, every-end-stands, every-record-stands}
 use Rattle.band.proofs.Theorems.{done-exactly, records-written, written-some, written-sound, leaves-exactly, every-parameter, leaf-at-most}
 use Rattle.held.specs.Covers.{Holds, CoverHolds}
-use Rattle.judge.specs.declared.Judgement.{Judgement}
-use Rattle.judge.specs.declared.Judgement.the-variants.{On, Off, Refused}
-use Rattle.judge.specs.Judging.{judgingFault, Verdict, Judged}
+use Rattle.judging.specs.declared.Judgement.{Judgement}
+use Rattle.judging.specs.declared.Judgement.the-variants.{On, Off, Refused}
+use Rattle.judging.specs.Judging.{judgingFault, Verdict, Judged}
 use Rattle.engine.specs.Demand3.{CurveOf, IsOn, Somewhere, Shallow, Demand3}
 use Rattle.engine.proofs.Passing.{coordinate-fine, none-refused}
 use Rattle.mixtures.proofs.Mixtures.{upP, upR, up-some}

@@ -10,8 +10,8 @@ use Rattle.boxes.specs.Records.{recordLength}
 use Rattle.band.specs.declared.Banded.the-variants.{Done, Refused}
 use Rattle.band.specs.Banding.{banded, written}
 use Rattle.band.proofs.Theorems.{done-exactly}
-use Rattle.judge.specs.declared.Judgement.{Judgement}
-use Rattle.judge.specs.Judging.{Judged}
+use Rattle.judging.specs.declared.Judgement.{Judgement}
+use Rattle.judging.specs.Judging.{Judged}
 use Rattle.engine.specs.declared.Outcome.the-variants.{NotBanded, Judged as WithJudgement}
 use Rattle.engine.specs.Outcomes.{Answered}
 use Rattle.engine.proofs.Demand3.{demand-3}

@@ -25,7 +25,7 @@ use Rattle.boxes.proofs.Faults.{interval-low, interval-high}
 use Rattle.records.specs.Ranges.{SoundRecord, SoundList}
 use Rattle.records.proofs.Sound.{each-side}
 use Rattle.leaf_list.specs.Checks.{lengthFine, numberFine, numberFault}
-use Rattle.judge.specs.Judging.{pointFault, judgingFault}
+use Rattle.judging.specs.Judging.{pointFault, judgingFault}
 
 -- ---- 9
 pub length-fine : (n : ℕ) → 0 < n → n % recordLength ≡ 0 → lengthFine n ≡ true

@@ -31,9 +31,9 @@ use Rattle.leaf_list.specs.Checks.{numberFault}
 use Rattle.held.specs.Covers.{CoverHolds}
 use Rattle.held.specs.Deciding.{held}
 use Rattle.held.proofs.Deciding.{held-exactly}
-use Rattle.judge.specs.declared.Judgement.{Judgement}
-use Rattle.judge.specs.declared.Judgement.the-variants.{On, Off, Refused}
-use Rattle.judge.specs.Judging.{judgingFault, Verdict, Judged}
+use Rattle.judging.specs.declared.Judgement.{Judgement}
+use Rattle.judging.specs.declared.Judgement.the-variants.{On, Off, Refused}
+use Rattle.judging.specs.Judging.{judgingFault, Verdict, Judged}
 use Rattle.engine.specs.Demand3.{IsOn}
 use Rattle.engine.specs.Starred.{box, A, Starred}
 

@@ -4,8 +4,8 @@ use mathlib.Core.List.{List}
 use lib.IntN.{ℤ}
 use Rattle.refusals.specs.Refusals.{numberOf, spotOf}
 use Rattle.band.specs.declared.Banded.{Banded}
-use Rattle.judge.specs.declared.Judgement.{Judgement}
-use Rattle.judge.specs.Judging.{Judged}
+use Rattle.judging.specs.declared.Judgement.{Judgement}
+use Rattle.judging.specs.Judging.{Judged}
 use Rattle.c_answers.specs.declared.JudgingAnswer.{JudgingAnswer}
 use Rattle.c_answers.specs.Answers.{judgingAnswerOf}
 use Rattle.engine.specs.declared.Outcome.{Outcome}

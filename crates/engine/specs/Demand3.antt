@@ -12,8 +12,8 @@ use Rattle.bezier.specs.Points.{Equals, Within}
 use Rattle.boxes.specs.Records.{recordLength}
 use Rattle.outline.specs.Checks.{curves, outlined}
 use Rattle.band.specs.Outcomes.{Flat}
-use Rattle.judge.specs.declared.Judgement.{Judgement}
-use Rattle.judge.specs.declared.Judgement.the-variants.{On}
+use Rattle.judging.specs.declared.Judgement.{Judgement}
+use Rattle.judging.specs.declared.Judgement.the-variants.{On}
 
 -- number k of the curves that the outline ns describes, from 0, is c
 pub record CurveOf (most : ℕ) (ns : List ℤ) (k : ℕ) (c : Curve) : Type 0 where

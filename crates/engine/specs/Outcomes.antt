@@ -8,8 +8,8 @@ use lib.IntN.{ℤ}
 use Rattle.boxes.specs.Records.{recordLength}
 use Rattle.band.specs.declared.Banded.{Banded}
 use Rattle.band.specs.declared.Banded.the-variants.{Done, Refused}
-use Rattle.judge.specs.declared.Judgement.{Judgement}
-use Rattle.judge.specs.Judging.{Judged}
+use Rattle.judging.specs.declared.Judgement.{Judgement}
+use Rattle.judging.specs.Judging.{Judged}
 use Rattle.engine.specs.declared.Outcome.{Outcome}
 use Rattle.engine.specs.declared.Outcome.the-variants.{NotBanded, Judged as WithJudgement}
 use Rattle.engine.specs.Demand3.{Demand3}

@@ -8,9 +8,9 @@ use Rattle.refusals.specs.declared.Refusal.the-variants.{Tolerance, Coordinate,
 use Rattle.refusals.specs.Refusals.{nodeSpot}
 use Rattle.band.specs.declared.Banded.the-variants.{Done, Refused}
 use Rattle.band.specs.Banding.{banded, written}
-use Rattle.judge.specs.declared.Judgement.{Judgement}
-use Rattle.judge.specs.declared.Judgement.the-variants.{Off}
-use Rattle.judge.specs.Judging.{Judged}
+use Rattle.judging.specs.declared.Judgement.{Judgement}
+use Rattle.judging.specs.declared.Judgement.the-variants.{Off}
+use Rattle.judging.specs.Judging.{Judged}
 use Rattle.boxes.specs.declared.Box.{Box}
 use Rattle.cover.specs.declared.Drawn.the-variants.{Vertices}
 use Rattle.cover.specs.Drawing.{drawn, drawnInto}

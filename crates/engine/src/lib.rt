@@ -15,7 +15,7 @@ use c_answers::JudgingAnswer;
 use c_answers::drawing_in_numbers;
 use c_answers::in_numbers;
 use c_answers::judgement_in_numbers;
-use judge::Judgement;
+use judging::Judgement;
 use refusals::Refusal;
 
 // What banding an outline and judging a point answers: banding's refusal, or its report and the judgement.

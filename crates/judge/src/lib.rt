@@ -1,16 +1,7 @@
 // Judging: whether a point lies on the band that a leaf list describes.
-ghost use Rattle.judge.specs.Judging.{Judged};
-
-mod holder;
-
+ghost use Rattle.judging.specs.Judging.{Judged};
+use judging::Judgement;
 use refusals::Refusal;
-
-// What judging answers: on, with a record and a cover of it that hold the point, both from 0; off; or the first fault.
-pub enum Judgement {
-    On { leaf: usize, cover: usize },
-    Off,
-    Refused(Refusal),
-}
 
 // Judges the point (x, y), in sixteenths, against a list of leaf records. Every list and every point may be asked about.
 pub fn judge(leaves: &[i32], x: i32, y: i32) -> Judgement

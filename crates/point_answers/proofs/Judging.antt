@@ -25,11 +25,11 @@ use Rattle.forms.specs.Forms.{formAt}
 use Rattle.text.specs.Lines.{linesOf, gather}
 use Rattle.text.specs.Meaning.{pointOf}
 use Rattle.text.proofs.Gathering.{Gathering, gathering-start, gathered-over, gathered-no-form, gathered-tolerance, gathered-curve, gathered-point}
-use Rattle.judge.specs.declared.Judgement.{Judgement}
-use Rattle.judge.specs.declared.Judgement.the-variants.{On, Off, Refused}
-use Rattle.judge.specs.Judging.{pointFault, judgingFault, Judged}
-use Rattle.judge.specs.OnBand.{onBand}
-use Rattle.judge.proofs.OnBand.{answered-on, answered-off, answered-refused}
+use Rattle.judging.specs.declared.Judgement.{Judgement}
+use Rattle.judging.specs.declared.Judgement.the-variants.{On, Off, Refused}
+use Rattle.judging.specs.Judging.{pointFault, judgingFault, Judged}
+use Rattle.judging.specs.OnBand.{onBand}
+use Rattle.judging.proofs.OnBand.{answered-on, answered-off, answered-refused}
 use Rattle.render.specs.Answers.{refusedLine, onLine, offLine}
 use Rattle.point_answers.specs.Points.{LeavesFine, pointLine, pointLines, lineAnswer}
 

@@ -9,8 +9,8 @@ use lib.IntN.{ℤ}
 use Rattle.forms.specs.declared.Form.{Form}
 use Rattle.forms.specs.declared.Form.the-variants.{Tolerance, Curve, Point, NoForm}
 use Rattle.leaf_list.specs.Checks.{lengthFine, numberFault}
-use Rattle.judge.specs.Judging.{judgingFault}
-use Rattle.judge.specs.OnBand.{onBand}
+use Rattle.judging.specs.Judging.{judgingFault}
+use Rattle.judging.specs.OnBand.{onBand}
 use Rattle.render.specs.Answers.{refusedLine, onLine, offLine}
 
 unfoldable pub pointLine : List ℤ → (x y : ℤ) → List ℕ

@@ -5,7 +5,7 @@ ghost use Rattle.appends.specs.Appends.{Within};
 ghost use Rattle.text.specs.Lines.{linesOf, gather};
 ghost use Rattle.point_answers.specs.Points.{LeavesFine, pointLine, lineAnswer};
 use forms::Form;
-use judge::Judgement;
+use judging::Judgement;
 
 // The line of one point.
 fn put_point(leaves: &[i32], x: i32, y: i32, out: &mut [u8], at: usize) -> usize

@@ -1,4 +1,4 @@
--- `polygon::ends_of` meets its contract.
+-- `path_points::ends_of` meets its contract.
 use Rattle.integers.proofs.Between.{number-fits}
 use Rattle.path_points.proofs.Spans.{ends-are}
 use borrow.Author.Needs.{needs}

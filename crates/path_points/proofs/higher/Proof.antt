@@ -1,4 +1,4 @@
--- `polygon::higher` meets its contract.
+-- `path_points::higher` meets its contract.
 use Rattle.path_points.proofs.Spans.{higher-then, higher-else}
 use Rattle.path_points.proofs.higher.Statement.{statement}
 use Rattle.path_points.proofs.higher.Tie as tie

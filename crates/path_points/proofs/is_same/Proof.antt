@@ -1,4 +1,4 @@
--- `polygon::is_same` meets its contract.
+-- `path_points::is_same` meets its contract.
 use Rattle.integers.proofs.Between.{number-fits}
 use Rattle.path_points.proofs.Spans.{same-by-y, same-by-x}
 use Rattle.path_points.proofs.is_same.Statement.{statement}

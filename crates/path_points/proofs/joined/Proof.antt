@@ -1,4 +1,4 @@
--- `polygon::joined` meets its contract.
+-- `path_points::joined` meets its contract.
 use Rattle.integers.proofs.Between.{number-fits}
 use Rattle.path_points.proofs.Spans.{joined-is}
 use borrow.Author.Needs.{needs}

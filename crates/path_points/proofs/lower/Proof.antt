@@ -1,4 +1,4 @@
--- `polygon::lower` meets its contract.
+-- `path_points::lower` meets its contract.
 use Rattle.path_points.proofs.Spans.{lower-then, lower-else}
 use Rattle.path_points.proofs.lower.Statement.{statement}
 use Rattle.path_points.proofs.lower.Tie as tie

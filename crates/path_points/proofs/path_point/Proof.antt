@@ -1,4 +1,4 @@
--- `polygon::path_point` meets its contract: each arm is one point of the list.
+-- `path_points::path_point` meets its contract: each arm is one point of the list.
 use mathlib.Core.Path.{refl, sym}
 use Rattle.integers.proofs.Between.{number-fits}
 use Rattle.polygon.specs.Polygon.{pathPoint}

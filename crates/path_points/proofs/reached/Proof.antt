@@ -1,4 +1,4 @@
--- `polygon::reached` meets its contract: each return is one outcome of the two comparisons.
+-- `path_points::reached` meets its contract: each return is one outcome of the two comparisons.
 use mathlib.Core.Path.{_∙_}
 use Rattle.path_points.proofs.Spans.{reached-first, reached-second, reached-both}
 use borrow.Author.Needs.{needs}

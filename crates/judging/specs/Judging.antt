@@ -1,0 +1,39 @@
+-- The checks of a leaf list and a point in document 01's order ("Place of each check"), and what judging answers ("Judging"). The most curves that an outline
+-- may have is a parameter.
+use mathlib.Core.Path.{_≡_}
+use mathlib.Core.Bool.{true, false}
+use mathlib.Core.List.{List}
+use mathlib.Core.Option.{Option, none, some}
+use Prim.Native.Nat.{ℕ, _*_, _<_}
+use lib.ListN.{length}
+use lib.IntN.{ℤ}
+use Rattle.refusals.specs.declared.Refusal.{Refusal}
+use Rattle.refusals.specs.declared.Refusal.the-variants.{LeafListLength, LeafListNumber, PointX, PointY}
+use Rattle.boxes.specs.Ranges.{inRange}
+use Rattle.boxes.specs.Records.{covers, recordLength}
+use Rattle.leaf_list.specs.Checks.{lengthFine, numberFault}
+use Rattle.held.specs.Covers.{CoverHolds}
+use Rattle.judging.specs.declared.Judgement.{Judgement}
+use Rattle.judging.specs.declared.Judgement.the-variants.{On, Off, Refused}
+
+-- ---- 11: x, then y
+abbrev pub pointFault : ℤ → ℤ → Option Refusal
+pointFault x y = elim (inRange x) [ false ↦ some PointX | true ↦ elim (inRange y) [ false ↦ some PointY | true ↦ none ] ]
+
+-- ---- 9, 10 and 11 in this order
+unfoldable pub judgingFault : ℕ → List ℤ → (x y : ℤ) → Option Refusal
+judgingFault most ns x y =
+    elim (lengthFine (length ns)) [
+      | false ↦ some (LeafListLength (length ns))
+      | true ↦ elim (numberFault most ns) [ some i ↦ some (LeafListNumber i) | none ↦ pointFault x y ]
+    ]
+
+-- ---- What the answer says. On names a record of the list and a cover that hold the point; off says that no cover of any record does.
+abbrev pub Verdict : Option Refusal → List ℤ → (x y : ℤ) → Judgement → Type 0
+Verdict (some r) ns x y answer = answer ≡ Refused r
+Verdict none ns x y (On k i) = (recordLength * k < length ns) × (i < covers) × CoverHolds ns k i x y
+Verdict none ns x y Off = (k i : ℕ) → recordLength * k < length ns → i < covers → CoverHolds ns k i x y → ⊥
+Verdict none ns x y (Refused r) = ⊥
+
+abbrev pub Judged : ℕ → List ℤ → (x y : ℤ) → Judgement → Type 0
+Judged most ns x y answer = Verdict (judgingFault most ns x y) ns x y answer

@@ -1,0 +1,2 @@
+-- Laws of writing the vertices.
+pub mod Writing
