@@ -13,10 +13,10 @@ use Rattle.integers.proofs.Clash.{clash}
 use Rattle.refusals.specs.declared.Refusal.{Refusal}
 use Rattle.refusals.specs.declared.Refusal.the-variants.{TextTooLong}
 use Rattle.boxes.specs.Records.{recordLength}
-use Rattle.band.specs.declared.Banded.{Banded}
-use Rattle.band.specs.declared.Banded.the-variants.{Done, Refused}
-use Rattle.band.specs.Banding.{written}
-use Rattle.band.proofs.Theorems.{done-exactly, written-some, written-sound}
+use Rattle.banding.specs.declared.Banded.{Banded}
+use Rattle.banding.specs.declared.Banded.the-variants.{Done, Refused}
+use Rattle.banding.specs.Banding.{written}
+use Rattle.banding.proofs.Theorems.{done-exactly, written-some, written-sound}
 use Rattle.engine.proofs.Outcomes.{done-room}
 use Rattle.engine.proofs.Passing.{length-fine, no-bad-number}
 use Rattle.appends.specs.Appends.{Appended, Within}

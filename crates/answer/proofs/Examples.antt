@@ -17,7 +17,7 @@ use Rattle.tree.specs.Tree.{ends, met, firstFailing}
 use Rattle.records.specs.Records.{recordOf, allRecords}
 use Rattle.records.specs.Records as Records
 use Rattle.passes.specs.Leaves.{firstTooWide, leavesOf, nodesOf}
-use Rattle.band.specs.Banding.{bandCurves, banded, written}
+use Rattle.banding.specs.Banding.{bandCurves, banded, written}
 use Rattle.numerals.specs.Numerals.{valueFrom, digitCount, naturalAt, numberAt}
 use Rattle.pairs.specs.Pairs as Pairs
 use Rattle.forms.specs.Forms as Forms

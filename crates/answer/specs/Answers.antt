@@ -5,8 +5,8 @@ use Prim.Native.Nat.{ℕ, _*_}
 use lib.ListN.{take, replicate}
 use lib.IntN.{ℤ, pos}
 use Rattle.boxes.specs.Records.{recordLength}
-use Rattle.band.specs.declared.Banded.{Banded}
-use Rattle.band.specs.declared.Banded.the-variants.{Done, Refused}
+use Rattle.banding.specs.declared.Banded.{Banded}
+use Rattle.banding.specs.declared.Banded.the-variants.{Done, Refused}
 use Rattle.text.specs.Meaning.{Meaning, refused, means, meaning}
 use Rattle.render.specs.Answers.{refusedLine}
 use Rattle.band_answers.specs.Bands.{bandOf, recordsOf, bandLines}

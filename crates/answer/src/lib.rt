@@ -5,7 +5,7 @@ ghost use lib.ListN.{length, replicate};
 ghost use lib.IntN.{pos};
 ghost use Rattle.appends.specs.Appends.{Within};
 ghost use Rattle.answer.specs.Answers.{lent, answerOf};
-use band::Banded;
+use banding::Banded;
 use band_answers::band_text;
 use band_answers::put_band;
 use point_answers::put_points;

@@ -7,23 +7,14 @@ ghost use lib.Signed.{_≤ℤ_};
 ghost use Rattle.outline.specs.Checks.{outlineFrom};
 ghost use Rattle.records.specs.Records.{allRecords};
 ghost use Rattle.passes.specs.Leaves.{curvesOf};
-ghost use Rattle.band.specs.Banding.{bandCurves, writtenBy, banded, written};
+ghost use Rattle.banding.specs.Banding.{bandCurves, writtenBy, banded, written};
 ghost use Rattle.passes.specs.Counted.{Readable};
+use banding::Banded;
 use outline::Checked;
 use passes::Counted;
 use passes::count;
 use passes::write_all;
 use refusals::Refusal;
-
-// What banding answers: the report, or the first fault.
-pub enum Banded {
-    Done {
-        curves: usize,
-        leaves: usize,
-        nodes: usize,
-    },
-    Refused(Refusal),
-}
 
 // Puts a band round an outline, at a tolerance in sixteenths: the leaves' records stand at the front of the list afterwards, and what stood behind
 // them stays. A refusal alters nothing. Every outline, tolerance and list may be asked about.

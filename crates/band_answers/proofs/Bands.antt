@@ -13,11 +13,11 @@ use Rattle.integers.proofs.Ranges.{stored, read-again}
 use Rattle.refusals.specs.declared.Refusal.{Refusal}
 use Rattle.refusals.specs.declared.Refusal.the-variants.{Tolerance as WrongTolerance}
 use Rattle.outline.specs.Checks.{toleranceFine, Outlined, outlined}
-use Rattle.band.specs.declared.Banded.{Banded}
-use Rattle.band.specs.declared.Banded.the-variants.{Refused}
+use Rattle.banding.specs.declared.Banded.{Banded}
+use Rattle.banding.specs.declared.Banded.the-variants.{Refused}
 use Rattle.records.specs.Records.{allRecords}
 use Rattle.passes.specs.Leaves.{curvesOf}
-use Rattle.band.specs.Banding.{bandOutlined, banded, writtenBy, written}
+use Rattle.banding.specs.Banding.{bandOutlined, banded, writtenBy, written}
 use Rattle.appends.specs.Appends.{Appended, Within}
 use Rattle.appends.proofs.Appends.{append-both, within, appended-front, appended-length}
 use Rattle.text.specs.declared.Checked.{Checked}

@@ -3,9 +3,9 @@
 use mathlib.Core.List.{List, _++_}
 use Prim.Native.Nat.{ℕ, _+_, _*_, _≤_}
 use lib.IntN.{ℤ}
-use Rattle.band.specs.declared.Banded.{Banded}
-use Rattle.band.specs.declared.Banded.the-variants.{Refused}
-use Rattle.band.specs.Banding.{banded, written}
+use Rattle.banding.specs.declared.Banded.{Banded}
+use Rattle.banding.specs.declared.Banded.the-variants.{Refused}
+use Rattle.banding.specs.Banding.{banded, written}
 use Rattle.text.specs.Meaning.{Meaning, refused, means}
 use Rattle.render.specs.Answers.{doneLine}
 use Rattle.leaf_lines.specs.Leaves.{leafLines}

@@ -5,7 +5,7 @@ ghost use lib.ListN.{length};
 ghost use Rattle.appends.specs.Appends.{Within};
 ghost use Rattle.text.specs.Meaning.{meaning};
 ghost use Rattle.band_answers.specs.Bands.{bandOf, recordsOf, bandLines, RoomFor};
-use band::Banded;
+use banding::Banded;
 use text::Checked;
 
 // Checks a text and bands its outline at its tolerance: the first fault of the text, or what banding answers. The leaves' records stand at the front of the list
@@ -14,7 +14,7 @@ pub fn band_text(text: &[u8], numbers: &mut [i32], records: &mut [i32]) -> Bande
     requires { ⌜ 577 ≤ length (now numbers) ⌝ }
     ensures { λ r. ⌜ (r ≡ bandOf (meaning (now (text .entry))) (length (now (records .entry)))) × (now (records .exit) ≡ recordsOf (meaning (now (text .entry))) (now (records .entry))) ⌝ }
 {
-    match text::check_text(text) {
+    match text_checks::check_text(text) {
         Checked::Refused(refusal) => Banded::Refused(refusal),
         Checked::Tolerance(tolerance) => {
             let n = text_outline::keep_outline(text, numbers);

@@ -1,7 +1,7 @@
 -- Answers in numbers, for the C interface: 0 and 0 and what was found, or a refusal's number and spot and nothing else.
 use Rattle.refusals.specs.Refusals.{numberOf, spotOf}
-use Rattle.band.specs.declared.Banded.{Banded}
-use Rattle.band.specs.declared.Banded.the-variants.{Done, Refused}
+use Rattle.banding.specs.declared.Banded.{Banded}
+use Rattle.banding.specs.declared.Banded.the-variants.{Done, Refused}
 use Rattle.judging.specs.declared.Judgement.{Judgement}
 use Rattle.judging.specs.declared.Judgement.the-variants.{On, Off, Refused as PointRefused}
 use Rattle.c_answers.specs.declared.Answer.{Answer}

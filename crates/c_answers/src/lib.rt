@@ -2,7 +2,7 @@
 ghost use mathlib.Core.Path.{_≡_};
 ghost use Rattle.c_answers.specs.Answers.{answerOf, judgingAnswerOf};
 ghost use Rattle.c_answers.specs.Drawings.{drawingOf};
-use band::Banded;
+use banding::Banded;
 use cover::Drawn;
 use judging::Judgement;
 

@@ -18,7 +18,7 @@ use Rattle.enclosure.specs.Rows.{pieces}
 use Rattle.enclosure.specs.Thirds.{lowOf, highOf}
 use Rattle.node_boxes.specs.Boxes.{boxAt}
 use Rattle.enclosure.proofs.Places.{located}
-use Rattle.node_boxes.proofs.Narrow.{Narrow, meets-narrow}
+use Rattle.node_test.proofs.Narrow.{Narrow, meets-narrow}
 use Rattle.tree.specs.Leaves.{Covers}
 use Rattle.walk.specs.Walked.{nodeMeets}
 use Rattle.boxes.specs.declared.Box.{Box}

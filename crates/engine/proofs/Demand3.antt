@@ -21,15 +21,15 @@ use Rattle.outline.specs.Checks.{Outlined, curves}
 use Rattle.outline.proofs.Accepted.{outlined-from, accepted-all}
 use Rattle.walk.specs.Walked.{deepest, nodeMeets}
 use Rattle.tree.proofs.Leaves.{end-facts}
-use Rattle.band.specs.declared.Banded.the-variants.{Done}
+use Rattle.banding.specs.declared.Banded.the-variants.{Done}
 use Rattle.records.specs.Records.{recordOf, allRecords}
-use Rattle.band.specs.Banding.{banded, written}
+use Rattle.banding.specs.Banding.{banded, written}
 use Rattle.records.specs.Ranges.{SoundList}
 use Rattle.passes.specs.Meeting.{AllMeet}
-use Rattle.band.specs.Outcomes.{Faultless, Flat}
+use Rattle.banding.specs.Outcomes.{Faultless, Flat}
 use Rattle.records.proofs.Sound.{record-curve, record-node}
 use Rattle.records.proofs.Standing.{Found, every-end-stands, every-record-stands}
-use Rattle.band.proofs.Theorems.{done-exactly, records-written, written-some, written-sound, leaves-exactly, every-parameter, leaf-at-most}
+use Rattle.banding.proofs.Theorems.{done-exactly, records-written, written-some, written-sound, leaves-exactly, every-parameter, leaf-at-most}
 use Rattle.held.specs.Covers.{Holds, CoverHolds}
 use Rattle.judging.specs.declared.Judgement.{Judgement}
 use Rattle.judging.specs.declared.Judgement.the-variants.{On, Off, Refused}

@@ -7,9 +7,9 @@ use lib.ListN.{length, take}
 use lib.IntN.{ℤ}
 use Rattle.refusals.specs.declared.Refusal.{Refusal}
 use Rattle.boxes.specs.Records.{recordLength}
-use Rattle.band.specs.declared.Banded.the-variants.{Done, Refused}
-use Rattle.band.specs.Banding.{banded, written}
-use Rattle.band.proofs.Theorems.{done-exactly}
+use Rattle.banding.specs.declared.Banded.the-variants.{Done, Refused}
+use Rattle.banding.specs.Banding.{banded, written}
+use Rattle.banding.proofs.Theorems.{done-exactly}
 use Rattle.judging.specs.declared.Judgement.{Judgement}
 use Rattle.judging.specs.Judging.{Judged}
 use Rattle.engine.specs.declared.Outcome.the-variants.{NotBanded, Judged as WithJudgement}

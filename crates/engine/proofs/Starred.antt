@@ -23,7 +23,7 @@ use Rattle.outline.specs.Checks.{outlineFrom, outlined}
 use Rattle.tree.specs.Tree.{ends, met, firstFailing}
 use Rattle.records.specs.Records.{recordOf, recordsOf, allRecords}
 use Rattle.passes.specs.Leaves.{firstTooWide, leavesOf, nodesOf}
-use Rattle.band.specs.Banding.{bandCurves, banded, written}
+use Rattle.banding.specs.Banding.{bandCurves, banded, written}
 use Rattle.boxes.specs.declared.Box.{Box}
 use Rattle.polygon.specs.Polygon.{reached, endsOf, pathPoint, moves, verticesOf, pathOf, vertices, numbers}
 use Rattle.cover.specs.Drawing.{drawn, drawnInto}

@@ -3,7 +3,7 @@ use mathlib.Core.Path.{_≡_}
 use mathlib.Core.List.{List}
 use lib.IntN.{ℤ}
 use Rattle.refusals.specs.Refusals.{numberOf, spotOf}
-use Rattle.band.specs.declared.Banded.{Banded}
+use Rattle.banding.specs.declared.Banded.{Banded}
 use Rattle.judging.specs.declared.Judgement.{Judgement}
 use Rattle.judging.specs.Judging.{Judged}
 use Rattle.c_answers.specs.declared.JudgingAnswer.{JudgingAnswer}

@@ -11,7 +11,7 @@ use Rattle.bezier.specs.Nodes.{depth}
 use Rattle.bezier.specs.Points.{Equals, Within}
 use Rattle.boxes.specs.Records.{recordLength}
 use Rattle.outline.specs.Checks.{curves, outlined}
-use Rattle.band.specs.Outcomes.{Flat}
+use Rattle.banding.specs.Outcomes.{Flat}
 use Rattle.judging.specs.declared.Judgement.{Judgement}
 use Rattle.judging.specs.declared.Judgement.the-variants.{On}
 

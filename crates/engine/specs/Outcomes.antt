@@ -6,8 +6,8 @@ use Prim.Native.Nat.{ℕ, _*_}
 use lib.ListN.{take}
 use lib.IntN.{ℤ}
 use Rattle.boxes.specs.Records.{recordLength}
-use Rattle.band.specs.declared.Banded.{Banded}
-use Rattle.band.specs.declared.Banded.the-variants.{Done, Refused}
+use Rattle.banding.specs.declared.Banded.{Banded}
+use Rattle.banding.specs.declared.Banded.the-variants.{Done, Refused}
 use Rattle.judging.specs.declared.Judgement.{Judgement}
 use Rattle.judging.specs.Judging.{Judged}
 use Rattle.engine.specs.declared.Outcome.{Outcome}

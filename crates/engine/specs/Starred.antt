@@ -6,8 +6,8 @@ use lib.ListN.{replicate}
 use lib.IntN.{ℤ, pos, negℤ}
 use Rattle.refusals.specs.declared.Refusal.the-variants.{Tolerance, Coordinate, EmptyOutline, TooWide}
 use Rattle.refusals.specs.Refusals.{nodeSpot}
-use Rattle.band.specs.declared.Banded.the-variants.{Done, Refused}
-use Rattle.band.specs.Banding.{banded, written}
+use Rattle.banding.specs.declared.Banded.the-variants.{Done, Refused}
+use Rattle.banding.specs.Banding.{banded, written}
 use Rattle.judging.specs.declared.Judgement.{Judgement}
 use Rattle.judging.specs.declared.Judgement.the-variants.{Off}
 use Rattle.judging.specs.Judging.{Judged}

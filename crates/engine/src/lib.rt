@@ -1,13 +1,13 @@
 // Banding and judging together, and the C interface: what a program in another language calls. include/contour_band.h says the same for C.
 ghost use mathlib.Core.Path.{_≡_};
 ghost use lib.ListN.{length};
-ghost use Rattle.band.specs.Banding.{banded, written};
+ghost use Rattle.banding.specs.Banding.{banded, written};
 ghost use Rattle.cover.specs.Drawing.{drawn, drawnInto};
 ghost use Rattle.c_answers.specs.Answers.{answerOf};
 ghost use Rattle.c_answers.specs.Drawings.{drawingOf};
 ghost use Rattle.engine.specs.Outcomes.{Answered};
 ghost use Rattle.engine.specs.Answers.{outcomeAnswerOf, JudgedInNumbers, AnsweredInNumbers};
-use band::Banded;
+use banding::Banded;
 use boxes::Box;
 use c_answers::Answer;
 use c_answers::Drawing;

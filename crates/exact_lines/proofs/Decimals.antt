@@ -16,7 +16,7 @@ use Rattle.numerals.specs.declared.Natural.{Natural}
 use Rattle.numerals.specs.declared.Natural.the-variants.{Is as IsNatural, Nothing as NoNatural}
 use Rattle.numerals.specs.Numerals.{byte, isDigit, valueFrom, digitCount, naturalAt, plus, minus, numberAt}
 use Rattle.numerals.proofs.Places.{byte-first, byte-inside}
-use Rattle.numerals.proofs.Runs.{value-grows}
+use Rattle.digit_runs.proofs.Runs.{value-grows}
 use Rattle.digits.specs.Digits.{digits}
 use Rattle.decimals.specs.Decimals.{decimal}
 use Rattle.exact_lines.specs.Written.{Written}

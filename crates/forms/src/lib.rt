@@ -47,7 +47,7 @@ pub fn form_at(text: &[u8], i: usize) -> Form
 fn tolerance_at(text: &[u8], i: usize) -> Form
     ensures { λ r. ⌜ r ≡ toleranceAt (now (text .entry)) i ⌝ }
 {
-    let Number::Is(tolerance, j) = numerals::number_at(text, i) else {
+    let Number::Is(tolerance, j) = number_reading::number_at(text, i) else {
         return Form::NoForm;
     };
     if word_at(b")\n", text, j) {

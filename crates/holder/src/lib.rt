@@ -6,8 +6,8 @@ ghost use Rattle.judging.specs.Judging.{Verdict};
 ghost use Rattle.judging.specs.Searching.{Passed, InRange, RecordAt, holderAt};
 use judging::Judgement;
 use beyond::beyond;
-use held::holds;
-use leaf_list::box_in;
+use cover_test::holds;
+use leaf_faults::box_in;
 
 // The first cover of the record that begins at index `at` that holds the point (x, y), or 3.
 fn first_cover(leaves: &[i32], at: usize, x: i64, y: i64) -> usize

@@ -13,7 +13,7 @@ pub fn judge(leaves: &[i32], x: i32, y: i32) -> Judgement
     if leaves.len() % 18 != 0 {
         return Judgement::Refused(Refusal::LeafListLength(leaves.len()));
     }
-    let bad = leaf_list::number_fault(leaves);
+    let bad = leaf_faults::number_fault(leaves);
     if bad < leaves.len() {
         return Judgement::Refused(Refusal::LeafListNumber(bad));
     }

@@ -1,6 +1,3 @@
 -- Laws of the boxes of a node. Each file opens with what it holds.
 pub mod Examples
-pub mod Narrow
-pub mod Leaf
 pub mod Boxes
-pub mod Apart

@@ -1,5 +1,3 @@
 -- Laws of numerals. Each file opens with what it holds.
 pub mod Places
-pub mod Runs
-pub mod Numbers
 pub mod Examples

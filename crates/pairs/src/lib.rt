@@ -14,7 +14,7 @@ pub enum Pair {
 pub fn spaced_pair_at(text: &[u8], i: usize) -> Pair
     ensures { λ r. ⌜ r ≡ spacedPairAt (now (text .entry)) i ⌝ }
 {
-    if numerals::byte_at(text, i) != b' ' {
+    if digit_runs::byte_at(text, i) != b' ' {
         return Pair::Nothing;
     }
     pair_at(text, i + 1)
@@ -24,7 +24,7 @@ pub fn spaced_pair_at(text: &[u8], i: usize) -> Pair
 fn pair_at(text: &[u8], i: usize) -> Pair
     ensures { λ r. ⌜ r ≡ pairAt (now (text .entry)) i ⌝ }
 {
-    if numerals::byte_at(text, i) != b'(' {
+    if digit_runs::byte_at(text, i) != b'(' {
         return Pair::Nothing;
     }
     let Number::Is(x, j) = number_then(text, i + 1, b' ') else {
@@ -41,10 +41,10 @@ fn number_then(text: &[u8], i: usize, b: u8) -> Number
     requires { ⌜ 0 < b ⌝ }
     ensures { λ r. ⌜ r ≡ numberThen b (now (text .entry)) i ⌝ }
 {
-    let Number::Is(value, j) = numerals::number_at(text, i) else {
+    let Number::Is(value, j) = number_reading::number_at(text, i) else {
         return Number::Nothing;
     };
-    if numerals::byte_at(text, j) != b {
+    if digit_runs::byte_at(text, j) != b {
         return Number::Nothing;
     }
     Number::Is(value, j + 1)

@@ -14,7 +14,7 @@ use Rattle.bezier.specs.declared.Curve.{Curve}
 use Rattle.bezier.specs.Nodes.{depth, nodeCurve, after}
 use Rattle.bezier.proofs.Sizes.{node-sized}
 use Rattle.node_boxes.specs.Boxes.{Sides, boxAt}
-use Rattle.node_boxes.proofs.Leaf.{leaf-box}
+use Rattle.node_test.proofs.Leaf.{leaf-box}
 use Rattle.walk.specs.Walked.{deepest, nodeMeets, endsOf}
 use Rattle.records.specs.Records.{boxesTo, nodeNumbers, recordOf, recordsOf}
 use Rattle.records.specs.Writing.{Writable}

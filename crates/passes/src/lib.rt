@@ -12,7 +12,7 @@ ghost use Rattle.passes.specs.Writing.{Ready, Fillable};
 use bezier::Curve;
 use curve_values::curve_at;
 use outline_curves::next_at;
-use records::put_record;
+use record_writing::put_record;
 use refusals::Refusal;
 use walk::Walked;
 use walk::walk;
@@ -60,7 +60,7 @@ pub fn write_curve(records: &mut [i32], at: usize, number: u32, curve: Curve, t:
     let mut place = at;
     loop {
         let depth = bezier::depth(node);
-        if node_boxes::meets(part, depth, t) {
+        if node_test::meets(part, depth, t) {
             put_record(records, place, number, node, part);
             place += 18;
             node = bezier::after(node);

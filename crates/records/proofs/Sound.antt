@@ -20,7 +20,7 @@ use Rattle.bezier.specs.Nodes.{depth, nodeCurve}
 use Rattle.bezier.proofs.Sizes.{node-sized}
 use Rattle.enclosure.specs.Rows.{pieces}
 use Rattle.node_boxes.specs.Boxes.{boxAt}
-use Rattle.node_boxes.proofs.Leaf.{Sound, leaf-box}
+use Rattle.node_test.proofs.Leaf.{Sound, leaf-box}
 use Rattle.walk.specs.Walked.{deepest, nodeMeets, endsOf}
 use Rattle.records.specs.Records.{boxNumbers, boxesTo, recordOf, recordsOf}
 use Rattle.boxes.specs.Records.{recordLength}

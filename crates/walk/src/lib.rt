@@ -15,7 +15,7 @@ pub fn walk(curve: Curve, t: i64) -> Walked
     requires { ⌜ Sized 0 curve ⌝ }
     ensures { λ r. ⌜ r ≡ walkedOf t curve ⌝ }
 {
-    if node_boxes::meets(curve, 0, t) {
+    if node_test::meets(curve, 0, t) {
         return Walked::Leaves(1);
     }
     walk_halves(curve, t)
@@ -32,7 +32,7 @@ fn walk_halves(curve: Curve, t: i64) -> Walked
     let mut leaves: usize = 0;
     loop {
         let depth = bezier::depth(node);
-        if node_boxes::meets(part, depth, t) {
+        if node_test::meets(part, depth, t) {
             leaves += 1;
             node = bezier::after(node);
             if node == 1 {

@@ -8,7 +8,7 @@ use mir.Facts.{toZ-ofZ, sfits-widen}
 use lib.IntN.{pos}
 use Rattle.outline.specs.Checks.{toleranceFine}
 use Rattle.integers.proofs.Between.{between-high}
-use Rattle.band.proofs.Answers.{readable, banded-read, written-curves, banded-tolerance, banded-faulty, written-refused}
+use Rattle.banding.proofs.Answers.{readable, banded-read, written-curves, banded-tolerance, banded-faulty, written-refused}
 use Rattle.band.proofs.band_most.Statement.{statement}
 use Rattle.band.proofs.band_most.Tie as tie
 

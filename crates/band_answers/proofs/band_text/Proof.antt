@@ -6,7 +6,7 @@ use Rattle.band_answers.proofs.band_text.Tie as tie
 use Rattle.band_answers.proofs.band_text.Reads as reads
 use Rattle.band_answers.proofs.band_text.Lts as lts
 use Rattle.band.proofs.band.Reads as band-reads
-use Rattle.text.proofs.check_text.Reads as check-text-reads
+use Rattle.text_checks.proofs.check_text.Reads as check-text-reads
 use Rattle.text_outline.proofs.keep_outline.Reads as keep-outline-reads
 
 check-text-requires : tie.Need-check-text-requires

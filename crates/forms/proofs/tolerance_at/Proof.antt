@@ -7,7 +7,7 @@ use Rattle.forms.proofs.tolerance_at.Tie as tie
 use Rattle.forms.proofs.tolerance_at.Reads as reads
 use Rattle.forms.proofs.tolerance_at.Lts as lts
 use Rattle.pairs.proofs.word_at.Reads as word-at-reads
-use Rattle.numerals.proofs.number_at.Reads as number-at-reads
+use Rattle.number_reading.proofs.number_at.Reads as number-at-reads
 
 number-at-requires : tie.Need-number-at-requires
 number-at-requires c κs = search needs

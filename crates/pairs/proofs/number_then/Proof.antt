@@ -5,8 +5,8 @@ use Rattle.pairs.proofs.number_then.Statement.{statement}
 use Rattle.pairs.proofs.number_then.Tie as tie
 use Rattle.pairs.proofs.number_then.Reads as reads
 use Rattle.pairs.proofs.number_then.Lts as lts
-use Rattle.numerals.proofs.byte_at.Reads as byte-at-reads
-use Rattle.numerals.proofs.number_at.Reads as number-at-reads
+use Rattle.digit_runs.proofs.byte_at.Reads as byte-at-reads
+use Rattle.number_reading.proofs.number_at.Reads as number-at-reads
 
 number-at-requires : tie.Need-number-at-requires
 number-at-requires c κs = search needs

@@ -6,7 +6,7 @@ use Rattle.pairs.proofs.pair_at.Tie as tie
 use Rattle.pairs.proofs.pair_at.Reads as reads
 use Rattle.pairs.proofs.pair_at.Lts as lts
 use Rattle.pairs.proofs.number_then.Reads as number-then-reads
-use Rattle.numerals.proofs.byte_at.Reads as byte-at-reads
+use Rattle.digit_runs.proofs.byte_at.Reads as byte-at-reads
 
 byte-at-requires : tie.Need-byte-at-requires
 byte-at-requires c κs = search needs

@@ -1,0 +1,2 @@
+-- Laws of runs of digits.
+pub mod Runs

@@ -1,0 +1,2 @@
+-- What the contract of the loop over digits cites; no public promise does.
+pub mod Digits

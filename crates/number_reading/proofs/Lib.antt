@@ -1,0 +1,2 @@
+-- Laws of reading a number.
+pub mod Numbers
