@@ -17,16 +17,17 @@ use Rattle.integers.proofs.Rounding.{ceiling-is}
 use Rattle.integers.proofs.Table.{and-left, and-right, every-below, below, every}
 use Rattle.bernstein.specs.Value.{value}
 use Rattle.bezier.specs.Differences.{difference}
-use Rattle.enclosure.specs.Rows.{Row, pieces, thirds}
+use Rattle.rows.specs.Rows.{Row, pieces, thirds}
 use Rattle.enclosure.specs.Bounds.{chord, rowSum, high, low}
-use Rattle.enclosure.specs.Hats.{hat}
-use Rattle.enclosure.specs.Enclosed.{Place, joined, Encloses}
-use Rattle.enclosure.proofs.Negated.{negated, value-negated}
-use Rattle.enclosure.proofs.Degrees.{degrees}
+use Rattle.rows.specs.Hats.{hat}
+use Rattle.rows.specs.Joined.{Place, joined}
+use Rattle.enclosure.specs.Enclosed.{Encloses}
+use Rattle.rows.proofs.Negated.{negated, value-negated}
+use Rattle.rows.proofs.Degrees.{degrees}
 use Rattle.enclosure.proofs.SecondDifferences.{hatSum, Form, form-1, form-2, form-3}
-use Rattle.enclosure.proofs.Rows.{passes, tested, low-line, high-line, table-tested, table-count}
+use Rattle.rows.proofs.Rows.{passes, tested, low-line, high-line, table-tested, table-count}
 use Rattle.enclosure.proofs.Negation.{low-is}
-use Rattle.enclosure.proofs.Places.{Located, located, place-at}
+use Rattle.rows.proofs.Places.{Located, located, place-at}
 
 -- ---- the sum of row × difference against that of polynomial × difference
 module _ (m d : ℕ) (hd : 0 < d) {i a b p r : ℕ} (hi : i < m) (w : Place m i a b p r) where

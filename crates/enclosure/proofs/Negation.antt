@@ -12,9 +12,9 @@ use Rattle.integers.proofs.Order.{pos-le}
 use Rattle.integers.proofs.Ranges.{no-lt}
 use Rattle.integers.proofs.Rounding.{floor-neg}
 use Rattle.bezier.specs.Differences.{difference}
-use Rattle.enclosure.specs.Rows.{Row}
+use Rattle.rows.specs.Rows.{Row}
 use Rattle.enclosure.specs.Bounds.{exchanged, rowSum, chord, high, low}
-use Rattle.enclosure.proofs.Negated.{negated, entry-negated}
+use Rattle.rows.proofs.Negated.{negated, entry-negated}
 
 difference-negated : (cs : List ℤ) (k : ℕ) → difference (negated cs) k ≡ negℤ (difference cs k)
 difference-negated cs k = simp entry-negated (ring (entry cs k ∷ entry cs (suc k) ∷ entry cs (suc (suc k)) ∷ []) (search sides depth 20) refl)

@@ -8,7 +8,7 @@ use Rattle.integers.specs.Rounding.{floor, ceiling}
 use Rattle.integers.proofs.Ring.{ring, sides}
 use Rattle.integers.proofs.Order.{times-positive, pos-lt}
 use Rattle.integers.proofs.Rounding.{floor-scale, ceiling-scale}
-use Rattle.enclosure.specs.Rows.{Row}
+use Rattle.rows.specs.Rows.{Row}
 use Rattle.enclosure.specs.Bounds.{exchanged, chord, rowSum, high, low}
 
 module _ {m : ℕ} (some : 0 < m) {D : ℤ} (hD : pos 0 <ℤ D) where

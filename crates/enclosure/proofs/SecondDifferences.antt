@@ -7,7 +7,7 @@ use Rattle.integers.specs.Entry.{entry}
 use Rattle.integers.proofs.Ring.{ring, sides}
 use Rattle.bernstein.specs.Value.{choose, sum, value}
 use Rattle.bezier.specs.Differences.{difference}
-use Rattle.enclosure.specs.Hats.{hat}
+use Rattle.rows.specs.Hats.{hat}
 
 -- polynomial × difference, summed over n differences from place k on
 unfoldable pub hatSum : (p r : ℤ) (d n k : ℕ) → List ℤ → ℤ

@@ -17,11 +17,11 @@ use Rattle.integers.proofs.Ranges.{no-lt}
 use Rattle.integers.proofs.Rounding.{floor-is, ceiling-is}
 use Rattle.integers.proofs.Table.{and-left, and-right, below}
 use Rattle.bezier.specs.Differences.{difference}
-use Rattle.enclosure.specs.Rows.{Row, pieces, thirds}
+use Rattle.rows.specs.Rows.{Row, pieces, thirds}
 use Rattle.enclosure.specs.Bounds.{exchanged, chord, rowSum, high, low}
 use Rattle.enclosure.specs.Thirds.{highOf, lowOf}
-use Rattle.enclosure.proofs.Gaps.{gapSum, ordered, apart, table-apart}
-use Rattle.enclosure.proofs.Rows.{table-count}
+use Rattle.rows.proofs.Gaps.{gapSum, ordered, apart, table-apart}
+use Rattle.rows.proofs.Rows.{table-count}
 
 -- ---- the two sums of row × difference
 -- one term: the rows' gap times the size of the difference

@@ -8,7 +8,7 @@ use lib.Signed.{ltZ}
 use Rattle.integers.specs.Entry.{entry}
 use Rattle.integers.specs.Rounding.{floor, ceiling}
 use Rattle.bezier.specs.Differences.{difference}
-use Rattle.enclosure.specs.Rows.{Row}
+use Rattle.rows.specs.Rows.{Row}
 
 -- the rows exchanged
 abbrev pub exchanged : List Row → List Row

@@ -2,7 +2,7 @@
 use mathlib.Core.List.{List}
 use Prim.Native.Nat.{ℕ, _*_, _^_}
 use lib.IntN.{ℤ, pos}
-use Rattle.enclosure.specs.Rows.{pieces, thirds}
+use Rattle.rows.specs.Rows.{pieces, thirds}
 use Rattle.enclosure.specs.Bounds.{high, low}
 
 -- the denominator of the control values of degree d at depth k

@@ -14,10 +14,10 @@ use Rattle.bezier.specs.Bounds.{Sized}
 use Rattle.bezier.specs.Nodes.{depth, start, nodeCurve}
 use Rattle.bezier.specs.Points.{Equals, Within}
 use Rattle.bezier.proofs.Coordinates.{nodeValues, node-curve}
-use Rattle.enclosure.specs.Rows.{pieces}
+use Rattle.rows.specs.Rows.{pieces}
 use Rattle.enclosure.specs.Thirds.{lowOf, highOf}
 use Rattle.node_boxes.specs.Boxes.{boxAt}
-use Rattle.enclosure.proofs.Places.{located}
+use Rattle.rows.proofs.Places.{located}
 use Rattle.node_test.proofs.Narrow.{Narrow, meets-narrow}
 use Rattle.tree.specs.Leaves.{Covers}
 use Rattle.walk.specs.Walked.{nodeMeets}

@@ -15,11 +15,12 @@ use Rattle.bezier.specs.Nodes.{depth, start}
 use Rattle.bezier.specs.Points.{scaled, sixteenths, Near}
 use Rattle.bezier.proofs.Coordinates.{nodeValues}
 use Rattle.bezier.proofs.Parameters.{remaining, values-up, up-sum, pAt, rAt, same-sum, values-down, denominator}
-use Rattle.enclosure.specs.Rows.{Row, pieces, thirds}
+use Rattle.rows.specs.Rows.{Row, pieces, thirds}
 use Rattle.enclosure.specs.Bounds.{low, high}
 use Rattle.enclosure.specs.Thirds.{lowOf, highOf}
-use Rattle.enclosure.specs.Enclosed.{Place, Encloses}
-use Rattle.enclosure.proofs.Places.{Located, place-at}
+use Rattle.rows.specs.Joined.{Place}
+use Rattle.enclosure.specs.Enclosed.{Encloses}
+use Rattle.rows.proofs.Places.{Located, place-at}
 use Rattle.enclosure.proofs.Enclosure.{enclosure, enclosure-between}
 use Rattle.held.specs.Covers.{Mixed}
 

@@ -7,7 +7,7 @@ use Rattle.integers.specs.Entry.{entry}
 use Rattle.bezier.specs.declared.Curve.{Curve}
 use Rattle.halves.specs.Sizes.{Each}
 use Rattle.halves.specs.Halves.{listed}
-use Rattle.enclosure.specs.Rows.{pieces}
+use Rattle.rows.specs.Rows.{pieces}
 use Rattle.enclosure.specs.Thirds.{lowOf, highOf}
 use Rattle.node_boxes.specs.declared.Box.{Box}
 use Rattle.node_boxes.specs.declared.NodeBoxes.{NodeBoxes}

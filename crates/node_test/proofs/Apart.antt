@@ -22,13 +22,13 @@ use Rattle.integers.proofs.Table.{and-left, and-right}
 use Rattle.bezier.specs.declared.Curve.{Curve}
 use Rattle.bezier.specs.Differences.{difference}
 use Rattle.bezier.specs.Bounds.{Sized}
-use Rattle.enclosure.specs.Rows.{Row, pieces, thirds}
+use Rattle.rows.specs.Rows.{Row, pieces, thirds}
 use Rattle.enclosure.specs.Bounds.{exchanged, chord, rowSum, high, low}
 use Rattle.enclosure.specs.Thirds.{over, highOf, lowOf}
 use Rattle.node_boxes.specs.Boxes.{meets}
 use Rattle.row_sums.specs.Terms.{Small}
 use Rattle.spread.specs.Spread.{apart, larger, spread, widest}
-use Rattle.enclosure.proofs.Degrees.{degrees}
+use Rattle.rows.proofs.Degrees.{degrees}
 use Rattle.enclosure.proofs.Width.{term-gap}
 use Rattle.enclosure.proofs.Reduced.{low-reduced, high-reduced}
 use Rattle.node_test.proofs.Narrow.{meets-narrow, narrow-meets}

@@ -15,11 +15,11 @@ use Rattle.halves.specs.Sizes.{Each}
 use Rattle.bezier.specs.Bounds.{Sized}
 use Rattle.bezier.specs.declared.Curve.{Curve}
 use Rattle.node_boxes.specs.declared.Box.{Box}
-use Rattle.enclosure.specs.Rows.{Row, pieces}
+use Rattle.rows.specs.Rows.{Row, pieces}
 use Rattle.enclosure.specs.Bounds.{high, low}
 use Rattle.enclosure.specs.Thirds.{highOf, lowOf}
 use Rattle.node_boxes.specs.Boxes.{boxAt, meets}
-use Rattle.enclosure.specs.Enclosed.{Place}
+use Rattle.rows.specs.Joined.{Place}
 use Rattle.integers.proofs.RingLaws.{pow-last}
 use Rattle.bezier.proofs.Values.{value-high, value-low}
 use Rattle.enclosure.proofs.Enclosure.{Enclosable, enclosable, encloses}

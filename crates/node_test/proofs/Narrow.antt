@@ -14,7 +14,7 @@ use Rattle.integers.proofs.Ranges.{T-true}
 use Rattle.bezier.specs.declared.Curve.{Curve}
 use Rattle.bezier.specs.Differences.{difference}
 use Rattle.node_boxes.specs.declared.Box.{Box}
-use Rattle.enclosure.specs.Rows.{pieces}
+use Rattle.rows.specs.Rows.{pieces}
 use Rattle.enclosure.specs.Thirds.{lowOf, highOf}
 use Rattle.node_boxes.specs.Boxes.{boxAt, narrow, allNarrow, meets}
 use Rattle.enclosure.proofs.Width.{width}

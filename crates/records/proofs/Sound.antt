@@ -18,7 +18,7 @@ use Rattle.bezier.specs.declared.Curve.{Curve}
 use Rattle.bezier.specs.Bounds.{Sized}
 use Rattle.bezier.specs.Nodes.{depth, nodeCurve}
 use Rattle.bezier.proofs.Sizes.{node-sized}
-use Rattle.enclosure.specs.Rows.{pieces}
+use Rattle.rows.specs.Rows.{pieces}
 use Rattle.node_boxes.specs.Boxes.{boxAt}
 use Rattle.node_test.proofs.Leaf.{Sound, leaf-box}
 use Rattle.walk.specs.Walked.{deepest, nodeMeets, endsOf}

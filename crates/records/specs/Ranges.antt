@@ -6,7 +6,7 @@ use lib.ListN.{length}
 use lib.IntN.{ℤ, pos}
 use lib.Signed.{_≤ℤ_, _<ℤ_}
 use Rattle.integers.specs.Entry.{entry}
-use Rattle.enclosure.specs.Rows.{pieces}
+use Rattle.rows.specs.Rows.{pieces}
 use Rattle.boxes.specs.Ranges.{Interval}
 use Rattle.boxes.specs.Records.{recordLength}
 

@@ -5,7 +5,7 @@ use lib.IntN.{ℤ, pos}
 use Rattle.bezier.specs.declared.Curve.{Curve}
 use Rattle.bezier.specs.Nodes.{depth, nodeCurve}
 use Rattle.node_boxes.specs.declared.Box.{Box}
-use Rattle.enclosure.specs.Rows.{pieces}
+use Rattle.rows.specs.Rows.{pieces}
 use Rattle.node_boxes.specs.Boxes.{boxAt}
 use Rattle.walk.specs.Walked.{endsOf}
 

@@ -30,11 +30,11 @@ use Rattle.halves.specs.Halves.{listed, four}
 use Rattle.bezier.proofs.Values.{listed-ext}
 use Rattle.bezier.proofs.Sizes.{each-wider}
 use Rattle.halves.proofs.Halving.{held-entry}
-use Rattle.enclosure.specs.Rows.{pieces, thirds}
+use Rattle.rows.specs.Rows.{pieces, thirds}
 use Rattle.enclosure.specs.Bounds.{rowSum, high}
 use Rattle.enclosure.specs.Thirds.{over, highOf, lowOf}
 use Rattle.row_sums.specs.Terms.{Readable, Small, Holds, HoldsFour, numerator, term, opposite}
-use Rattle.enclosure.proofs.Negated.{negated, entry-negated}
+use Rattle.rows.proofs.Negated.{negated, entry-negated}
 use Rattle.enclosure.proofs.Negation.{low-is}
 use Rattle.enclosure.proofs.Reduced.{high-reduced}
 

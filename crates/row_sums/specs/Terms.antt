@@ -8,7 +8,7 @@ use lib.Signed.{ltZ}
 use Rattle.integers.specs.Entry.{entry}
 use Rattle.halves.specs.Halves.{listed}
 use Rattle.halves.specs.Sizes.{Each}
-use Rattle.enclosure.specs.Rows.{pieces}
+use Rattle.rows.specs.Rows.{pieces}
 
 -- a coordinate of degree 1 to 3 that 64 bits have room for
 pub record Readable (cs : List ℤ) (d : ℕ) : Type 0 where

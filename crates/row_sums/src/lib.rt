@@ -4,7 +4,7 @@ ghost use lib.IntN.{_+ℤ_, _*ℤ_};
 ghost use Rattle.integers.specs.Entry.{entry};
 ghost use Rattle.halves.specs.Sizes.{Each};
 ghost use Rattle.bezier.specs.Differences.{difference};
-ghost use Rattle.enclosure.specs.Rows.{thirds};
+ghost use Rattle.rows.specs.Rows.{thirds};
 ghost use Rattle.enclosure.specs.Bounds.{rowSum};
 ghost use Rattle.row_sums.specs.Terms.{Readable, Small, Holds, HoldsFour, term};
 

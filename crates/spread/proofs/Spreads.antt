@@ -11,7 +11,7 @@ use Rattle.integers.proofs.Ranges.{lt-yes, lt-no}
 use Rattle.integers.proofs.Machine.{Held}
 use Rattle.integers.proofs.Table.{and-left, and-right}
 use Rattle.bezier.specs.Differences.{difference}
-use Rattle.enclosure.specs.Rows.{thirds}
+use Rattle.rows.specs.Rows.{thirds}
 use Rattle.row_sums.specs.Terms.{Holds}
 use Rattle.spread.specs.Spread.{apart, larger, spread}
 

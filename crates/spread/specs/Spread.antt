@@ -7,7 +7,7 @@ use lib.Signed.{ltZ}
 use Rattle.integers.specs.Entry.{entry}
 use Rattle.bezier.specs.declared.Curve.{Curve}
 use Rattle.bezier.specs.Differences.{difference}
-use Rattle.enclosure.specs.Rows.{Row, pieces, thirds}
+use Rattle.rows.specs.Rows.{Row, pieces, thirds}
 
 -- the gap of the rows at break point i times the size of the difference, summed over the differences from place k on
 unfoldable pub apart : List Row → ℕ → ℕ → List ℤ → ℤ

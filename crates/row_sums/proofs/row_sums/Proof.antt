@@ -4,7 +4,7 @@ use Prim.Native.Nat.{zero-le}
 use native.Mathlib.Omega.{arith}
 use lib.IntN.{_+ℤ_}
 use borrow.Author.Needs.{needs}
-use Rattle.enclosure.specs.Rows.{thirds}
+use Rattle.rows.specs.Rows.{thirds}
 use Rattle.enclosure.specs.Bounds.{rowSum}
 use Rattle.row_sums.specs.Terms.{term}
 use Rattle.row_sums.proofs.Coordinates.{each-by, four-hold, four-as, one-of, stored-is, sum-line, sum-one, sum-two}

@@ -7,8 +7,8 @@ use lib.IntN.{ℤ, pos, _+ℤ_, _-ℤ_}
 use lib.Signed.{nonNeg, leZ}
 use Rattle.integers.specs.Entry.{entry}
 use Rattle.integers.proofs.Table.{every-below}
-use Rattle.enclosure.specs.Rows.{Row, pieces, thirds}
-use Rattle.enclosure.proofs.Degrees.{degrees}
+use Rattle.rows.specs.Rows.{Row, pieces, thirds}
+use Rattle.rows.proofs.Degrees.{degrees}
 
 -- high less low at break point i, summed over the rows
 abbrev pub gapSum : List Row → ℕ → ℤ

@@ -8,7 +8,7 @@ use native.Mathlib.Omega.{arith}
 use lib.IntN.{ℤ, pos, natAbs, _+ℤ_, _-ℤ_, _*ℤ_}
 use Rattle.integers.proofs.Ring.{ring, sides}
 use Rattle.integers.proofs.Order.{lt-or-ge}
-use Rattle.enclosure.specs.Enclosed.{Place, joined}
+use Rattle.rows.specs.Joined.{Place, joined}
 
 pub record Located (m p r : ℕ) : Type 0 where
   pub piece : ℕ

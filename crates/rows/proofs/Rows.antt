@@ -19,14 +19,14 @@ use Rattle.bernstein.proofs.Recursion.{casteljau-ext, casteljau-mix, value-is}
 use Rattle.bernstein.proofs.Stretch.{stretch, stretch-value}
 use Rattle.bernstein.proofs.Nonnegative.{nonnegative, nonnegative-right, value-times}
 use Rattle.halves.specs.Halves.{listed}
-use Rattle.enclosure.specs.Rows.{Row, pieces, thirds}
-use Rattle.enclosure.specs.Hats.{hat}
-use Rattle.enclosure.specs.Enclosed.{Place, joined, RowBounds}
-use Rattle.enclosure.proofs.Degrees.{degrees}
-use Rattle.enclosure.proofs.Negated.{negated, value-negated}
+use Rattle.rows.specs.Rows.{Row, pieces, thirds}
+use Rattle.rows.specs.Hats.{hat}
+use Rattle.rows.specs.Joined.{Place, joined, RowBounds}
+use Rattle.rows.proofs.Degrees.{degrees}
+use Rattle.rows.proofs.Negated.{negated, value-negated}
 use Rattle.bezier.proofs.Values.{listed-entry}
-use Rattle.enclosure.proofs.Hats.{hat-2-first, hat-3-first, hat-3-second}
-use Rattle.enclosure.proofs.Lines.{casteljau-line}
+use Rattle.rows.proofs.Hats.{hat-2-first, hat-3-first, hat-3-second}
+use Rattle.rows.proofs.Lines.{casteljau-line}
 
 -- ---- the test of one row; h are d times the coefficients of its polynomial
 -- the polynomial over piece i of m, times m^d

@@ -12,7 +12,7 @@ use Rattle.integers.proofs.Ring.{ring, sides}
 use Rattle.integers.proofs.Table.{every-below}
 use Rattle.bernstein.specs.Value.{choose, sum, value}
 use Rattle.bezier.specs.Differences.{difference}
-use Rattle.enclosure.specs.Hats.{hat}
+use Rattle.rows.specs.Hats.{hat}
 
 module _ (p r : ℤ) where
   pub hat-2-first : value p r 2 (hat 2 0) ≡ pos 2 *ℤ negℤ (p *ℤ r)

@@ -1,0 +1,8 @@
+-- Laws of the rows. Each file opens with what it holds.
+pub mod Negated
+pub mod Degrees
+pub mod Hats
+pub mod Lines
+pub mod Rows
+pub mod Gaps
+pub mod Places
