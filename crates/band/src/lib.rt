@@ -12,8 +12,8 @@ ghost use Rattle.passes.specs.Counted.{Readable};
 use banding::Banded;
 use outline::Checked;
 use passes::Counted;
-use passes::count;
-use passes::write_all;
+use leaf_count::count;
+use leaf_writing::write_all;
 use refusals::Refusal;
 
 // Puts a band round an outline, at a tolerance in sixteenths: the leaves' records stand at the front of the list afterwards, and what stood behind

@@ -1,9 +1,4 @@
-// The faults of one curve of an outline.
-ghost use mathlib.Core.Path.{_≡_};
-ghost use Prim.Native.Nat.{_-_, _≤_, _<_};
-ghost use lib.ListN.{length};
-ghost use Rattle.curve_faults.specs.Faults.{firstBeyond, faultAt, foundOf, faultOf};
-use outline_curves::next_at;
+// The faults of one curve of an outline: what its checks answer. The code stands in `curve_checks`.
 use refusals::Refusal;
 
 // An index, where there is one.
@@ -16,45 +11,4 @@ pub enum Found {
 pub enum Fault {
     Is(Refusal),
     Nothing,
-}
-
-// Check 4: the first index from `from` up to `end` of a number that is no coordinate.
-fn first_beyond(ns: &[i32], from: usize, end: usize) -> Found
-    requires { ⌜ end ≤ length (now ns) ⌝ }
-    ensures { λ r. ⌜ r ≡ foundOf (firstBeyond (now (ns .entry)) (end - from) from) ⌝ }
-{
-    let mut i = from;
-    while i < end {
-        let z = ns[i];
-        if z < -1048576 {
-            return Found::At(i);
-        }
-        if 1048576 < z {
-            return Found::At(i);
-        }
-        i += 1;
-    }
-    Found::Nothing
-}
-
-// Checks 2, 3 and 4 of the curve whose degree stands at index `at`.
-pub fn fault_at(ns: &[i32], at: usize) -> Fault
-    requires { ⌜ at < length (now ns) ⌝ }
-    ensures { λ r. ⌜ r ≡ faultOf (faultAt (now (ns .entry)) at) ⌝ }
-{
-    let d = ns[at];
-    if d < 1 {
-        return Fault::Is(Refusal::Degree(at));
-    }
-    if 3 < d {
-        return Fault::Is(Refusal::Degree(at));
-    }
-    let next = next_at(ns, at);
-    if ns.len() < next {
-        return Fault::Is(Refusal::CutShort(ns.len()));
-    }
-    match first_beyond(ns, at + 1, next) {
-        Found::At(i) => Fault::Is(Refusal::Coordinate(i)),
-        Found::Nothing => Fault::Nothing,
-    }
 }

@@ -2,7 +2,7 @@
 ghost use mathlib.Core.Path.{_≡_};
 ghost use Rattle.outline.specs.Checks.{toleranceFine, outlined, checkedOf};
 use curve_faults::Fault;
-use curve_faults::fault_at;
+use curve_checks::fault_at;
 use outline_curves::next_at;
 use refusals::Refusal;
 

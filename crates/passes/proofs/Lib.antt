@@ -1,7 +1,4 @@
 -- Laws of the two passes. Each file opens with what it holds.
 pub mod Wide
 pub mod Counting
-pub mod Recording
 pub mod Outlines
-pub mod Passes
-pub mod Filling

@@ -1,4 +1,4 @@
--- `passes::count` meets its contract. The loop's invariant: with k curves done and so many leaves counted, the whole outline's answer is what the
+-- `leaf_count::count` meets its contract. The loop's invariant: with k curves done and so many leaves counted, the whole outline's answer is what the
 -- rest of it gives, counted on. The measure is the number of curves left.
 use mathlib.Core.Path.{_≡_, sym, _∙_, ap}
 use Prim.Native.Nat.{_-_}
@@ -12,10 +12,10 @@ use Rattle.outline_curves.specs.Curves.{curveAt}
 use Rattle.curve_faults.proofs.Faultless.{faultless}
 use Rattle.walk.specs.declared.Walked.the-variants.{Leaves as WalkLeaves}
 use Rattle.walk.specs.Walked.{walkedOf}
 use Rattle.passes.proofs.Outlines.{rest-next}
-use Rattle.passes.proofs.Passes.{Passed, passed-start, passed-wide, passed-few, passed-more, passed-done}
-use Rattle.passes.proofs.count.Statement.{statement}
-use Rattle.passes.proofs.count.Tie as tie
+use Rattle.leaf_count.proofs.Passes.{Passed, passed-start, passed-wide, passed-few, passed-more, passed-done}
+use Rattle.leaf_count.proofs.count.Statement.{statement}
+use Rattle.leaf_count.proofs.count.Tie as tie
 
 abbrev Inv-loop : tie.InvT-loop
 Inv-loop ns t curves leaves₀ at₀ k₀ leaves at k = Passed (toZ w64 t) ns curves k at leaves

@@ -1,15 +1,15 @@
--- `curve_faults::fault_at` meets its contract: each return is one of the checks 2, 3 and 4.
+-- `curve_checks::fault_at` meets its contract: each return is one of the checks 2, 3 and 4.
 use mathlib.Core.Path.{_≡_, sym, _∙_, ap}
 use mathlib.Core.Bool.{true}
 use lib.IntN.{pos}
 use borrow.Author.Needs.{needs}
 use Rattle.integers.specs.Entry.{entry}
 use Rattle.integers.specs.Between.{between}
 use Rattle.curve_faults.specs.Faults.{faultAt, faultOf}
 use Rattle.integers.proofs.Between.{element-fits, found-below, found-above, found-within}
 use Rattle.curve_faults.proofs.Faultless.{fault-degree, fault-cut-short, fault-coordinate, coordinateFault}
-use Rattle.curve_faults.proofs.fault_at.Statement.{statement}
-use Rattle.curve_faults.proofs.fault_at.Tie as tie
+use Rattle.curve_checks.proofs.fault_at.Statement.{statement}
+use Rattle.curve_checks.proofs.fault_at.Tie as tie
 
 mul-d : tie.Need-mul-d
 mul-d c = search needs

@@ -6,10 +6,10 @@ use mir.Syntax.{w64}
 use mir.Val.{toZ}
 use mir.Facts.{toZ-ofZ}
 use Rattle.curve_faults.proofs.Faultless.{faultless}
 use Rattle.passes.proofs.Outlines.{rest-next}
-use Rattle.passes.proofs.Filling.{Filled, filled-start, filled-length, filled-ready, filled-room, filled-on, filled-done}
-use Rattle.passes.proofs.write_all.Statement.{statement}
-use Rattle.passes.proofs.write_all.Tie as tie
+use Rattle.leaf_writing.proofs.Filling.{Filled, filled-start, filled-length, filled-ready, filled-room, filled-on, filled-done}
+use Rattle.leaf_writing.proofs.write_all.Statement.{statement}
+use Rattle.leaf_writing.proofs.write_all.Tie as tie
 
 abbrev Inv-loop : tie.InvT-loop
 Inv-loop records₀ ns t curves at₀ place₀ k₀ records at place k = Filled (toZ w64 t) ns curves records₀ k at place records

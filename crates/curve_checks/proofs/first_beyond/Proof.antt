@@ -1,4 +1,4 @@
--- `curve_faults::first_beyond` meets its contract. The loop's invariant: the search from `from` on comes to the search from `i` on. The measure
+-- `curve_checks::first_beyond` meets its contract. The loop's invariant: the search from `from` on comes to the search from `i` on. The measure
 -- is what is left up to `end`.
 use mathlib.Core.Path.{_≡_, refl, sym, _∙_, ap}
 use mathlib.Core.Bool.{Bool}
@@ -6,12 +6,12 @@ use mathlib.Core.List.{List}
 use Prim.Native.Nat.{ℕ, _-_}
 use native.Mathlib.Omega.{arith}
 use lib.IntN.{ℤ, pos, negℤ}
 use Rattle.curve_faults.specs.Faults.{coordinateFine, firstBeyond, foundOf}
 use Rattle.integers.specs.Entry.{entry}
 use Rattle.integers.proofs.Between.{element-fits, found-below, found-above, found-within}
 use Rattle.integers.proofs.First.{bad-ended, bad-here, bad-on}
-use Rattle.curve_faults.proofs.first_beyond.Statement.{statement}
-use Rattle.curve_faults.proofs.first_beyond.Tie as tie
+use Rattle.curve_checks.proofs.first_beyond.Statement.{statement}
+use Rattle.curve_checks.proofs.first_beyond.Tie as tie
 
 abbrev Inv-loop : tie.InvT-loop
 Inv-loop ns from end i₀ i = firstBeyond ns (end - from) from ≡ firstBeyond ns (end - i) i

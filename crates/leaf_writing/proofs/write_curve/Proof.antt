@@ -10,16 +10,16 @@ use mir.Facts.{toZ-ofZ}
 use lib.ListN.{length}
 use lib.Seq.{sets, length-sets}
 use Rattle.integers.proofs.Ranges.{stored}
 use Rattle.passes.specs.Writing.{Ready}
 use Rattle.walk.specs.Walked.{deepest, nodeMeets}
 use Rattle.records.specs.Records.{recordOf}
 use Rattle.tree.proofs.Rank.{rank}
 use Rattle.tree.proofs.Walking.{walking-below, not-deepest, walking-leaf, walking-halvable, half-falls, leaf-falls}
 use Rattle.tree.proofs.Failing.{none-passing}
 use Rattle.walk.proofs.Paths.{Path, Leads, path-start, path-sized, path-meets, path-halvable, path-half, path-after}
-use Rattle.passes.proofs.Recording.{Recorded, recorded-start, recorded-length, recorded-room, recorded-half, recorded-leaf, recorded-done, writable-leaf, put}
-use Rattle.passes.proofs.write_curve.Statement.{statement}
-use Rattle.passes.proofs.write_curve.Tie as tie
+use Rattle.leaf_writing.proofs.Recording.{Recorded, recorded-start, recorded-length, recorded-room, recorded-half, recorded-leaf, recorded-done, writable-leaf, put}
+use Rattle.leaf_writing.proofs.write_curve.Statement.{statement}
+use Rattle.leaf_writing.proofs.write_curve.Tie as tie
 
 abbrev Inv-loop : tie.InvT-loop
 Inv-loop records₀ at number t path₀ part₀ node₀ place₀ records path part node place =

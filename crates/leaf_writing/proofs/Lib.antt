@@ -1,0 +1,3 @@
+-- Laws of the second pass.
+pub mod Recording
+pub mod Filling

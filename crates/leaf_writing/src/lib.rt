@@ -1,0 +1,58 @@
+// The second pass over the curves of an outline: it writes the records of their leaves.
+ghost use mathlib.Core.Path.{_≡_};
+ghost use Prim.Native.Nat.{_+_, _*_, _≤_, _<_, _^_};
+ghost use lib.ListN.{length};
+ghost use lib.Seq.{sets};
+ghost use Rattle.outline.specs.Checks.{outlineFrom};
+ghost use Rattle.walk.specs.Walked.{endsOf};
+ghost use Rattle.records.specs.Records.{recordsOf, allRecords};
+ghost use Rattle.passes.specs.Leaves.{curvesOf};
+ghost use Rattle.passes.specs.Writing.{Ready, Fillable};
+use bezier::Curve;
+use curve_values::curve_at;
+use outline_curves::next_at;
+use record_writing::put_record;
+use walk::walk;
+
+// The records of a curve's leaves, from place `at` on. It returns the place after them. The path is as in `walk`.
+pub fn write_curve(records: &mut [i32], at: usize, number: u32, curve: Curve, t: i64) -> usize
+    requires { ⌜ (Ready t curve) × (number < 2 ^ 31) × (at + 18 * length (endsOf t curve) ≤ length (now records)) ⌝ }
+    ensures { λ r. ⌜ (r ≡ at + 18 * length (endsOf t curve)) × (now (records .exit) ≡ sets (now (records .entry)) at (recordsOf number curve (endsOf t curve))) ⌝ }
+{
+    let mut path = [curve; 8];
+    let mut part = curve;
+    let mut node: u32 = 1;
+    let mut place = at;
+    loop {
+        let depth = bezier::depth(node);
+        if node_test::meets(part, depth, t) {
+            put_record(records, place, number, node, part);
+            place += 18;
+            node = bezier::after(node);
+            if node == 1 {
+                return place;
+            }
+            let above = bezier::depth(node) - 1;
+            part = path[above as usize].right();
+        } else {
+            path[depth as usize] = part;
+            part = part.left();
+            node = 2 * node;
+        }
+    }
+}
+
+// The records of every leaf of an outline, from the front of the list on.
+pub fn write_all(records: &mut [i32], ns: &[i32], t: i64, curves: usize)
+    requires { ⌜ Fillable t (now ns) curves (length (now records)) ⌝ }
+    ensures { λ _. ⌜ now (records .exit) ≡ sets (now (records .entry)) 0 (allRecords t 0 (curvesOf (outlineFrom curves (now (ns .entry)) 0))) ⌝ }
+{
+    let mut at: usize = 0;
+    let mut place: usize = 0;
+    let mut k: usize = 0;
+    while k < curves {
+        place = write_curve(records, place, k as u32, curve_at(ns, at), t);
+        at = next_at(ns, at);
+        k += 1;
+    }
+}
