@@ -5,9 +5,9 @@ ghost use lib.ListN.{length, replicate};
 ghost use lib.IntN.{pos};
 ghost use Rattle.appends.specs.Appends.{Within};
 ghost use Rattle.answer.specs.Answers.{lent, answerOf};
-use banding::Banded;
 use band_answers::band_text;
 use band_answers::put_band;
+use banding::Banded;
 use point_answers::put_points;
 
 // Answers a text: the lines of its band and of its points, or of its first refusal, stand at the front of the list afterwards, as many bytes as are returned. Every

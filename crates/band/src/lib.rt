@@ -10,10 +10,10 @@ ghost use Rattle.passes.specs.Leaves.{curvesOf};
 ghost use Rattle.banding.specs.Banding.{bandCurves, writtenBy, banded, written};
 ghost use Rattle.passes.specs.Counted.{Readable};
 use banding::Banded;
-use outline::Checked;
-use passes::Counted;
 use leaf_count::count;
 use leaf_writing::write_all;
+use outline::Checked;
+use passes::Counted;
 use refusals::Refusal;
 
 // Puts a band round an outline, at a tolerance in sixteenths: the leaves' records stand at the front of the list afterwards, and what stood behind

@@ -4,9 +4,9 @@ ghost use mathlib.Core.Option.{none};
 ghost use Rattle.boxes.specs.Ranges.{placeOr};
 ghost use Rattle.judging.specs.Judging.{Verdict};
 ghost use Rattle.judging.specs.Searching.{Passed, InRange, RecordAt, holderAt};
-use judging::Judgement;
 use beyond::beyond;
 use cover_test::holds;
+use judging::Judgement;
 use leaf_faults::box_in;
 
 // The first cover of the record that begins at index `at` that holds the point (x, y), or 3.

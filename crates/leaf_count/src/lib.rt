@@ -1,6 +1,5 @@
 // The first pass over the curves of an outline: it counts their leaves or finds a node that is still too wide.
 ghost use mathlib.Core.Path.{_≡_};
-ghost use Prim.Native.Nat.{_+_, _<_};
 ghost use Rattle.outline.specs.Checks.{outlineFrom};
 ghost use Rattle.passes.specs.Leaves.{curvesOf};
 ghost use Rattle.passes.specs.Counted.{Readable, countedOf};

@@ -1,6 +1,6 @@
 // The test that a node meets the tolerance.
 ghost use mathlib.Core.Path.{_≡_};
-ghost use Prim.Native.Nat.{_<_, _≤_};
+ghost use Prim.Native.Nat.{_≤_};
 ghost use Rattle.bezier.specs.Bounds.{Sized};
 ghost use Rattle.enclosure.specs.Thirds.{lowOf, highOf};
 ghost use Rattle.node_boxes.specs.Boxes.{meets};

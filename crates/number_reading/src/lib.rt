@@ -1,13 +1,12 @@
 // Decimal numbers read from a text. A numeral of any length is read without overflow.
 ghost use mathlib.Core.Path.{_≡_};
-ghost use Prim.Native.Nat.{_≤_, _-_};
+ghost use Prim.Native.Nat.{_≤_};
 ghost use lib.IntN.{pos, negℤ};
 ghost use Rattle.numerals.specs.Numerals.{naturalAt, numberAt};
-ghost use Rattle.digit_runs.specs.Digits.{Digits};
-use numerals::Natural;
-use numerals::Number;
 use digit_runs::byte_at;
 use digit_runs::digits;
+use numerals::Natural;
+use numerals::Number;
 
 // The number that stands at a place: digits without leading zeros, a minus before them or not, within 32 bits signed. Every text and every place may be
 // asked about.

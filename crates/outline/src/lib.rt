@@ -1,8 +1,8 @@
 // The checks of a tolerance and of an outline.
 ghost use mathlib.Core.Path.{_≡_};
 ghost use Rattle.outline.specs.Checks.{toleranceFine, outlined, checkedOf};
-use curve_faults::Fault;
 use curve_checks::fault_at;
+use curve_faults::Fault;
 use outline_curves::next_at;
 use refusals::Refusal;
 

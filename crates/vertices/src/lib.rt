@@ -6,13 +6,13 @@ ghost use lib.ListN.{length};
 ghost use lib.Seq.{sets};
 ghost use Rattle.polygon.specs.Polygon.{pathPoint, unless, verticesOf, vertices, numbers};
 use boxes::Box;
-use polygon::Ends;
-use polygon::Point;
 use path_points::across;
 use path_points::ends_of;
 use path_points::is_same;
 use path_points::path_point;
 use path_points::upright;
+use polygon::Ends;
+use polygon::Point;
 
 // The two numbers of a point, as vertex number `count`.
 fn put_point(list: &mut [i32], count: usize, p: Point)
