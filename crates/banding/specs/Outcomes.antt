@@ -1,5 +1,5 @@
 -- What the theorems of banding speak of: the faults and the report of an outline, and the premise of the depth claim. No contract cites these;
--- crates/band/proofs/Theorems.antt does.
+-- crates/banding/proofs/Theorems.antt does.
 use mathlib.Core.Path.{_≡_}
 use mathlib.Core.Bool.{true}
 use mathlib.Core.List.{List}

@@ -1,5 +1,5 @@
 -- What a reader must believe of judging: the checks in their order, and what the answer says. `OnBand` is the answer as a function, for the text program. `Searching` says how the
--- code searches, for its private functions; no public promise cites it.
+-- code searches, for the functions of `holder`; no public promise cites it.
 pub mod Judging
 pub mod Searching
 pub mod OnBand

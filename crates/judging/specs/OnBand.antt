@@ -1,4 +1,4 @@
--- Whether a point is on, as a function, for a caller that does not name the holder. `on-exactly` of crates/judge/proofs/OnBand.antt says that it is what judging answers.
+-- Whether a point is on, as a function, for a caller that does not name the holder. `answered-on` and `answered-off` of crates/judging/proofs/OnBand.antt say that it is what judging answers.
 use mathlib.Core.Bool.{Bool, true, false, not}
 use mathlib.Core.List.{List}
 use mathlib.Core.Option.{Option, none, some}

@@ -1,2 +1,2 @@
--- What a reader must believe of numerals. `Digits` is only for the contract of a private function.
+-- What a reader must believe of numerals: the number that stands at a place of a text.
 pub mod Numerals
