@@ -1,8 +1,8 @@
 /* Reads an outline and measured points from two text files, bands the outline, judges every point and prints the leaves, the
  * judgements and a summary. inspect.rs is the same program in Rust. Build and run it at the root of the repository by
  *
- *     rt staticlib engine
- *     cc -std=c99 -Iinclude examples/inspect.c target/staticlib/libengine.a -o target/inspect
+ *     rt staticlib contour
+ *     cc -std=c99 -Iinclude examples/inspect.c target/staticlib/libcontour.a -o target/inspect
  *     target/inspect examples/outline.txt examples/points.txt
  *
  * The outline file has a line (tolerance 44), then for each curve a line with its 2 to 4 control points in stage units, as in

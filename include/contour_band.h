@@ -2,8 +2,8 @@
  *
  * The library is made at the root of the repository, and a program is linked with it, by
  *
- *     rt staticlib engine
- *     cc -std=c99 -Iinclude program.c target/staticlib/libengine.a -o program
+ *     rt staticlib contour
+ *     cc -std=c99 -Iinclude program.c target/staticlib/libcontour.a -o program
  *
  * The library calls no other, the C library included. The program below is curve A of document 01. It prints "leaves 1, on,
  * vertices 4"; a test compiles and runs it. examples/inspect.c is one to start from: it reads an outline and points from files.

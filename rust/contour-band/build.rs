@@ -11,17 +11,17 @@ fn main() {
     println!("cargo:rerun-if-changed=build.rs");
     println!("cargo:rerun-if-env-changed={FOLDER}");
     let folder = folder();
-    let archive = folder.join("libengine.a");
+    let archive = folder.join("libcontour.a");
     // Also where the archive is missing: it is then looked for in the next build.
     println!("cargo:rerun-if-changed={}", archive.display());
     if !archive.is_file() {
         eprintln!("The proved engine is not built: there is no {}.", archive.display());
-        eprintln!("Make it at the root of the repository by:  rt staticlib engine");
-        eprintln!("Or name the folder that has libengine.a in {FOLDER}.");
+        eprintln!("Make it at the root of the repository by:  rt staticlib contour");
+        eprintln!("Or name the folder that has libcontour.a in {FOLDER}.");
         exit(1);
     }
     println!("cargo:rustc-link-search=native={}", folder.display());
-    println!("cargo:rustc-link-lib=static=engine");
+    println!("cargo:rustc-link-lib=static=contour");
     println!("cargo:rustc-env=CONTOUR_BAND_LINKED={}", folder.display());
 }
 

@@ -26,7 +26,8 @@ use Rattle.forms.specs.declared.Form.the-variants.{Tolerance, Curve, Point, NoF
 use Rattle.text.specs.Lines.{linesOf, gather}
 use Rattle.text.specs.Meaning.{Meaning, refused, means, meaning, meaningOf, mostBytes, unless, faultFrom, curveNumbers, pointOf}
 use Rattle.render.specs.Answers.{refusedLine}
-use Rattle.band_answers.specs.Bands.{bandOf, recordsOf, bandLines}
+use Rattle.band_answers.specs.Bands.{bandOf, recordsOf}
+use Rattle.band_lines.specs.BandLines.{bandLines}
 use Rattle.point_answers.specs.Points.{LeavesFine, pointLines, lineAnswer}
 use Rattle.point_answers.proofs.Judging.{points-gathered}
 use Rattle.answer.specs.Answers.{lent, pointsOf, lines, answerTo, answerOf}

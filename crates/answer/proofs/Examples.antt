@@ -33,7 +33,7 @@ use Rattle.leaf_list.specs.Checks.{numberFault}
 use Rattle.held.specs.Deciding.{held}
 use Rattle.judging.specs.Judging.{judgingFault}
 use Rattle.judging.specs.OnBand.{firstHolder}
-use Rattle.band_answers.specs.Bands.{bandLines}
+use Rattle.band_lines.specs.BandLines.{bandLines}
 use Rattle.point_answers.specs.Points.{pointLine, pointLines}
 use Rattle.answer.specs.Answers.{answerTo, answerOf}
 

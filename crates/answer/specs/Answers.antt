@@ -9,7 +9,8 @@ use Rattle.banding.specs.declared.Banded.{Banded}
 use Rattle.banding.specs.declared.Banded.the-variants.{Done, Refused}
 use Rattle.text.specs.Meaning.{Meaning, refused, means, meaning}
 use Rattle.render.specs.Answers.{refusedLine}
-use Rattle.band_answers.specs.Bands.{bandOf, recordsOf, bandLines}
+use Rattle.band_answers.specs.Bands.{bandOf, recordsOf}
+use Rattle.band_lines.specs.BandLines.{bandLines}
 use Rattle.point_answers.specs.Points.{pointLines}
 
 -- how many numbers are lent for records

@@ -6,7 +6,7 @@ ghost use lib.IntN.{pos};
 ghost use Rattle.appends.specs.Appends.{Within};
 ghost use Rattle.answer.specs.Answers.{lent, answerOf};
 use band_answers::band_text;
-use band_answers::put_band;
+use band_lines::put_band;
 use banding::Banded;
 use point_answers::put_points;
 

@@ -1,8 +1,8 @@
--- A text's band and its lines: what each way through `band_text` and `put_band` answers.
+-- The band of a text: what each way through `band_text` answers.
 use mathlib.Core.Path.{_≡_, sym, ap, _∙_}
 use mathlib.Core.Bool.{true, false}
 use mathlib.Core.List.{List}
-use Prim.Native.Nat.{ℕ, _+_, _*_, _^_, _≤_, _<_}
+use Prim.Native.Nat.{ℕ, _^_, _≤_, _<_}
 use native.Mathlib.Omega.{arith}
 use lib.ListN.{length, take}
 use lib.Seq.{length-take-le}
@@ -18,27 +18,15 @@ use Rattle.banding.specs.declared.Banded.the-variants.{Refused}
 use Rattle.records.specs.Records.{allRecords}
 use Rattle.passes.specs.Leaves.{curvesOf}
 use Rattle.banding.specs.Banding.{bandOutlined, banded, writtenBy, written}
-use Rattle.appends.specs.Appends.{Appended, Within}
-use Rattle.appends.proofs.Appends.{append-both, within, appended-front, appended-length}
+use Rattle.appends.specs.Appends.{Appended}
+use Rattle.appends.proofs.Appends.{appended-front, appended-length}
 use Rattle.text.specs.declared.Checked.{Checked}
 use Rattle.text.specs.declared.Checked.the-variants.{Tolerance as Accepted, Refused as Stopped}
 use Rattle.text.specs.Lines.{linesOf}
 use Rattle.text.specs.Meaning.{Meaning, refused, means, meaning, checkedOf}
 use Rattle.text_outline.specs.Outlines.{kept}
 use Rattle.text_outline.proofs.Kept.{outline-kept, kept-few}
-use Rattle.render.specs.Answers.{doneLine}
-use Rattle.leaf_lines.specs.Leaves.{leafLines}
-use Rattle.band_answers.specs.Bands.{bandOf, recordsOf, bandLines, RoomFor}
-
--- ---- `put_band`
-pub room-done : (leaves records out : ℕ) → RoomFor leaves records out → (d xs o : List ℕ) (i : ℕ) → length o ≡ out → Within d 0 (231 * leaves) xs o i → i + 70 ≤ length o
-room-done leaves records out room d xs o i z a = omega (arith, a .small, room .room)
-
-pub done-lines : (curves leaves nodes : ℕ) (ns : List ℤ) (d o u : List ℕ) (j k : ℕ) → Within d 0 (231 * leaves) (leafLines ns leaves) o j
-    → Within o j 70 (doneLine curves leaves nodes) u k → Within d 0 (231 * leaves + 70) (bandLines curves leaves nodes ns) u k
-unfolding bandLines
-done-lines curves leaves nodes ns d o u j k p q =
-    within (append-both d o u (leafLines ns leaves) (doneLine curves leaves nodes) 0 j k (p .put) (q .put)) (omega (arith, p .small, q .small))
+use Rattle.band_answers.specs.Bands.{bandOf, recordsOf}
 
 -- ---- `band_text`: banding looks at an outline through its checks alone
 banded-same : (most : ℕ) (T : ℤ) (ns ms : List ℤ) (room : ℕ) → outlined most ns ≡ outlined most ms → banded most T ns room ≡ banded most T ms room

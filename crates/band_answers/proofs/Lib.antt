@@ -1,2 +1,2 @@
--- Laws of the band of a text and its lines.
+-- Laws of the band of a text.
 pub mod Bands

@@ -1,2 +1,2 @@
--- What a reader must believe of the band of a text and its lines.
+-- What a reader must believe of the band of a text.
 pub mod Bands

@@ -1,10 +1,9 @@
-// The band of a text: checking and banding it, and the lines of a band that is done.
+// The band of a text: checking and banding it.
 ghost use mathlib.Core.Path.{_≡_};
-ghost use Prim.Native.Nat.{_+_, _*_, _≤_};
+ghost use Prim.Native.Nat.{_≤_};
 ghost use lib.ListN.{length};
-ghost use Rattle.appends.specs.Appends.{Within};
 ghost use Rattle.text.specs.Meaning.{meaning};
-ghost use Rattle.band_answers.specs.Bands.{bandOf, recordsOf, bandLines, RoomFor};
+ghost use Rattle.band_answers.specs.Bands.{bandOf, recordsOf};
 use banding::Banded;
 use text::Checked;
 
@@ -21,19 +20,4 @@ pub fn band_text(text: &[u8], numbers: &mut [i32], records: &mut [i32]) -> Bande
             band::band(&numbers[..n], tolerance, records)
         }
     }
-}
-
-// The lines of a band that is done: its leaves and the report, from the front on.
-pub fn put_band(
-    curves: usize,
-    leaves: usize,
-    nodes: usize,
-    records: &[i32],
-    out: &mut [u8],
-) -> usize
-    requires { ⌜ RoomFor leaves (length (now records)) (length (now out)) ⌝ }
-    ensures { λ r. ⌜ Within (now (out .entry)) 0 (231 * leaves + 70) (bandLines curves leaves nodes (now (records .entry))) (now (out .exit)) r ⌝ }
-{
-    let i = leaf_lines::put_leaves(records, leaves, out, 0);
-    render::put_done(out, i, curves, leaves, nodes)
 }

@@ -5,8 +5,8 @@ ghost use Prim.Native.Nat.{_^_, _<_};
 ghost use Rattle.bezier.specs.Nodes.{depth, after, nodeCurve};
 ghost use Rattle.bezier.specs.Halves.{leftHalf, rightHalf};
 ghost use Rattle.bezier.specs.Bounds.{Sized, Halvable};
-use halves::left_values;
-use halves::right_values;
+use half_values::left_values;
+use half_values::right_values;
 
 // A curve (document 01): its degree and four control values a coordinate, those past the degree being zero. At depth k of halving the
 // values are the exact ones times 2^(degree * k).

@@ -3,4 +3,3 @@
 pub mod Demand3
 pub mod Outcomes
 pub mod Starred
-pub mod Answers

@@ -1,5 +1,5 @@
 // The line reader: the text that it was lent, and how far it has read. The functions over it are thin, since each is proved by a walk of its code; the reading
-// itself is `forms::form_at`. Other crates call `line_from`, whose parameters are plain.
+// itself is `form_reading::form_at`. Other crates call `line_from`, whose parameters are plain.
 ghost use mathlib.Core.Path.{_≡_};
 ghost use Rattle.forms.specs.Forms.{formAt};
 use forms::Form;
@@ -20,7 +20,7 @@ pub fn new<'a>(text: &'a [u8], read: usize) -> LineReader<'a>
 pub fn next<'a>(reader: LineReader<'a>) -> Form
     ensures { λ r. ⌜ r ≡ formAt (now (reader .entry .text)) (reader .entry .read) ⌝ }
 {
-    forms::form_at(reader.text, reader.read)
+    form_reading::form_at(reader.text, reader.read)
 }
 
 // The line that starts at a place, read by a reader. Every text and every place may be asked about.

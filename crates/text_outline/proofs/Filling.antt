@@ -1,4 +1,4 @@
--- Keeping the outline of a text: what each step of `fill` and of the functions below it leaves in the list.
+-- Keeping the outline of a text: what each step of `keep_outline` and of the functions below it leaves in the list.
 use mathlib.Core.Path.{_≡_, refl, sym, ap, _∙_, subst}
 use mathlib.Core.Bool.{Bool, true, false, cond}
 use mathlib.Core.List.{List, [], _∷_, _++_, append-assoc, append-nil}
@@ -67,7 +67,7 @@ module _ (d o : List ℤ) (i j : ℕ) (p : Points) (a : Appended d i (firstNumbe
     put-cubic l v n c hx′ hy′ = rw (numbersOf, degree-test p (pos 2) false m h, degree-test p (pos 3) false m l)
         (then-pair d u v i k n (firstNumbers p ++ (p .x2 ∷ p .y2 ∷ [])) (p .x3) (p .y3) three c hx′ hy′)
 
--- ---- `fill`: of the lines from place i on, `left` curves are to be kept; what the lines before them gave stands in the list, which was d and is o
+-- ---- `keep_outline`: of the lines from place i on, `left` curves are to be kept; what the lines before them gave stands in the list, which was d and is o
 pub record Keeping (s : List ℕ) (d o : List ℤ) (at i left : ℕ) : Type 0 where
   pub done : List ℤ
   pub split : kept 64 (linesOf s) ≡ done ++ kept left (linesFrom (length s - i) s i)

@@ -15,14 +15,6 @@ pub fn keep_outline(text: &[u8], numbers: &mut [i32]) -> usize
     requires { ⌜ 577 ≤ length (now numbers) ⌝ }
     ensures { λ r. ⌜ Appended (now (numbers .entry)) 0 (kept 64 (linesOf (now (text .entry)))) (now (numbers .exit)) r ⌝ }
 {
-    fill(text, numbers)
-}
-
-// The numbers of 64 curves, and the degree of one more.
-fn fill(text: &[u8], out: &mut [i32]) -> usize
-    requires { ⌜ 577 ≤ length (now out) ⌝ }
-    ensures { λ r. ⌜ Appended (now (out .entry)) 0 (kept 64 (linesOf (now (text .entry)))) (now (out .exit)) r ⌝ }
-{
     let mut at: usize = 0;
     let mut i: usize = 0;
     let mut left: usize = 64;
@@ -36,9 +28,9 @@ fn fill(text: &[u8], out: &mut [i32]) -> usize
             }
             Form::Curve(p, next) => {
                 if left == 0 {
-                    return put(out, at, p.degree);
+                    return put(numbers, at, p.degree);
                 }
-                at = put_curve(out, at, p);
+                at = put_curve(numbers, at, p);
                 left -= 1;
                 i = next;
             }

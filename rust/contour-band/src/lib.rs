@@ -9,7 +9,7 @@
 //! Two lines at the root of the repository build the archive that is linked, and run a program with it:
 //!
 //! ```text
-//! rt staticlib engine
+//! rt staticlib contour
 //! cargo run --release --offline --manifest-path rust/Cargo.toml --example inspect examples/outline.txt examples/points.txt
 //! ```
 //!

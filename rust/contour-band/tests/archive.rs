@@ -13,7 +13,7 @@ fn the_archive_calls_no_other_library() {
     // Every function of the archive, and nothing else: a name that is not in it is an error.
     let linked = Command::new(env::var_os("CC").unwrap_or("cc".into()))
         .args(["-r", "-nostdlib", "-Wl,--whole-archive"])
-        .arg(Path::new(env!("CONTOUR_BAND_LINKED")).join("libengine.a"))
+        .arg(Path::new(env!("CONTOUR_BAND_LINKED")).join("libcontour.a"))
         .arg("-o")
         .arg(&made)
         .output()

@@ -20,7 +20,7 @@ pub fn compiled(source: &Path, name: &str) -> PathBuf {
         .args(["-std=c99", "-Wall", "-Wextra", "-Werror", "-pedantic", "-I"])
         .arg(root().join("include"))
         .arg(source)
-        .arg(Path::new(LIBRARY).join("libengine.a"))
+        .arg(Path::new(LIBRARY).join("libcontour.a"))
         .arg("-o")
         .arg(&program)
         .output()

@@ -1,0 +1,42 @@
+-- Outcomes in numbers, for the C interface, and what their numbers are of.
+use mathlib.Core.Path.{_≡_}
+use mathlib.Core.List.{List}
+use lib.IntN.{ℤ}
+use Rattle.refusals.specs.Refusals.{numberOf, spotOf}
+use Rattle.banding.specs.declared.Banded.{Banded}
+use Rattle.judging.specs.declared.Judgement.{Judgement}
+use Rattle.judging.specs.Judging.{Judged}
+use Rattle.c_answers.specs.declared.JudgingAnswer.{JudgingAnswer}
+use Rattle.c_answers.specs.Answers.{judgingAnswerOf}
+use Rattle.engine.specs.declared.Outcome.{Outcome}
+use Rattle.engine.specs.declared.Outcome.the-variants.{NotBanded, Judged as WithJudgement}
+use Rattle.contour.specs.declared.OutcomeAnswer.{OutcomeAnswer}
+use Rattle.engine.specs.Outcomes.{Answered}
+
+-- the report beside the numbers of the judgement
+abbrev pub outcomeAnswerOf : Outcome → OutcomeAnswer
+outcomeAnswerOf (NotBanded r) = record { refusal = numberOf r; spot = spotOf r; curves = 0; leaves = 0; nodes = 0; on = 0; leaf = 0; cover = 0 }
+outcomeAnswerOf (WithJudgement curves leaves nodes j) =
+    let n = judgingAnswerOf j in
+    record {
+      refusal = n .refusal;
+      spot = n .spot;
+      curves = curves;
+      leaves = leaves;
+      nodes = nodes;
+      on = n .on;
+      leaf = n .leaf;
+      cover = n .cover;
+    }
+
+-- the numbers are those of an answer that judging may give
+pub record JudgedInNumbers (ns : List ℤ) (x y : ℤ) (numbers : JudgingAnswer) : Type 0 where
+  pub judgement : Judgement
+  pub judged : Judged 64 ns x y judgement
+  pub are : numbers ≡ judgingAnswerOf judgement
+
+-- and those of an outcome that banding and judging together may give
+pub record AnsweredInNumbers (T : ℤ) (ns : List ℤ) (banded : Banded) (list : List ℤ) (x y : ℤ) (numbers : OutcomeAnswer) : Type 0 where
+  pub outcome : Outcome
+  pub answered : Answered 64 T ns banded list x y outcome
+  pub are : numbers ≡ outcomeAnswerOf outcome

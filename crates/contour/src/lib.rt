@@ -1,0 +1,108 @@
+// The C interface: what a program in another language calls. include/contour_band.h says the same for C.
+ghost use mathlib.Core.Path.{_≡_};
+ghost use lib.ListN.{length};
+ghost use Rattle.banding.specs.Banding.{banded, written};
+ghost use Rattle.cover.specs.Drawing.{drawn, drawnInto};
+ghost use Rattle.c_answers.specs.Answers.{answerOf};
+ghost use Rattle.c_answers.specs.Drawings.{drawingOf};
+ghost use Rattle.contour.specs.Answers.{outcomeAnswerOf, JudgedInNumbers, AnsweredInNumbers};
+use boxes::Box;
+use c_answers::Answer;
+use c_answers::Drawing;
+use c_answers::JudgingAnswer;
+use c_answers::drawing_in_numbers;
+use c_answers::in_numbers;
+use c_answers::judgement_in_numbers;
+use engine::Outcome;
+use engine::band_and_judge;
+
+// Puts a band round an outline at a tolerance in sixteenths, and writes the leaves' records to the front of the list.
+#[no_mangle]
+pub extern "C" fn contour_band(outline: &[i32], tolerance: i32, records: &mut [i32]) -> Answer
+    ensures { λ r. ⌜ (r ≡ answerOf (banded 64 tolerance (now (outline .entry)) (length (now (records .entry))))) × (now (records .exit) ≡ written 64 tolerance (now (outline .entry)) (now (records .entry))) ⌝ }
+{
+    let banded = band::band(outline, tolerance, records);
+    in_numbers(banded)
+}
+
+// Judges the point (x, y), in sixteenths, against a list of leaf records.
+#[no_mangle]
+pub extern "C" fn contour_judge(leaves: &[i32], x: i32, y: i32) -> JudgingAnswer
+    ensures { λ r. ⌜ JudgedInNumbers (now (leaves .entry)) x y r ⌝ }
+{
+    let judgement = judge::judge(leaves, x, y);
+    judgement_in_numbers(judgement)
+}
+
+// What banding and judging together answer, in numbers: banding's refusal, or its report and the judgement.
+#[repr(C)]
+pub struct OutcomeAnswer {
+    pub refusal: u32,
+    pub spot: u64,
+    pub curves: u64,
+    pub leaves: u64,
+    pub nodes: u64,
+    pub on: u32,
+    pub leaf: u64,
+    pub cover: u64,
+}
+
+// Bands an outline, and judges the point (x, y) against exactly the records written.
+#[no_mangle]
+pub extern "C" fn contour_band_and_judge(
+    outline: &[i32],
+    tolerance: i32,
+    records: &mut [i32],
+    x: i32,
+    y: i32,
+) -> OutcomeAnswer
+    ensures { λ r. ⌜ (now (records .exit) ≡ written 64 tolerance (now (outline .entry)) (now (records .entry))) × (AnsweredInNumbers tolerance (now (outline .entry)) (banded 64 tolerance (now (outline .entry)) (length (now (records .entry)))) (now (records .exit)) x y r) ⌝ }
+{
+    let outcome = band_and_judge(outline, tolerance, records, x, y);
+    outcome_in_numbers(outcome)
+}
+
+// The numbers of an outcome.
+fn outcome_in_numbers(outcome: Outcome) -> OutcomeAnswer
+    ensures { λ r. ⌜ r ≡ outcomeAnswerOf outcome ⌝ }
+{
+    match outcome {
+        Outcome::NotBanded(refusal) => OutcomeAnswer {
+            refusal: refusal.number(),
+            spot: refusal.spot() as u64,
+            curves: 0,
+            leaves: 0,
+            nodes: 0,
+            on: 0,
+            leaf: 0,
+            cover: 0,
+        },
+        Outcome::Judged {
+            curves,
+            leaves,
+            nodes,
+            judgement,
+        } => {
+            let judged = judgement_in_numbers(judgement);
+            OutcomeAnswer {
+                refusal: judged.refusal,
+                spot: judged.spot,
+                curves: curves as u64,
+                leaves: leaves as u64,
+                nodes: nodes as u64,
+                on: judged.on,
+                leaf: judged.leaf,
+                cover: judged.cover,
+            }
+        }
+    }
+}
+
+// Draws the convex hull of two boxes, and writes x and y of its vertices to the front of the list.
+#[no_mangle]
+pub extern "C" fn contour_draw(first: Box, second: Box, vertices: &mut [i32]) -> Drawing
+    ensures { λ r. ⌜ (r ≡ drawingOf (drawn first second (length (now (vertices .entry))))) × (now (vertices .exit) ≡ drawnInto first second (now (vertices .entry))) ⌝ }
+{
+    let drawn = cover::draw(first, second, vertices);
+    drawing_in_numbers(drawn)
+}
