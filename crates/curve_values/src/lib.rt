@@ -21,15 +21,18 @@ pub fn curve_at(ns: &[i32], at: usize) -> Curve
 
 // The control values of one coordinate: every other number from index `from` on, degree + 1 of them, and zeros up to four.
 fn values_at(ns: &[i32], degree: u32, from: usize) -> [i64; 4]
-    requires { ⌜ (degree ≤ 3) × (from + 2 * degree < length (now ns)) ⌝ }
+    requires { ⌜ (1 ≤ degree) × (degree ≤ 3) × (from + 2 * degree < length (now ns)) ⌝ }
     ensures { λ r. ⌜ r ≡ values (now (ns .entry)) degree from ⌝ }
 {
-    let d = degree as usize;
-    let mut cs: [i64; 4] = [0; 4];
-    let mut k: usize = 0;
-    while k <= d {
-        cs[k] = ns[from + 2 * k] as i64;
-        k += 1;
+    let c0 = ns[from] as i64;
+    let c1 = ns[from + 2] as i64;
+    if degree < 2 {
+        return [c0, c1, 0, 0];
     }
-    cs
+    let c2 = ns[from + 4] as i64;
+    if degree < 3 {
+        return [c0, c1, c2, 0];
+    }
+    let c3 = ns[from + 6] as i64;
+    [c0, c1, c2, c3]
 }

@@ -3,7 +3,7 @@ use Prim.Native.Nat.{_+_, _≤_}
 use native.Mathlib.Omega.{arith}
 use lib.ListN.{length}
 use Rattle.outline_curves.specs.Curves.{coordinates, curveAt}
-use Rattle.outline_curves.proofs.Degrees.{degree-most}
+use Rattle.outline_curves.proofs.Degrees.{degree-least, degree-most}
 use Rattle.curve_faults.proofs.Faultless.{Faultless, faultless}
 use Rattle.curve_values.proofs.curve_at.Statement.{statement}
 use Rattle.curve_values.proofs.curve_at.Tie as tie
@@ -16,8 +16,8 @@ degree-at-requires c κs = whole c .degree
 
 -- the degree as the code has it, and where the curve ends
 room : (c : tie.After-degree-at)
-    → (c .degree-at .result ≤ 3) × (c .before .args .at + 1 + coordinates (c .degree-at .result) ≤ length (c .before .args .ns .now))
-room c = rw (c .degree-at .ensures) (degree-most (c .before .args .ns .now) (c .before .args .at) (whole (c .before) .degree), whole (c .before) .ends)
+    → (1 ≤ c .degree-at .result) × (c .degree-at .result ≤ 3) × (c .before .args .at + 1 + coordinates (c .degree-at .result) ≤ length (c .before .args .ns .now))
+room c = rw (c .degree-at .ensures) (degree-least (c .before .args .ns .now) (c .before .args .at) (whole (c .before) .degree), degree-most (c .before .args .ns .now) (c .before .args .at) (whole (c .before) .degree), whole (c .before) .ends)
 
 add-values-at : tie.Need-add-values-at
 add-values-at c = omega (arith, room c)

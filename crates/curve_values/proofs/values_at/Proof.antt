@@ -1,116 +1,132 @@
--- `curve_values::values_at` meets its contract. The loop's invariant: the first k control values are read, and zeros stand behind them. The
--- measure is how many of the four places are left.
-use mathlib.Core.Path.{_≡_, refl, _∙_, ap}
-use mathlib.Core.Bool.{cond}
-use mathlib.Core.List.{List}
-use Prim.Native.Nat.{ℕ, zero, suc, _+_, _-_, _*_, _≤_, _<_}
+-- `curve_values::values_at` meets its contract: the degree is 1, 2 or 3, and each return is the list of one of them.
+use mathlib.Core.Path.{_≡_}
+use mathlib.Core.List.{List, [], _∷_}
+use Prim.Native.Nat.{ℕ, _+_}
+use native.Mathlib.Nat.{add-zero}
 use native.Mathlib.Omega.{arith}
-use lib.Dec.{ltb}
-use lib.ListN.{set}
 use lib.IntN.{ℤ, pos}
 use mir.Syntax.{w32, w64}
 use mir.Val.{SFits}
+use borrow.Author.Needs.{needs}
 use Rattle.integers.specs.Entry.{entry}
 use Rattle.integers.proofs.Ranges.{stored}
 use Rattle.integers.proofs.Machine.{machine, fits!, is! }
-use Rattle.halves.specs.Halves.{listed}
 use Rattle.outline_curves.specs.Curves.{values}
 use Rattle.integers.proofs.Between.{element-fits}
 use Rattle.curve_values.proofs.values_at.Statement.{statement}
 use Rattle.curve_values.proofs.values_at.Tie as tie
 
--- the first k are read
-abbrev read : List ℤ → ℕ → ℕ → List ℤ
-read ns from k = listed 4 (λ j. cond (ltb j k) (entry ns (from + 2 * j)) (pos 0))
-
-read-more : (ns : List ℤ) (from k : ℕ) → k < 4 → set (read ns from k) k (entry ns (from + 2 * k)) ≡ read ns from (k + 1)
-read-more ns from zero h = refl
-read-more ns from (suc zero) h = refl
-read-more ns from (suc (suc zero)) h = refl
-read-more ns from (suc (suc (suc zero))) h = refl
-read-more ns from (suc (suc (suc (suc k)))) h = absurd (omega arith)
-
-read-all : (ns : List ℤ) (from d : ℕ) → d ≤ 3 → read ns from (d + 1) ≡ values ns d from
-read-all ns from zero h = refl
-read-all ns from (suc zero) h = refl
-read-all ns from (suc (suc zero)) h = refl
-read-all ns from (suc (suc (suc zero))) h = refl
-read-all ns from (suc (suc (suc (suc d)))) h = absurd (omega arith)
-
-abbrev Inv-loop : tie.InvT-loop
-Inv-loop ns degree from d cs₀ k₀ cs k = (k ≤ d + 1) × (cs ≡ read ns from k)
-
-abbrev μ-loop : tie.MeasureT-loop
-μ-loop ns degree from d cs₀ k₀ cs k = 4 - k
-
-loop-holds : tie.Need-loop-holds Inv-loop μ-loop
-loop-holds c = (omega arith, refl)
-
-mul-cs : tie.Need-mul-cs Inv-loop μ-loop
-mul-cs c = omega arith
-
-add-cs : tie.Need-add-cs Inv-loop μ-loop
-add-cs c = omega arith
-
-mul-cs-2 : tie.Need-mul-cs-2 Inv-loop μ-loop
-mul-cs-2 c = omega arith
-
-shared-slice-copy-out-cs : tie.Need-shared-slice-copy-out-cs Inv-loop μ-loop
-shared-slice-copy-out-cs c = omega arith
-
--- the element that a turn reads
-read-fits : (c : tie.After-cs Inv-loop μ-loop)
-    → SFits w32 (entry (c .before .before .before .args .ns .now) (c .before .before .before .args .from + 2 * c .before .before .loop .k))
-read-fits c = element-fits (c .before .before .before .args .ns .now) (c .before .before .before .args .from + 2 * c .before .before .loop .k) (c .cs .given)
-
 widened : (z : ℤ) → SFits w32 z → stored w64 (stored w32 z) ≡ z
 widened z h = is! (search (machine, h) depth 40) tt
 
-cast-cs : tie.Need-cast-cs Inv-loop μ-loop
-cast-cs c = fits! (search (machine, read-fits c) depth 40) tt
+-- a value as the machine holds it, from the element at index i
+abbrev read : List ℤ → ℕ → ℤ
+read ns i = stored w64 (stored w32 (entry ns i))
 
-mul-cs-3 : tie.Need-mul-cs-3 Inv-loop μ-loop
-mul-cs-3 c = omega arith
+module _ (ns : List ℤ) (from d : ℕ) (a : SFits w32 (entry ns from)) (b : SFits w32 (entry ns (from + 2))) where
+  one : d ≡ 1 → read ns from ∷ read ns (from + 2) ∷ pos 0 ∷ pos 0 ∷ [] ≡ values ns d from
+  one e = rw (e, add-zero from, widened (entry ns from) a, widened (entry ns (from + 2)) b)
 
-array-set-from-cs : tie.Need-array-set-from-cs Inv-loop μ-loop
-array-set-from-cs c = omega arith
+  module _ (u : SFits w32 (entry ns (from + 4))) where
+    two : d ≡ 2 → read ns from ∷ read ns (from + 2) ∷ read ns (from + 4) ∷ pos 0 ∷ [] ≡ values ns d from
+    two e = rw (e, add-zero from, widened (entry ns from) a, widened (entry ns (from + 2)) b, widened (entry ns (from + 4)) u)
 
-add-k : tie.Need-add-k Inv-loop μ-loop
-add-k c = omega arith
+    three : SFits w32 (entry ns (from + 6)) → d ≡ 3 → read ns from ∷ read ns (from + 2) ∷ read ns (from + 4) ∷ read ns (from + 6) ∷ [] ≡ values ns d from
+    three v e = rw (e, add-zero from, widened (entry ns from) a, widened (entry ns (from + 2)) b, widened (entry ns (from + 4)) u, widened (entry ns (from + 6)) v)
 
-loop-less : tie.Need-loop-less Inv-loop μ-loop
-loop-less c = omega arith
+-- the elements that are read fit
+fits-0 : (c : tie.After-c0) → SFits w32 (entry (c .before .args .ns .now) (c .before .args .from))
+fits-0 c = element-fits (c .before .args .ns .now) (c .before .args .from) (c .c0 .given)
 
-loop-again : tie.Need-loop-again Inv-loop μ-loop
-loop-again c =
-    let ns = c .before .before .before .args .ns .now in
-    let from = c .before .before .before .args .from in
-    let k = c .before .before .loop .k in
-    (omega arith, rw (c .before .before .loop .inv .1, widened _ (read-fits c)) (read-more ns from k (omega arith)))
+fits-1 : (c : tie.After-c1) → SFits w32 (entry (c .before .before .args .ns .now) (c .before .before .args .from + 2))
+fits-1 c = element-fits (c .before .before .args .ns .now) (c .before .before .args .from + 2) (c .c1 .given)
 
-returns : tie.Need-returns Inv-loop μ-loop
+fits-2 : (c : tie.After-c2) → SFits w32 (entry (c .before .before .before .before .args .ns .now) (c .before .before .before .before .args .from + 4))
+fits-2 c = element-fits (c .before .before .before .before .args .ns .now) (c .before .before .before .before .args .from + 4) (c .c2 .given)
+
+fits-3 : (c : tie.After-c3)
+    → SFits w32 (entry (c .before .before .before .before .before .before .args .ns .now) (c .before .before .before .before .before .before .args .from + 6))
+fits-3 c = element-fits (c .before .before .before .before .before .before .args .ns .now) (c .before .before .before .before .before .before .args .from + 6) (c .c3 .given)
+
+mul-c0 : tie.Need-mul-c0
+mul-c0 c = search needs
+
+shared-slice-copy-out-c0 : tie.Need-shared-slice-copy-out-c0
+shared-slice-copy-out-c0 c = search needs
+
+cast-c0 : tie.Need-cast-c0
+cast-c0 c = fits! (search (machine, fits-0 c) depth 40) tt
+
+add-c1 : tie.Need-add-c1
+add-c1 c = search needs
+
+mul-c1 : tie.Need-mul-c1
+mul-c1 c = search needs
+
+shared-slice-copy-out-c1 : tie.Need-shared-slice-copy-out-c1
+shared-slice-copy-out-c1 c = search needs
+
+cast-c1 : tie.Need-cast-c1
+cast-c1 c = fits! (search (machine, fits-1 c) depth 40) tt
+
+returns : tie.Need-returns
 returns c =
-    let ns = c .before .before .args .ns .now in
-    let from = c .before .before .args .from in
-    let d = c .before .before .args .degree in
-    let all : c .before .loop .k ≡ d + 1 = omega arith in
-    c .before .loop .inv .1 ∙ ap (read ns from) all ∙ read-all ns from d (omega arith)
+    let s = c .before .before .before .args in
+    one (s .ns .now) (s .from) (s .degree) (fits-0 (c .before .before)) (fits-1 (c .before)) (omega arith)
+
+add-c2 : tie.Need-add-c2
+add-c2 c = search needs
+
+mul-c2 : tie.Need-mul-c2
+mul-c2 c = search needs
+
+shared-slice-copy-out-c2 : tie.Need-shared-slice-copy-out-c2
+shared-slice-copy-out-c2 c = search needs
+
+cast-c2 : tie.Need-cast-c2
+cast-c2 c = fits! (search (machine, fits-2 c) depth 40) tt
+
+returns-2 : tie.Need-returns-2
+returns-2 c =
+    let s = c .before .before .before .before .before .args in
+    two (s .ns .now) (s .from) (s .degree) (fits-0 (c .before .before .before .before)) (fits-1 (c .before .before .before)) (fits-2 (c .before)) (omega arith)
+
+add-c3 : tie.Need-add-c3
+add-c3 c = search needs
+
+mul-c3 : tie.Need-mul-c3
+mul-c3 c = search needs
+
+shared-slice-copy-out-c3 : tie.Need-shared-slice-copy-out-c3
+shared-slice-copy-out-c3 c = search needs
+
+cast-c3 : tie.Need-cast-c3
+cast-c3 c = fits! (search (machine, fits-3 c) depth 40) tt
+
+returns-3 : tie.Need-returns-3
+returns-3 c =
+    let s = c .before .before .before .before .before .before .args in
+    three (s .ns .now) (s .from) (s .degree) (fits-0 (c .before .before .before .before .before)) (fits-1 (c .before .before .before .before)) (fits-2 (c .before .before)) (fits-3 c) (omega arith)
 
 pub values-at-spec : {M : Type 1} → statement M
 values-at-spec =
     tie.close
     (tie.spec
-    Inv-loop
-    μ-loop
-    loop-holds
-    mul-cs
-    add-cs
-    mul-cs-2
-    shared-slice-copy-out-cs
-    cast-cs
-    mul-cs-3
-    array-set-from-cs
-    add-k
-    loop-less
-    loop-again
-    returns)
+    mul-c0
+    shared-slice-copy-out-c0
+    cast-c0
+    add-c1
+    mul-c1
+    shared-slice-copy-out-c1
+    cast-c1
+    returns
+    add-c2
+    mul-c2
+    shared-slice-copy-out-c2
+    cast-c2
+    returns-2
+    add-c3
+    mul-c3
+    shared-slice-copy-out-c3
+    cast-c3
+    returns-3)
