@@ -6,4 +6,4 @@ pub mod Lines
 pub mod Rows
 pub mod Gaps
 pub mod Places
-pub mod Examples
+pub mod Tabled
