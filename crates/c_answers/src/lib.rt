@@ -3,7 +3,7 @@ ghost use mathlib.Core.Path.{_≡_};
 ghost use Rattle.c_answers.specs.Answers.{answerOf, judgingAnswerOf};
 ghost use Rattle.c_answers.specs.Drawings.{drawingOf};
 use banding::Banded;
-use cover::Drawn;
+use drawing::Drawn;
 use judging::Judgement;
 
 // What banding answers, in numbers: a refusal's number and spot, or 0 and 0 and the report.

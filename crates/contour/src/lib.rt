@@ -2,7 +2,7 @@
 ghost use mathlib.Core.Path.{_≡_};
 ghost use lib.ListN.{length};
 ghost use Rattle.banding.specs.Banding.{banded, written};
-ghost use Rattle.cover.specs.Drawing.{drawn, drawnInto};
+ghost use Rattle.drawing.specs.Drawing.{drawn, drawnInto};
 ghost use Rattle.c_answers.specs.Answers.{answerOf};
 ghost use Rattle.c_answers.specs.Drawings.{drawingOf};
 ghost use Rattle.contour.specs.Answers.{outcomeAnswerOf, JudgedInNumbers, AnsweredInNumbers};

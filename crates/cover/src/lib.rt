@@ -2,16 +2,11 @@
 ghost use mathlib.Core.Path.{_≡_};
 ghost use lib.ListN.{length};
 ghost use Rattle.boxes.specs.Ranges.{placeOr};
-ghost use Rattle.cover.specs.Drawing.{twoBoxesFault, drawn, drawnInto};
+ghost use Rattle.drawing.specs.Drawing.{twoBoxesFault, drawn, drawnInto};
 use boxes::Box;
+use drawing::Drawn;
 use refusals::Refusal;
 use vertices::put_vertices;
-
-// What drawing answers: how many vertices were written, or the first fault.
-pub enum Drawn {
-    Vertices(usize),
-    Refused(Refusal),
-}
 
 // Draws the convex hull of two boxes: its vertices, x and y of each, counter-clockwise from the lowest, then leftmost, stand at the front of the list
 // afterwards, and what stood behind them stays. A refusal alters nothing. Any boxes and any list may be asked about.

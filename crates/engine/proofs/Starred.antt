@@ -26,7 +26,7 @@ use Rattle.passes.specs.Leaves.{firstTooWide, leavesOf, nodesOf}
 use Rattle.banding.specs.Banding.{bandCurves, banded, written}
 use Rattle.boxes.specs.declared.Box.{Box}
 use Rattle.polygon.specs.Polygon.{reached, endsOf, pathPoint, moves, verticesOf, pathOf, vertices, numbers}
-use Rattle.cover.specs.Drawing.{drawn, drawnInto}
+use Rattle.drawing.specs.Drawing.{drawn, drawnInto}
 use Rattle.leaf_list.specs.Checks.{numberFault}
 use Rattle.held.specs.Covers.{CoverHolds}
 use Rattle.held.specs.Deciding.{held}

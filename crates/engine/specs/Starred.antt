@@ -12,8 +12,8 @@ use Rattle.judging.specs.declared.Judgement.{Judgement}
 use Rattle.judging.specs.declared.Judgement.the-variants.{Off}
 use Rattle.judging.specs.Judging.{Judged}
 use Rattle.boxes.specs.declared.Box.{Box}
-use Rattle.cover.specs.declared.Drawn.the-variants.{Vertices}
-use Rattle.cover.specs.Drawing.{drawn, drawnInto}
+use Rattle.drawing.specs.declared.Drawn.the-variants.{Vertices}
+use Rattle.drawing.specs.Drawing.{drawn, drawnInto}
 use Rattle.engine.specs.Demand3.{IsOn}
 
 abbrev zeros : ℕ → List ℤ

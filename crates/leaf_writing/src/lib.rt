@@ -10,9 +10,9 @@ ghost use Rattle.passes.specs.Leaves.{curvesOf};
 ghost use Rattle.passes.specs.Writing.{Ready, Fillable};
 use bezier::Curve;
 use curve_values::curve_at;
+use leaf_walk::walk;
 use outline_curves::next_at;
 use record_writing::put_record;
-use walk::walk;
 
 // The records of a curve's leaves, from place `at` on. It returns the place after them. The path is as in `walk`.
 pub fn write_curve(records: &mut [i32], at: usize, number: u32, curve: Curve, t: i64) -> usize

@@ -1,49 +1,8 @@
-// The checks of a tolerance and of an outline.
-ghost use mathlib.Core.Path.{_≡_};
-ghost use Rattle.outline.specs.Checks.{toleranceFine, outlined, checkedOf};
-use curve_checks::fault_at;
-use curve_faults::Fault;
-use outline_curves::next_at;
+// The checks of a tolerance and an outline: what they answer. The code stands in `outline_checks`.
 use refusals::Refusal;
 
 // What the checks of an outline find: how many curves it has, or the first fault.
 pub enum Checked {
     Curves(usize),
     Refused(Refusal),
-}
-
-// Check 1: whether a tolerance, in sixteenths of a unit, is in its range. Every number may be asked about.
-pub fn tolerance_fine(t: i32) -> bool
-    ensures { λ r. ⌜ r ≡ toleranceFine t ⌝ }
-{
-    if t < 2 {
-        return false;
-    }
-    t <= 1048576
-}
-
-// Checks 2 to 6 of an outline that may have `most` curves, in document 01's order. Every list and every `most` may be asked about.
-pub fn check_outline(ns: &[i32], most: usize) -> Checked
-    ensures { λ r. ⌜ r ≡ checkedOf (outlined most (now (ns .entry))) ⌝ }
-{
-    if ns.len() == 0 {
-        return Checked::Refused(Refusal::EmptyOutline);
-    }
-    let mut at: usize = 0;
-    let mut count: usize = 0;
-    while at < ns.len() {
-        if count == most {
-            return Checked::Refused(Refusal::TooManyCurves(at));
-        }
-        match fault_at(ns, at) {
-            Fault::Is(refusal) => {
-                return Checked::Refused(refusal);
-            }
-            Fault::Nothing => {
-                at = next_at(ns, at);
-            }
-        }
-        count += 1;
-    }
-    Checked::Curves(count)
 }

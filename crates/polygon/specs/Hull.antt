@@ -1,4 +1,4 @@
--- The convex hull in the words of document 01, of the points that a property X has. No contract cites this page: `crates/cover/proofs/Theorems.antt` shows that
+-- The convex hull in the words of document 01, of the points that a property X has. No contract cites this page: `crates/drawing/proofs/Theorems.antt` shows that
 -- `vertices` is the hull of two boxes, and that no other list is.
 use mathlib.Core.Path.{_≡_}
 use mathlib.Core.Logic.{_⊎_}

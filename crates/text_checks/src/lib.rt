@@ -1,12 +1,9 @@
 // The checks of a text: 16, 14 and 15.
 ghost use mathlib.Core.Path.{_≡_};
-ghost use mathlib.Core.Bool.{false};
-ghost use Prim.Native.Nat.{_-_};
-ghost use lib.ListN.{length};
-ghost use Rattle.text.specs.Lines.{linesFrom, linesOf};
-ghost use Rattle.text.specs.Meaning.{faultFrom, meaningOf, meaning, checkedOf};
-ghost use Rattle.text.specs.Orders.{orderOf};
+ghost use Rattle.text.specs.Lines.{linesOf};
+ghost use Rattle.text.specs.Meaning.{meaningOf, meaning, checkedOf};
 use forms::Form;
+use line_checks::check_rest;
 use refusals::Refusal;
 use text::Checked;
 use text::Order;
@@ -37,36 +34,4 @@ fn check_lines(text: &[u8]) -> Checked
         Form::Curve(_, _) => Checked::Refused(Refusal::OutOfOrder(1)),
         Form::Point(_, _, _) => Checked::Refused(Refusal::OutOfOrder(1)),
     }
-}
-
-// Checks 14 and 15 of the lines from place `at` on, the first of which is line 2.
-fn check_rest(text: &[u8], at: usize) -> Order
-    ensures { λ r. ⌜ r ≡ orderOf (faultFrom false 2 (linesFrom (length (now (text .entry)) - at) (now (text .entry)) at)) ⌝ }
-{
-    let mut late = false;
-    let mut i = at;
-    let mut line: usize = 2;
-    while i < text.len() {
-        match line_reader::line_from(text, i) {
-            Form::NoForm => {
-                return Order::Refused(Refusal::NotAForm(line));
-            }
-            Form::Tolerance(_, _) => {
-                return Order::Refused(Refusal::OutOfOrder(line));
-            }
-            Form::Curve(_, next) => {
-                if late {
-                    return Order::Refused(Refusal::OutOfOrder(line));
-                }
-                i = next;
-                line += 1;
-            }
-            Form::Point(_, _, next) => {
-                late = true;
-                i = next;
-                line += 1;
-            }
-        }
-    }
-    Order::Fine
 }

@@ -1,4 +1,4 @@
-// The walk of a curve's nodes: from node 1 in the order of the parameter, by node numbers and without recursion.
+// The walk of a curve in parameter order, from its root on.
 ghost use mathlib.Core.Path.{_≡_};
 ghost use Rattle.bezier.specs.Bounds.{Sized};
 ghost use Rattle.walk.specs.Walked.{walkedOf};
@@ -10,19 +10,8 @@ pub enum Walked {
     TooWide(u32),
 }
 
-// The leaves of a curve, counted. A curve that is one leaf needs no path.
-pub fn walk(curve: Curve, t: i64) -> Walked
-    requires { ⌜ Sized 0 curve ⌝ }
-    ensures { λ r. ⌜ r ≡ walkedOf t curve ⌝ }
-{
-    if node_test::meets(curve, 0, t) {
-        return Walked::Leaves(1);
-    }
-    walk_halves(curve, t)
-}
-
-// The same by halving. The path holds the curves above the node's own, by depth, so that each step halves once.
-fn walk_halves(curve: Curve, t: i64) -> Walked
+// The leaves of a curve, counted by halving it from its root on. The path holds the curves above the node's own, by depth, so that each step halves once.
+pub fn walk_halves(curve: Curve, t: i64) -> Walked
     requires { ⌜ Sized 0 curve ⌝ }
     ensures { λ r. ⌜ r ≡ walkedOf t curve ⌝ }
 {

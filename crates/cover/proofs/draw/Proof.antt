@@ -1,6 +1,6 @@
 -- `cover::draw` meets its contract: check 12, check 13, then the vertices.
-use Rattle.cover.proofs.Faults.{fault-found, no-fault}
-use Rattle.cover.proofs.Answers.{at-fault, too-few, all-drawn}
+use Rattle.drawing.proofs.Faults.{fault-found, no-fault}
+use Rattle.drawing.proofs.Answers.{at-fault, too-few, all-drawn}
 use borrow.Author.Needs.{needs}
 use Rattle.cover.proofs.draw.Statement.{statement}
 use Rattle.cover.proofs.draw.Tie as tie

@@ -1,6 +1,6 @@
 -- `cover::first_fault` meets its contract.
 use native.Mathlib.Omega.{arith}
-use Rattle.cover.proofs.Faults.{second-at-most, fault-of-first, fault-of-second}
+use Rattle.drawing.proofs.Faults.{second-at-most, fault-of-first, fault-of-second}
 use borrow.Author.Needs.{needs}
 use Rattle.cover.proofs.first_fault.Statement.{statement}
 use Rattle.cover.proofs.first_fault.Tie as tie

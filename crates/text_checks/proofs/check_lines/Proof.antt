@@ -6,7 +6,7 @@ use Rattle.text_checks.proofs.check_lines.Tie as tie
 use Rattle.text_checks.proofs.check_lines.Reads as reads
 use Rattle.text_checks.proofs.check_lines.Lts as lts
 use Rattle.line_reader.proofs.line_from.Reads as line-from-reads
-use Rattle.text_checks.proofs.check_rest.Reads as check-rest-reads
+use Rattle.line_checks.proofs.check_rest.Reads as check-rest-reads
 
 returns : tie.Need-returns
 returns c = search lines-none

@@ -11,7 +11,7 @@ use Rattle.integers.proofs.First.{orElse, moved, bad-parts}
 use Rattle.boxes.specs.declared.Box.{Box}
 use Rattle.boxes.specs.Ranges.{boxNumberFine, numbersOf, boxFault, placeOr}
 use Rattle.boxes.proofs.Faults.{fault-at, place-some, place-none, box-none, place-most}
-use Rattle.cover.specs.Drawing.{twoBoxesFault}
+use Rattle.drawing.specs.Drawing.{twoBoxesFault}
 
 module _ (a b : Box) where
   abbrev fine : ℕ → Bool

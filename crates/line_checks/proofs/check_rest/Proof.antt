@@ -1,13 +1,13 @@
--- `text_checks::check_rest` meets its contract. The loop's invariant is `Checking`; the measure is what is left of the text.
+-- `line_checks::check_rest` meets its contract. The loop's invariant is `Checking`; the measure is what is left of the text.
 use Prim.Native.Nat.{_-_}
 use borrow.Author.Needs.{needs}
 use Rattle.text.proofs.Faults.{Checking, checking-start, rest-no-form, rest-tolerance, rest-late, rest-over, rest-curve, rest-point}
 use Rattle.text.proofs.Lines.{curve-less, point-less}
 use lib.ListN.{length}
-use Rattle.text_checks.proofs.check_rest.Statement.{statement}
-use Rattle.text_checks.proofs.check_rest.Tie as tie
-use Rattle.text_checks.proofs.check_rest.Reads as reads
-use Rattle.text_checks.proofs.check_rest.Lts as lts
+use Rattle.line_checks.proofs.check_rest.Statement.{statement}
+use Rattle.line_checks.proofs.check_rest.Tie as tie
+use Rattle.line_checks.proofs.check_rest.Reads as reads
+use Rattle.line_checks.proofs.check_rest.Lts as lts
 use Rattle.line_reader.proofs.line_from.Reads as line-from-reads
 
 abbrev Inv-loop : tie.InvT-loop

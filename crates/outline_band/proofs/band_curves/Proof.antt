@@ -8,8 +8,8 @@ use Rattle.passes.specs.Leaves.{curvesOf}
 use Rattle.passes.specs.Counted.{countedOf}
 use Rattle.outline.specs.Checks.{outlineFrom}
 use Rattle.banding.proofs.Answers.{answer-too-wide, answer-few, answer-nodes, answer-too-few, answer-list, read-count, fillable, report-done}
-use Rattle.band.proofs.band_curves.Statement.{statement}
-use Rattle.band.proofs.band_curves.Tie as tie
+use Rattle.outline_band.proofs.band_curves.Statement.{statement}
+use Rattle.outline_band.proofs.band_curves.Tie as tie
 
 count-requires : tie.Need-count-requires
 count-requires c κs = search needs

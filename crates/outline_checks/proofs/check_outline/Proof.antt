@@ -1,4 +1,4 @@
--- `outline::check_outline` meets its contract. The loop's invariant: with `count` curves read up to index `at`, the whole list's answer is what the rest
+-- `outline_checks::check_outline` meets its contract. The loop's invariant: with `count` curves read up to index `at`, the whole list's answer is what the rest
 -- of it gives, counted on. The measure is what is left of the list.
 use mathlib.Core.Path.{_≡_, refl, sym, _∙_, ap}
 use mathlib.Core.List.{List, [], _∷_}
@@ -12,17 +12,17 @@ use lib.IntN.{ℤ}
 use Rattle.refusals.specs.declared.Refusal.{Refusal}
 use Rattle.refusals.specs.declared.Refusal.the-variants.{EmptyOutline, TooManyCurves}
 use Rattle.bezier.specs.declared.Curve.{Curve}
 use Rattle.outline.specs.declared.Checked.{Checked}
 use Rattle.outline.specs.declared.Checked.the-variants.{Curves, Refused}
 use Rattle.curve_faults.specs.declared.Fault.the-variants.{Is, Nothing}
 use Rattle.outline_curves.specs.Curves.{nextAt, curveAt}
 use Rattle.curve_faults.specs.Faults.{faultAt, faultOf}
 use Rattle.outline.specs.Checks.{Outlined, curves, faulty, withCurve, outlineFrom, outlined, checkedOf}
 use Rattle.integers.proofs.Clash.{clash}
 use Rattle.curve_faults.proofs.Faultless.{faultless}
 use Rattle.outline.proofs.Steps.{outline-ended, outline-full, outline-faulty, outline-step}
-use Rattle.outline.proofs.check_outline.Statement.{statement}
-use Rattle.outline.proofs.check_outline.Tie as tie
+use Rattle.outline_checks.proofs.check_outline.Statement.{statement}
+use Rattle.outline_checks.proofs.check_outline.Tie as tie
 
 -- ---- counting on
 abbrev counted : ℕ → Outlined → Checked

@@ -1,9 +1,9 @@
 -- The leaves of a curve, counted.
 use borrow.Author.Needs.{needs}
 use mir.Facts.{toZ-ofZ}
 use Rattle.walk.proofs.Whole.{whole-meets, whole-walked}
-use Rattle.walk.proofs.walk.Statement.{statement}
-use Rattle.walk.proofs.walk.Tie as tie
+use Rattle.leaf_walk.proofs.walk.Statement.{statement}
+use Rattle.leaf_walk.proofs.walk.Tie as tie
 
 meets-requires : tie.Need-meets-requires
 meets-requires c κs = search needs

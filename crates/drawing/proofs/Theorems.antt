@@ -20,7 +20,7 @@ use Rattle.polygon.specs.Hull.{Ordered, OfBoxes, ACorner, turn, round, Hull, Al
 use Rattle.polygon.proofs.Vertices.{vertices-most}
 use Rattle.polygon.proofs.Hulls.{strictly-left, one-vertex, vertex-one, two-vertices, vertices-two, one-hull}
 use Rattle.polygon.proofs.Boxes.{of-corner, hull-of-points, each-corner, fewer}
-use Rattle.cover.specs.Drawing.{twoBoxesFault}
+use Rattle.drawing.specs.Drawing.{twoBoxesFault}
 
 -- ---- what check 12 says
 low-first : (s t : Bool) → (s && t) ≡ true → t ≡ true

@@ -16,8 +16,8 @@ use Rattle.polygon.specs.Polygon.{vertices}
 use Rattle.polygon.specs.Hull.{Ordered, OfBoxes, turn, Between, Edge, round}
 use Rattle.polygon.proofs.Reach.{≥-total}
 use Rattle.polygon.proofs.Hulls.{round-again, inside-between, two-vertices}
-use Rattle.cover.specs.Drawing.{twoBoxesFault}
-use Rattle.cover.proofs.Theorems.{ordered, hull-of-boxes}
+use Rattle.drawing.specs.Drawing.{twoBoxesFault}
+use Rattle.drawing.proofs.Theorems.{ordered, hull-of-boxes}
 
 -- (m + n) × z lies from m × low₀ + n × low₁ to m × high₀ + n × high₁
 pub record Mixture (m n : ℕ) (low₀ high₀ low₁ high₁ z : ℤ) : Type 0 where

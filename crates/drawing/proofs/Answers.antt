@@ -13,8 +13,8 @@ use Rattle.refusals.specs.declared.Refusal.the-variants.{BoxNumber, TooFewVerti
 use Rattle.boxes.specs.declared.Box.{Box}
 use Rattle.polygon.specs.Polygon.{pathOf, vertices, numbers}
 use Rattle.polygon.proofs.Vertices.{vertices-most}
-use Rattle.cover.specs.declared.Drawn.the-variants.{Vertices, Refused}
-use Rattle.cover.specs.Drawing.{twoBoxesFault, drawn, writtenBy, drawnInto}
+use Rattle.drawing.specs.declared.Drawn.the-variants.{Vertices, Refused}
+use Rattle.drawing.specs.Drawing.{twoBoxesFault, drawn, writtenBy, drawnInto}
 use Rattle.vertices.proofs.Writing.{numbers-length, in-front}
 
 module _ (a b : Box) where

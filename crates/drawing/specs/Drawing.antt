@@ -10,8 +10,8 @@ use Rattle.refusals.specs.declared.Refusal.the-variants.{BoxNumber, TooFewVerti
 use Rattle.boxes.specs.declared.Box.{Box}
 use Rattle.boxes.specs.Ranges.{numbersOf, boxesFault}
 use Rattle.polygon.specs.Polygon.{vertices, numbers}
-use Rattle.cover.specs.declared.Drawn.{Drawn}
-use Rattle.cover.specs.declared.Drawn.the-variants.{Vertices, Refused}
+use Rattle.drawing.specs.declared.Drawn.{Drawn}
+use Rattle.drawing.specs.declared.Drawn.the-variants.{Vertices, Refused}
 
 -- 12: the place of the first bad number among the eight
 abbrev pub twoBoxesFault : Box → Box → Option ℕ

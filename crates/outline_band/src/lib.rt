@@ -1,0 +1,38 @@
+// The band of an outline without faults: checks 7 and 8, and the records.
+ghost use mathlib.Core.Path.{_≡_};
+ghost use Prim.Native.Nat.{_≤_, _^_};
+ghost use lib.ListN.{length};
+ghost use lib.IntN.{pos};
+ghost use lib.Signed.{_≤ℤ_};
+ghost use Rattle.outline.specs.Checks.{outlineFrom};
+ghost use Rattle.records.specs.Records.{allRecords};
+ghost use Rattle.passes.specs.Leaves.{curvesOf};
+ghost use Rattle.banding.specs.Banding.{bandCurves, writtenBy};
+ghost use Rattle.passes.specs.Counted.{Readable};
+use banding::Banded;
+use leaf_count::count;
+use leaf_writing::write_all;
+use passes::Counted;
+use refusals::Refusal;
+
+// Checks 7 and 8, and the records, of an outline without faults that has this many curves.
+pub fn band_curves(ns: &[i32], t: i64, curves: usize, records: &mut [i32]) -> Banded
+    requires { ⌜ (Readable (now ns) curves) × (t ≤ℤ pos (2 ^ 20)) ⌝ }
+    ensures { λ r. ⌜ (r ≡ bandCurves t (curvesOf (outlineFrom curves (now (ns .entry)) 0)) (length (now (records .entry)))) × (now (records .exit) ≡ writtenBy r (allRecords t 0 (curvesOf (outlineFrom curves (now (ns .entry)) 0))) (now (records .entry))) ⌝ }
+{
+    match count(ns, t, curves) {
+        Counted::Refused(refusal) => Banded::Refused(refusal),
+        Counted::Leaves(leaves) => {
+            if records.len() < 18 * leaves {
+                return Banded::Refused(Refusal::TooFewRecords(leaves));
+            }
+            write_all(records, ns, t, curves);
+            let nodes = 2 * leaves - curves;
+            Banded::Done {
+                curves,
+                leaves,
+                nodes,
+            }
+        }
+    }
+}

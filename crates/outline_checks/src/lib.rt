@@ -1,0 +1,44 @@
+// Checks 1 to 6 of a tolerance and an outline, in their order.
+ghost use mathlib.Core.Path.{_≡_};
+ghost use Rattle.outline.specs.Checks.{toleranceFine, outlined, checkedOf};
+use curve_checks::fault_at;
+use curve_faults::Fault;
+use outline::Checked;
+use outline_curves::next_at;
+use refusals::Refusal;
+
+// Check 1: whether a tolerance, in sixteenths of a unit, is in its range. Every number may be asked about.
+pub fn tolerance_fine(t: i32) -> bool
+    ensures { λ r. ⌜ r ≡ toleranceFine t ⌝ }
+{
+    if t < 2 {
+        return false;
+    }
+    t <= 1048576
+}
+
+// Checks 2 to 6 of an outline that may have `most` curves, in document 01's order. Every list and every `most` may be asked about.
+pub fn check_outline(ns: &[i32], most: usize) -> Checked
+    ensures { λ r. ⌜ r ≡ checkedOf (outlined most (now (ns .entry))) ⌝ }
+{
+    if ns.len() == 0 {
+        return Checked::Refused(Refusal::EmptyOutline);
+    }
+    let mut at: usize = 0;
+    let mut count: usize = 0;
+    while at < ns.len() {
+        if count == most {
+            return Checked::Refused(Refusal::TooManyCurves(at));
+        }
+        match fault_at(ns, at) {
+            Fault::Is(refusal) => {
+                return Checked::Refused(refusal);
+            }
+            Fault::Nothing => {
+                at = next_at(ns, at);
+            }
+        }
+        count += 1;
+    }
+    Checked::Curves(count)
+}
