@@ -8,7 +8,8 @@ use Rattle.halves.specs.Halves.{four}
 use Rattle.bezier.specs.Nodes.{descend, halfOf, nodeCurve}
 use Rattle.bezier.proofs.Nodes.{descend-one, descend-half, node-induction}
 use Rattle.bezier.proofs.Numbers.{node-one, node-half}
-use Rattle.bezier.proofs.Values.{half, curve-half}
+use Rattle.halves.proofs.Values.{half}
+use Rattle.bezier.proofs.Values.{curve-half}
 
 module _ (d : ℕ) (cs : List ℤ) where
   -- the control values of node n, from those `cs` of node 1

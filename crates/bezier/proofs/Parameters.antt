@@ -15,7 +15,7 @@ use Rattle.bezier.specs.declared.Curve.{Curve}
 use Rattle.bezier.specs.Nodes.{depth, start, nodeCurve}
 use Rattle.bezier.proofs.Nodes.{node-induction}
 use Rattle.bezier.proofs.Numbers.{depth-one, depth-half, start-half, start-below}
-use Rattle.bezier.proofs.Values.{half-four-value}
+use Rattle.halves.proofs.Values.{half-four-value}
 use Rattle.bezier.proofs.Coordinates.{nodeValues, values-one, values-half, node-curve}
 
 -- ---- of the 2^depth nodes of one depth, `start n` come before node n, and these after it

@@ -17,7 +17,8 @@ use Rattle.halves.specs.Halves.{four}
 use Rattle.bezier.specs.Nodes.{depth, halfOf, nodeCurve}
 use Rattle.bezier.specs.Differences.{difference, largestOf, bend, largest}
 use Rattle.bezier.proofs.Nodes.{node-induction}
-use Rattle.bezier.proofs.Values.{listed-entry, half, half-entry, curve-half}
+use Rattle.halves.proofs.Values.{listed-entry, half, half-entry}
+use Rattle.bezier.proofs.Values.{curve-half}
 use Rattle.bezier.proofs.Coordinates.{node-degree}
 use Rattle.bezier.proofs.Numbers.{depth-one, depth-half, node-one, node-half}
 

@@ -1,2 +1,3 @@
--- How the code of one coordinate is proved.
+-- Laws of the halves of one coordinate, and how their code is proved.
+pub mod Values
 pub mod Halving

@@ -27,7 +27,7 @@ use Rattle.integers.proofs.Machine.{Held, Count, abs-shift, tests}
 use Rattle.bezier.specs.Differences.{difference}
 use Rattle.halves.specs.Sizes.{Each}
 use Rattle.halves.specs.Halves.{listed, four}
-use Rattle.bezier.proofs.Values.{listed-ext}
+use Rattle.halves.proofs.Values.{listed-ext}
 use Rattle.bezier.proofs.Sizes.{each-wider}
 use Rattle.halves.proofs.Halving.{held-entry}
 use Rattle.rows.specs.Rows.{pieces, thirds}

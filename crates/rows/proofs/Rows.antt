@@ -24,7 +24,7 @@ use Rattle.rows.specs.Hats.{hat}
 use Rattle.rows.specs.Joined.{Place, joined, RowBounds}
 use Rattle.rows.proofs.Degrees.{degrees}
 use Rattle.rows.proofs.Negated.{negated, value-negated}
-use Rattle.bezier.proofs.Values.{listed-entry}
+use Rattle.halves.proofs.Values.{listed-entry}
 use Rattle.rows.proofs.Hats.{hat-2-first, hat-3-first, hat-3-second}
 use Rattle.rows.proofs.Lines.{casteljau-line}
 

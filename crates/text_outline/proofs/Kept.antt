@@ -14,7 +14,7 @@ use lib.Signed.{ltZ}
 use Rattle.integers.specs.Entry.{entry}
 use Rattle.refusals.specs.declared.Refusal.{Refusal}
 use Rattle.refusals.specs.declared.Refusal.the-variants.{TooManyCurves}
-use Rattle.bezier.proofs.Values.{listed-ext}
+use Rattle.halves.proofs.Values.{listed-ext}
 use Rattle.outline_curves.specs.Curves.{coordinates, degreeAt, nextAt, values, curveAt}
 use Rattle.integers.specs.Between.{between}
 use Rattle.integers.specs.First.{firstBad}
