@@ -14,6 +14,7 @@ use Rattle.boxes.specs.declared.Box.{Box}
 use Rattle.polygon.specs.declared.Point.{Point}
 use Rattle.polygon.specs.Polygon.{vertices}
 use Rattle.polygon.specs.Hull.{Ordered, OfBoxes, turn, Between, Edge, round}
+use Rattle.polygon.proofs.Edges.{rising, falling}
 use Rattle.polygon.proofs.Reach.{≥-total}
 use Rattle.polygon.proofs.Hulls.{round-again, inside-between, two-vertices}
 use Rattle.drawing.specs.Drawing.{twoBoxesFault}
@@ -75,14 +76,6 @@ module _ {m n : ℕ} (some : 0 < m + n) {l₀ h₀ l₁ h₁ z : ℤ} (mix : Mix
       (λ o. inl (from-low u (rising o a .0) (rising o c .0), to-high v (rising o b .1) (rising o d .1)))
       (λ o. inr (from-low v (falling o a .0) (falling o c .0), to-high u (falling o b .1) (falling o d .1)))
       (≥-total u v)
-    where
-      rising : {c : ℤ} → u ≤ℤ v → Between u v c → (u ≤ℤ c) × (c ≤ℤ v)
-      rising o (inl h) = h
-      rising o (inr h) = (≤ℤ-trans o (h .0), ≤ℤ-trans (h .1) o)
-
-      falling : {c : ℤ} → v ≤ℤ u → Between u v c → (v ≤ℤ c) × (c ≤ℤ u)
-      falling o (inl h) = (≤ℤ-trans o (h .0), ≤ℤ-trans (h .1) o)
-      falling o (inr h) = h
 
 -- ---- the points of a cover
 pub record OfCover (a b : Box) (p : Point) : Type 0 where

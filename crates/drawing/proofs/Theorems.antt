@@ -18,7 +18,8 @@ use Rattle.polygon.specs.declared.Point.{Point}
 use Rattle.polygon.specs.Polygon.{pathOf, vertices}
 use Rattle.polygon.specs.Hull.{Ordered, OfBoxes, ACorner, turn, round, Hull, AllEqual, InLine}
 use Rattle.polygon.proofs.Vertices.{vertices-most}
-use Rattle.polygon.proofs.Hulls.{strictly-left, one-vertex, vertex-one, two-vertices, vertices-two, one-hull}
+use Rattle.polygon.proofs.Hulls.{one-vertex, vertex-one, two-vertices, vertices-two, one-hull}
+use Rattle.polygon.proofs.InLine.{no-three-in-line, turns-left-in-order}
 use Rattle.polygon.proofs.Boxes.{of-corner, hull-of-points, each-corner, fewer}
 use Rattle.drawing.specs.Drawing.{twoBoxesFault}
 
@@ -61,10 +62,14 @@ module _ (a b : Box) (accepted : twoBoxesFault a b ≡ none) where
   unfolding vertices
   at-most-eight = vertices-most (pathOf a b)
 
-  -- at every vertex the way turns strictly left, so that no three neighbours are in line
-  pub turns-strictly : 3 ≤ length (vertices a b) → (k : ℕ) → k < length (vertices a b)
-      → pos 0 <ℤ turn (round (vertices a b) k) (round (vertices a b) (suc k)) (round (vertices a b) (suc (suc k)))
-  turns-strictly t k h = strictly-left hull-of-corners t k h
+  -- every three vertices, in their order, turn strictly left: no three are in line
+  pub turns-strictly : (i j k : ℕ) → i < j → j < k → k < length (vertices a b)
+      → pos 0 <ℤ turn (round (vertices a b) i) (round (vertices a b) j) (round (vertices a b) k)
+  turns-strictly = turns-left-in-order hull-of-corners
+
+  pub no-three : (i j k : ℕ) → i < j → j < k → k < length (vertices a b)
+      → turn (round (vertices a b) i) (round (vertices a b) j) (round (vertices a b) k) ≡ pos 0 → ⊥
+  no-three = no-three-in-line hull-of-corners
 
   -- one vertex exactly where all corners are equal, and at most two exactly where they are in line
   pub one-exactly : (length (vertices a b) ≡ 1 → AllEqual (ACorner a b)) × (AllEqual (ACorner a b) → length (vertices a b) ≡ 1)

@@ -24,6 +24,15 @@ nearer (inl h) (inr k) = ≤ℤ-antisymm (≤ℤ-trans (k .1) (h .0)) (h .1)
 nearer (inr h) (inl k) = ≤ℤ-antisymm (h .0) (≤ℤ-trans (h .1) (k .0))
 nearer (inr h) (inr k) = ≤ℤ-antisymm (h .0) (k .0)
 
+-- where the order of the ends is known
+pub rising : {u v c : ℤ} → u ≤ℤ v → Between u v c → (u ≤ℤ c) × (c ≤ℤ v)
+rising o (inl h) = h
+rising o (inr h) = (≤ℤ-trans o (h .0), ≤ℤ-trans (h .1) o)
+
+pub falling : {u v c : ℤ} → v ≤ℤ u → Between u v c → (v ≤ℤ c) × (c ≤ℤ u)
+falling o (inl h) = (≤ℤ-trans o (h .0), ≤ℤ-trans (h .1) o)
+falling o (inr h) = h
+
 -- ---- the cross product
 module _ (u v w : Point) where
   -- the same from each of the three

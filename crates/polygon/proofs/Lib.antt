@@ -6,4 +6,5 @@ pub mod Reach
 pub mod Quarter
 pub mod Walk
 pub mod Hulls
+pub mod InLine
 pub mod Boxes
