@@ -1,10 +1,9 @@
--- The examples of document 01 that concern banding, from the outline's numbers to the answer and the lent list, and more on the order of the checks; each by
--- computation.
+-- Examples of banding beside the starred ones, by computation: what stands behind the records, two curves, the spots of 7 and 8, and a list that is left as it was.
 use mathlib.Core.Path.{_≡_, refl}
 use mathlib.Core.List.{List, [], _∷_, _++_}
 use Prim.Native.Nat.{ℕ}
 use lib.ListN.{replicate}
-use lib.IntN.{ℤ, pos, negℤ, pow, one}
+use lib.IntN.{ℤ, pos, pow, one}
 use Rattle.integers.specs.Rounding.{floor, ceiling}
 use Rattle.refusals.specs.Refusals.{numberOf, spotOf}
 use Rattle.halves.specs.Halves.{triangle, left, right}
@@ -40,12 +39,9 @@ abbrev refusal : Banded → ℕ × ℕ
 refusal (Refused r) = (numberOf r, spotOf r)
 refusal (Done a b c) = (0, 0)
 
--- the numbers of a box, and of their negatives
+-- the numbers of a box
 abbrev box : (a b c d : ℕ) → List ℤ
 box a b c d = pos a ∷ pos b ∷ pos c ∷ pos d ∷ []
-
-abbrev below : (a b c d : ℕ) → List ℤ
-below a b c d = pos a ∷ pos b ∷ negℤ (pos c) ∷ negℤ (pos d) ∷ []
 
 abbrev A : List ℤ
 A = pos 3 ∷ pos 0 ∷ pos 0 ∷ pos 10 ∷ pos 30 ∷ pos 20 ∷ pos 30 ∷ pos 30 ∷ pos 0 ∷ []
@@ -57,31 +53,10 @@ abbrev tall : List ℤ
 tall = pos 3 ∷ pos 0 ∷ pos 0 ∷ pos 0 ∷ pos 1048576 ∷ pos 0 ∷ pos 1048576 ∷ pos 0 ∷ pos 0 ∷ []
 
 -- ---- A at T 44: the leaf of the listing; what stands behind it stays
-pub a-44 : answer (pos 44) A 20 ≡ Done 1 1 1
-unfolding computing
-a-44 = refl
-
 pub a-44-record : lent (pos 44) A (replicate 20 (pos 7))
     ≡ pos 0 ∷ pos 1 ∷ box 0 0 0 38 ++ box 160 160 319 363 ++ box 320 320 319 363 ++ box 480 480 0 38 ++ (pos 7 ∷ pos 7 ∷ [])
 unfolding computing
 a-44-record = refl
-
--- ---- A at T 43: nodes 2 and 3
-pub a-43 : answer (pos 43) A 36 ≡ Done 1 2 3
-unfolding computing
-a-43 = refl
-
-pub a-43-records : lent (pos 43) A (replicate 36 (pos 7))
-    ≡ pos 0 ∷ pos 2 ∷ box 0 0 0 10 ++ box 80 80 199 211 ++ box 160 160 319 331 ++ box 240 240 360 370
-    ++ (pos 0 ∷ pos 3 ∷ box 240 240 360 370 ++ box 320 320 319 331 ++ box 400 400 199 211 ++ box 480 480 0 10)
-unfolding computing
-a-43-records = refl
-
--- ---- A with y negated, T 44: rounded down below zero
-pub a-negated : lent (pos 44) (pos 3 ∷ pos 0 ∷ pos 0 ∷ pos 10 ∷ negℤ (pos 30) ∷ pos 20 ∷ negℤ (pos 30) ∷ pos 30 ∷ pos 0 ∷ []) (replicate 18 (pos 7))
-    ≡ pos 0 ∷ pos 1 ∷ below 0 0 38 0 ++ below 160 160 363 319 ++ below 320 320 363 319 ++ below 480 480 38 0
-unfolding computing
-a-negated = refl
 
 -- ---- y 0, 18, 0 and the line 0, 1, as the second and the first curve of one outline
 pub two-curves : lent (pos 17) (line ++ (pos 2 ∷ pos 0 ∷ pos 0 ∷ pos 0 ∷ pos 18 ∷ pos 0 ∷ pos 0 ∷ [])) (replicate 36 (pos 7))
@@ -90,37 +65,7 @@ pub two-curves : lent (pos 17) (line ++ (pos 2 ∷ pos 0 ∷ pos 0 ∷ pos 0 ∷
 unfolding computing
 two-curves = refl
 
--- ---- 1: T 2 passes, T 1 does not, and is seen before an empty outline; 6
-pub least-tolerance : answer (pos 2) line 18 ≡ Done 1 1 1
-unfolding computing
-least-tolerance = refl
-
-pub tolerance-one : refusal (answer (pos 1) [] 0) ≡ (1, 0)
-unfolding computing
-tolerance-one = refl
-
-pub empty : refusal (answer (pos 2) [] 0) ≡ (6, 0)
-unfolding computing
-empty = refl
-
--- ---- 2 and 4
-pub degree-four : refusal (answer (pos 2) (pos 4 ∷ []) 0) ≡ (2, 0)
-unfolding computing
-degree-four = refl
-
-pub farthest : answer (pos 2) (pos 1 ∷ pos 1048576 ∷ pos 0 ∷ pos 0 ∷ pos 0 ∷ []) 18 ≡ Done 1 1 1
-unfolding computing
-farthest = refl
-
-pub beyond : refusal (answer (pos 2) (pos 1 ∷ pos 1048577 ∷ pos 0 ∷ pos 0 ∷ pos 0 ∷ []) 18) ≡ (4, 1)
-unfolding computing
-beyond = refl
-
--- ---- 7: y 0, 1048576, 1048576, 0 at T 2, before 8; as curve 1 its spot is 512 more
-pub too-wide : refusal (answer (pos 2) tall 0) ≡ (7, 256)
-unfolding computing
-too-wide = refl
-
+-- ---- 7 of curve 1, before 8: its spot is 512 more
 pub second-too-wide : refusal (answer (pos 2) (line ++ tall) 0) ≡ (7, 768)
 unfolding computing
 second-too-wide = refl

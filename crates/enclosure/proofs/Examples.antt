@@ -1,4 +1,4 @@
--- Document 01's measured examples that concern one coordinate, by computation; and the table of rows, read off the bounds of three coordinates.
+-- Bounds of one coordinate, by computation: rows chosen by the sign of each difference, and document 01's table read off the bounds of three coordinates.
 use mathlib.Core.Path.{_≡_, refl}
 use mathlib.Core.List.{List, [], _∷_}
 use Prim.Native.Nat.{ℕ, _*_}
@@ -16,21 +16,6 @@ bounds d cs =
     let l : ℕ → ℤ = lowOf d 0 cs in
     let h : ℕ → ℤ = highOf d 0 cs in
     l 0 ∷ h 0 ∷ l 1 ∷ h 1 ∷ l 2 ∷ h 2 ∷ l 3 ∷ h 3 ∷ []
-
--- ---- A with y negated: −37.6 gives −38
-pub negated-y : bounds 3 (pos 0 ∷ minus 30 ∷ minus 30 ∷ pos 0 ∷ []) ≡ minus 38 ∷ pos 0 ∷ minus 363 ∷ minus 319 ∷ minus 363 ∷ minus 319 ∷ minus 38 ∷ pos 0 ∷ []
-unfolding high low rowSum floor ceiling
-negated-y = refl
-
--- ---- y 0, 18, 0
-pub arch : bounds 2 (pos 0 ∷ pos 18 ∷ pos 0 ∷ []) ≡ pos 0 ∷ pos 17 ∷ pos 127 ∷ pos 144 ∷ pos 127 ∷ pos 144 ∷ pos 0 ∷ pos 17 ∷ []
-unfolding high low rowSum floor ceiling
-arch = refl
-
--- ---- Line 0, 1
-pub line : bounds 1 (pos 0 ∷ pos 1 ∷ []) ≡ pos 0 ∷ pos 0 ∷ pos 5 ∷ pos 6 ∷ pos 10 ∷ pos 11 ∷ pos 16 ∷ pos 16 ∷ []
-unfolding high low rowSum floor ceiling
-line = refl
 
 -- ---- second differences −90 and 90: each chooses its row by its own sign
 pub wave : bounds 3 (pos 0 ∷ pos 30 ∷ minus 30 ∷ pos 0 ∷ []) ≡ minus 13 ∷ pos 101 ∷ pos 78 ∷ pos 208 ∷ minus 208 ∷ minus 78 ∷ minus 101 ∷ pos 13 ∷ []

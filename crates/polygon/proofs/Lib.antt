@@ -1,5 +1,4 @@
 -- Laws of the polygon round two boxes. Each file opens with what it holds.
-pub mod Examples
 pub mod Vertices
 pub mod Edges
 pub mod Reach
