@@ -6,6 +6,7 @@ use mathlib.Core.Logic.{⊎-elim}
 use mathlib.Core.List.{List·Memᴰ, List·Memᴰ·append-cases, List·Memᴰ·eq-of-singleton}
 use mathlib.Core.Option.{none}
 use Prim.Native.Nat.{ℕ, _≤_, _<_}
+use native.Mathlib.Nat.{le-refl}
 use native.Mathlib.Omega.{arith}
 use lib.IntN.{ℤ}
 use Rattle.integers.proofs.Order.{lt-or-ge}
@@ -24,7 +25,7 @@ use Rattle.tree.specs.Passing.{AllPass}
 use Rattle.banding.specs.Outcomes.{Flat}
 use Rattle.tree.proofs.Halves.{left-half, right-half}
 use Rattle.tree.proofs.Tree.{either, not-both, ends-induction}
-use Rattle.tree.proofs.Leaves.{end-facts, leaf-exactly}
+use Rattle.tree.proofs.Leaves.{end-facts, all-leaves}
 use Rattle.tree.proofs.Failing.{passing-none}
 
 -- ---- for any test: where all nodes at depth j pass, none of them is halved
@@ -48,6 +49,10 @@ module _ (test : ℕ → Bool) (j : ℕ) (all : (a : ℕ) → 0 < a → depth a 
         ⊎-elim (λ p. p) (λ e. all n (f .node) (omega (arith, f .failing e, ends-within k n i))) (either (test n));
   }
 
+  -- so a walk of j halvings finds all leaves, whatever their depth
+  pub leaves-within : (n : ℕ) → Leaf test n → depth n ≤ j
+  leaves-within n l = end-facts test j n (all-leaves test j n (ends-passing j (le-refl j)) .1 l) .within
+
 -- ---- today's test
 module _ (T : ℤ) (c : Curve) (s : Sized 0 c) (j : ℕ) (premise : Flat T c j) where
   pub all-meet : (n : ℕ) → 0 < n → depth n ≡ j → nodeMeets T c n ≡ true
@@ -59,8 +64,8 @@ module _ (T : ℤ) (c : Curve) (s : Sized 0 c) (j : ℕ) (premise : Flat T c j) 
   pub end-depth : (n : ℕ) → List·Memᴰ n (endsOf T c) → depth n ≤ j
   end-depth = ends-within (nodeMeets T c) j all-meet deepest
 
-  pub leaf-depth : (n : ℕ) → Leaf (nodeMeets T c) deepest n → depth n ≤ j
-  leaf-depth n l = end-depth n (leaf-exactly (nodeMeets T c) deepest n .1 l .0)
+  pub leaf-depth : (n : ℕ) → Leaf (nodeMeets T c) n → depth n ≤ j
+  leaf-depth = leaves-within (nodeMeets T c) j all-meet
 
   pub none-too-wide : j ≤ deepest → firstFailing (nodeMeets T c) (endsOf T c) ≡ none
   none-too-wide l = passing-none (nodeMeets T c) (endsOf T c) (ends-passing (nodeMeets T c) j all-meet deepest l)

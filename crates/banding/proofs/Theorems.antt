@@ -112,11 +112,11 @@ module _ (most : ℕ) (T : ℤ) (ns old : List ℤ) where
 
 -- ---- the leaves of an accepted outline's curve c
 module _ (T : ℤ) (cs : List Curve) (meet : AllMeet T cs) (c : Curve) (i : List·Memᴰ c cs) where
-  pub leaves-exactly : (n : ℕ) → List·Memᴰ n (endsOf T c) ↔ Leaf (nodeMeets T c) deepest n
+  pub leaves-exactly : (n : ℕ) → List·Memᴰ n (endsOf T c) ↔ Leaf (nodeMeets T c) n
   leaves-exactly n = all-leaves (nodeMeets T c) deepest n (meet .each c i)
 
   -- every parameter p / (p + r) lies in the stretch of a leaf
-  pub every-parameter : (p r : ℕ) → (n : ℕ) × Leaf (nodeMeets T c) deepest n × Covers n p r
+  pub every-parameter : (p r : ℕ) → (n : ℕ) × Leaf (nodeMeets T c) n × Covers n p r
   every-parameter p r = let m = some-end-covers p r (nodeMeets T c) deepest in (m .0, leaves-exactly (m .0) .0 (m .1), m .2)
 
 -- by parameter, from 0 to 1, each where the one before ends

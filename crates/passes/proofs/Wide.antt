@@ -1,5 +1,5 @@
 -- Check 7 over the curves of an outline: nothing is too wide exactly where every end of every curve meets T; otherwise the first curve with an end that does
--- not is named, with its first such end.
+-- not is named, with its first such end, a node at the last depth.
 use mathlib.Core.Path.{_≡_, refl, sym, _∙_, ap}
 use mathlib.Core.Logic.{_⊎_, inl, inr, ⊎-elim, _↔_}
 use mathlib.Core.List.{List, [], _∷_, _++_, List·Memᴰ·head, List·Memᴰ·tail, List·Memᴰ·not-nil, List·Memᴰ·cases-cons}
@@ -12,10 +12,11 @@ use Rattle.refusals.specs.declared.Refusal.{Refusal}
 use Rattle.refusals.specs.declared.Refusal.the-variants.{TooWide}
 use Rattle.bezier.specs.declared.Curve.{Curve}
 use Rattle.tree.specs.Tree.{firstFailing}
-use Rattle.walk.specs.Walked.{nodeMeets, endsOf}
+use Rattle.walk.specs.Walked.{deepest, nodeMeets, endsOf}
 use Rattle.passes.specs.Leaves.{firstTooWide}
 use Rattle.tree.specs.Passing.{AllPass}
 use Rattle.passes.specs.Meeting.{AllMeet, FirstWide}
+use Rattle.tree.proofs.Leaves.{first-end}
 use Rattle.tree.proofs.Failing.{none-passing, passing-none, some-first, first-some}
 
 module _ (T : ℤ) where
@@ -77,9 +78,13 @@ module _ (T : ℤ) where
           number = omega (arith, h .number);
           before = meet-cons (none-passing (nodeMeets T c) (endsOf T c) f) (h .before);
           first = h .first;
+          last = h .last;
+          reached = h .reached;
         },
       ))
-      (λ f. (
+      (λ f.
+      let first = some-first (nodeMeets T c) (endsOf T c) (f .0) (f .1) in
+      let end = first-end (nodeMeets T c) deepest (f .0) first in (
         s,
         f .0,
         Option·some-injective r (TooWide s (f .0)) (sym e ∙ wide-here s c cs (f .0) (f .1)),
@@ -90,7 +95,9 @@ module _ (T : ℤ) where
           split = refl;
           number = omega arith;
           before = meet-nil;
-          first = some-first (nodeMeets T c) (endsOf T c) (f .0) (f .1);
+          first = first;
+          last = end .failing (first .fails);
+          reached = end .longest;
         },
       ))
       (either (firstFailing (nodeMeets T c) (endsOf T c)))

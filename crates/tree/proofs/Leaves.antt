@@ -1,10 +1,10 @@
--- The leaf theorem: the ends of the walk that pass are exactly the leaves. An end is found by the path that leads to it, j halvings of nodes that do not
--- pass; n / 2^j is the node j halvings above n.
+-- The leaf theorem: the ends of the walk that pass are exactly the leaves that at most k halvings lead to; where every end passes, they are all leaves. An
+-- end is found by the path that leads to it, j halvings of nodes that do not pass; n / 2^j is the node j halvings above n.
 use mathlib.Core.Path.{_≡_, refl, sym, _∙_, ap, subst}
 use mathlib.Core.Bool.{Bool, true, false}
 use mathlib.Core.Logic.{⊎-elim, _↔_}
 use mathlib.Core.List.{List·Memᴰ, List·Memᴰ·head, List·Memᴰ·append-cases, List·Memᴰ·eq-of-singleton, Memᴰ·append-left, Memᴰ·append-right}
-use Prim.Native.Nat.{ℕ, zero, suc, _+_, _*_, _/_, _^_, _≤_, _<_, suc-le-suc}
+use Prim.Native.Nat.{ℕ, zero, suc, _+_, _-_, _*_, _/_, _^_, _≤_, _<_, suc-le-suc}
 use native.Mathlib.Nat.{le-refl, pow-suc, div-one, div-div-eq-div-mul, le-div-iff-mul-le, div-lt-iff-lt-mul, pos-of-div-pos, lt-of-lt-of-le, div-eq-of-lt}
 use native.Mathlib.Omega.{arith}
 use lib.Pow.{pow-pos, pow-mono}
@@ -12,8 +12,8 @@ use Rattle.integers.proofs.Order.{lt-or-ge}
 use Rattle.bezier.specs.Nodes.{depth}
 use Rattle.bezier.proofs.Numbers.{depth-low, depth-high, depth-unique, depth-bit}
 use Rattle.tree.specs.Tree.{ends}
-use Rattle.tree.specs.Leaves.{Leaf}
-use Rattle.tree.specs.Passing.{AllPass}
+use Rattle.tree.specs.Leaves.{Ancestor, Leaf}
+use Rattle.tree.specs.Passing.{AllPass, First}
 use Rattle.tree.proofs.Tree.{not-both, ends-leaf, ends-halved, ends-induction}
 
 above : (n j : ℕ) → n / 2 ^ suc j ≡ n / 2 ^ j / 2
@@ -32,6 +32,7 @@ pub record End (test : ℕ → Bool) (k n : ℕ) : Type 0 where
   pub within : depth n ≤ k
   pub below : n < 2 ^ suc k
   pub failing : test n ≡ false → depth n ≡ k
+  pub longest : (a : ℕ) → Ancestor a n → test a ≡ false
 
 module _ (test : ℕ → Bool) where
   reached-half : {k m c n j : ℕ} → c / 2 ≡ m → test m ≡ false → Reached test k c n j → Reached test (suc k) m n (suc j)
@@ -77,6 +78,18 @@ module _ (test : ℕ → Bool) where
       (λ l. let e : c ≡ 2 * m + 1 = omega arith in Memᴰ·append-right (ends test k (2 * m)) (subst (λ x. List·Memᴰ n (ends test k x)) e next))
       (lt-or-ge c (2 * m + 1)))
 
+  -- the walk ends on the way to any n that lies k + j halvings below m, at a node from j to k + j halvings above n
+  on-the-way : (n j k m : ℕ) → n / 2 ^ (k + j) ≡ m → (i : ℕ) × (j ≤ i) × (i ≤ k + j) × List·Memᴰ (n / 2 ^ i) (ends test k m)
+  on-the-way n j = ends-induction test (λ k m ns. n / 2 ^ (k + j) ≡ m → (i : ℕ) × (j ≤ i) × (i ≤ k + j) × List·Memᴰ (n / 2 ^ i) ns)
+      (λ k m h e. (k + j, omega arith, le-refl (k + j), List·Memᴰ·head e))
+      (λ k m ls rs f l r e.
+      let c = n / 2 ^ (k + j) in
+      let half : c / 2 ≡ m = sym (above n (k + j)) ∙ ap (λ (x : ℕ). n / 2 ^ x) {x = suc (k + j)} {y = suc k + j} (omega arith) ∙ e in
+      ⊎-elim
+      (λ s. let w = l (omega arith) in (w .0, w .1, omega (arith, w .2), Memᴰ·append-left rs (w .3)))
+      (λ s. let w = r (omega arith) in (w .0, w .1, omega (arith, w .2), Memᴰ·append-right ls (w .3)))
+      (lt-or-ge c (2 * m + 1)))
+
   -- ---- from node 1
   module _ (k n : ℕ) where
     reached-depth : {j : ℕ} → Reached test k 1 n j → depth n ≡ j
@@ -94,38 +107,49 @@ module _ (test : ℕ → Bool) where
           within = w;
           below = lt-of-lt-of-le (depth-high n hn) (pow-mono (suc-le-suc w));
           failing = λ f. d ∙ r .1 .none-left f;
-        }
-
-    end-leaf : List·Memᴰ n (ends test k 1) → test n ≡ true → Leaf test k n
-    end-leaf i p =
-        let r = reached n k 1 i in
-        let d = reached-depth (r .1) in
-        let f = end-facts i in record {
-          node = f .node;
-          within = f .within;
-          passes = p;
           longest = λ a h. ⊎-elim
               (λ (l : h .halvings < suc (depth n)). ap test (h .is) ∙ r .1 .through (h .halvings) (h .some) (omega arith))
-              (λ (l : suc (depth n) ≤ h .halvings). absurd (omega (arith, h .is, div-eq-of-lt (lt-of-lt-of-le (depth-high n (f .node)) (pow-mono l)))))
+              (λ (l : suc (depth n) ≤ h .halvings). absurd (omega (arith, h .is, h .node, div-eq-of-lt (lt-of-lt-of-le (depth-high n hn) (pow-mono l)))))
               (lt-or-ge (h .halvings) (suc (depth n)));
         }
 
-    leaf-end : Leaf test k n → List·Memᴰ n (ends test k 1)
-    leaf-end l = is-end n k 1 (depth n) (l .passes) (record {
-      few = l .within;
+    -- the first end that does not pass
+    pub first-end : First test (ends test k 1) n → End test k n
+    first-end f = end-facts (rw (f .split) (Memᴰ·append-right (f .front) (List·Memᴰ·head refl)))
+
+    end-leaf : List·Memᴰ n (ends test k 1) → test n ≡ true → Leaf test n
+    end-leaf i p = let f = end-facts i in record { node = f .node; passes = p; longest = f .longest }
+
+    ancestor : 0 < n → (i : ℕ) → 0 < i → i ≤ depth n → Ancestor (n / 2 ^ i) n
+    ancestor hn i h s = record {
+      node = le-div-iff-mul-le {x = 1} {y = n} (pow-pos i) .1 (omega (arith, pow-mono s, depth-low n hn));
+      halvings = i;
+      some = h;
+      is = refl;
+    }
+
+    leaf-end : Leaf test n → depth n ≤ k → List·Memᴰ n (ends test k 1)
+    leaf-end l within = is-end n k 1 (depth n) (l .passes) (record {
+      few = within;
       from = depth-bit n (l .node);
-      through = λ i h s. l .longest (n / 2 ^ i) (record {
-        node = le-div-iff-mul-le {x = 1} {y = n} (pow-pos i) .1 (omega (arith, pow-mono s, depth-low n (l .node)));
-        halvings = i;
-        some = h;
-        is = refl;
-      });
+      through = λ i h s. l .longest (n / 2 ^ i) (ancestor (l .node) i h s);
       none-left = λ f. absurd (not-both (l .passes) f);
     })
 
-    pub leaf-exactly : (List·Memᴰ n (ends test k 1) × (test n ≡ true)) ↔ Leaf test k n
-    leaf-exactly = (λ h. end-leaf (h .0) (h .1), λ l. (leaf-end l, l .passes))
+    pub leaf-exactly : (List·Memᴰ n (ends test k 1) × (test n ≡ true)) ↔ (Leaf test n × (depth n ≤ k))
+    leaf-exactly = (λ h. (end-leaf (h .0) (h .1), end-facts (h .0) .within), λ h. (leaf-end (h .0) (h .1), h .0 .passes))
 
-    -- where the walk finds nothing too wide, its ends are exactly the leaves
-    pub all-leaves : AllPass test (ends test k 1) → List·Memᴰ n (ends test k 1) ↔ Leaf test k n
-    all-leaves h = (λ i. end-leaf i (h .each n i), leaf-end)
+    -- Where every end passes, no leaf is deeper: the walk would end at a longer stretch that passes.
+    leaf-within : AllPass test (ends test k 1) → Leaf test n → depth n ≤ k
+    leaf-within h l = ⊎-elim (λ (s : depth n < suc k). omega arith) (λ (s : suc k ≤ depth n). absurd (deeper s)) (lt-or-ge (depth n) (suc k))
+      where
+        deeper : suc k ≤ depth n → ⊥
+        deeper s =
+            let all : k + (depth n - k) ≡ depth n = omega arith in
+            let w = on-the-way n (depth n - k) k 1 (ap (λ (j : ℕ). n / 2 ^ j) all ∙ depth-bit n (l .node)) in
+            let m = n / 2 ^ w .0 in
+            not-both (h .each m (w .3)) (l .longest m (ancestor (l .node) (w .0) (omega (arith, w .1)) (omega (arith, w .2))))
+
+    -- where the walk finds nothing too wide, its ends are exactly the leaves, of any depth
+    pub all-leaves : AllPass test (ends test k 1) → List·Memᴰ n (ends test k 1) ↔ Leaf test n
+    all-leaves h = (λ i. end-leaf i (h .each n i), λ l. leaf-end l (leaf-within h l))

@@ -13,10 +13,9 @@ pub record Ancestor (a n : ℕ) : Type 0 where
   pub some : 0 < halvings
   pub is : a ≡ n / 2 ^ halvings
 
--- A stretch is a leaf exactly when it meets the tolerance and none of the longer stretches it was halved from does; at most k halvings lead to it.
-pub record Leaf (test : ℕ → Bool) (k n : ℕ) : Type 0 where
+-- A stretch is a leaf exactly when it meets the tolerance and none of the longer stretches it was halved from does.
+pub record Leaf (test : ℕ → Bool) (n : ℕ) : Type 0 where
   pub node : 0 < n
-  pub within : depth n ≤ k
   pub passes : test n ≡ true
   pub longest : (a : ℕ) → Ancestor a n → test a ≡ false
 
