@@ -1,5 +1,5 @@
--- The leaf theorem: the ends of the walk that pass are exactly the leaves that at most k halvings lead to; where every end passes, they are all leaves. An
--- end is found by the path that leads to it, j halvings of nodes that do not pass; n / 2^j is the node j halvings above n.
+-- The leaf theorem: the ends of the walk that pass are exactly the leaves that at most k halvings lead to; where every end passes, they are all
+-- leaves. An end is found by the path that leads to it, j halvings of nodes that do not pass; n / 2^j is the node j halvings above n.
 use mathlib.Core.Path.{_≡_, refl, sym, _∙_, ap, subst}
 use mathlib.Core.Bool.{Bool, true, false}
 use mathlib.Core.Logic.{⊎-elim, _↔_}
@@ -102,14 +102,15 @@ module _ (test : ℕ → Bool) where
         let r = reached n k 1 i in
         let d = reached-depth (r .1) in
         let hn = pos-of-div-pos {n = n} (2 ^ r .0) (omega (arith, r .1 .from)) in
-        let w : depth n ≤ k = omega (arith, r .1 .few) in record {
+        let w : depth n ≤ k = omega (arith, r .1 .few) in
+        let high = depth-high n hn in record {
           node = hn;
           within = w;
-          below = lt-of-lt-of-le (depth-high n hn) (pow-mono (suc-le-suc w));
+          below = lt-of-lt-of-le high (pow-mono (suc-le-suc w));
           failing = λ f. d ∙ r .1 .none-left f;
           longest = λ a h. ⊎-elim
               (λ (l : h .halvings < suc (depth n)). ap test (h .is) ∙ r .1 .through (h .halvings) (h .some) (omega arith))
-              (λ (l : suc (depth n) ≤ h .halvings). absurd (omega (arith, h .is, h .node, div-eq-of-lt (lt-of-lt-of-le (depth-high n hn) (pow-mono l)))))
+              (λ (l : suc (depth n) ≤ h .halvings). absurd (omega (arith, h .is, h .node, div-eq-of-lt (lt-of-lt-of-le high (pow-mono l)))))
               (lt-or-ge (h .halvings) (suc (depth n)));
         }
 
