@@ -13,17 +13,18 @@ use Rattle.integers.proofs.Table.{every-below}
 use Rattle.bernstein.specs.Value.{choose, sum, value}
 use Rattle.bezier.specs.Differences.{difference}
 use Rattle.rows.specs.Hats.{hat}
+use Rattle.rows.specs.Claim.{polynomial2First, polynomial3First, polynomial3Second}
 
 module _ (p r : ℤ) where
-  pub hat-2-first : value p r 2 (hat 2 0) ≡ pos 2 *ℤ negℤ (p *ℤ r)
+  pub hat-2-first : value p r 2 (hat 2 0) ≡ pos 2 *ℤ polynomial2First p r
   unfolding hat value sum choose pow one
   hat-2-first = ring (p ∷ r ∷ []) (search sides depth 40 fits 9999) refl
 
-  pub hat-3-first : value p r 3 (hat 3 0) ≡ pos 3 *ℤ negℤ (p *ℤ r *ℤ (pos 2 *ℤ (p +ℤ r) -ℤ p))
+  pub hat-3-first : value p r 3 (hat 3 0) ≡ pos 3 *ℤ polynomial3First p r
   unfolding hat value sum choose pow one
   hat-3-first = ring (p ∷ r ∷ []) (search sides depth 40 fits 9999) refl
 
-  pub hat-3-second : value p r 3 (hat 3 1) ≡ pos 3 *ℤ negℤ (p *ℤ r *ℤ ((p +ℤ r) +ℤ p))
+  pub hat-3-second : value p r 3 (hat 3 1) ≡ pos 3 *ℤ polynomial3Second p r
   unfolding hat value sum choose pow one
   hat-3-second = ring (p ∷ r ∷ []) (search sides depth 40 fits 9999) refl
 

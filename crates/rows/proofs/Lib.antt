@@ -7,3 +7,4 @@ pub mod Rows
 pub mod Gaps
 pub mod Places
 pub mod Tabled
+pub mod Claim

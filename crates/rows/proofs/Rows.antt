@@ -22,6 +22,7 @@ use Rattle.halves.specs.Halves.{listed}
 use Rattle.rows.specs.Rows.{Row, pieces, thirds}
 use Rattle.rows.specs.Hats.{hat}
 use Rattle.rows.specs.Joined.{Place, joined, RowBounds}
+use Rattle.rows.specs.Claim.{polynomial2First, polynomial3First, polynomial3Second}
 use Rattle.rows.proofs.Degrees.{degrees}
 use Rattle.rows.proofs.Negated.{negated, value-negated}
 use Rattle.halves.proofs.Values.{listed-entry}
@@ -146,13 +147,13 @@ table-count = degrees (λ d. length (thirds d) ≡ d - 1) refl refl refl
 -- ---- today's rows, in document 01's words: u is p / (p + r)
 module _ {i a b p r : ℕ} (hi : i < pieces) (w : Place pieces i a b p r) where
   -- −u(1−u)
-  pub row-2-first : RowBounds (rowAt (thirds 2) 0) 2 (negℤ (pos p *ℤ pos r)) i a b p r
+  pub row-2-first : RowBounds (rowAt (thirds 2) 0) 2 (polynomial2First (pos p) (pos r)) i a b p r
   row-2-first = row-bounds pieces 2 (thirds 2) (omega arith) (table-tested 2 (omega arith) (omega arith)) (omega arith) hi w (hat-2-first (pos p) (pos r))
 
   -- −u(1−u)(2−u)
-  pub row-3-first : RowBounds (rowAt (thirds 3) 0) 3 (negℤ (pos p *ℤ pos r *ℤ (pos 2 *ℤ (pos p +ℤ pos r) -ℤ pos p))) i a b p r
+  pub row-3-first : RowBounds (rowAt (thirds 3) 0) 3 (polynomial3First (pos p) (pos r)) i a b p r
   row-3-first = row-bounds pieces 3 (thirds 3) (omega arith) (table-tested 3 (omega arith) (omega arith)) (omega arith) hi w (hat-3-first (pos p) (pos r))
 
   -- −u(1−u)(1+u)
-  pub row-3-second : RowBounds (rowAt (thirds 3) 1) 3 (negℤ (pos p *ℤ pos r *ℤ ((pos p +ℤ pos r) +ℤ pos p))) i a b p r
+  pub row-3-second : RowBounds (rowAt (thirds 3) 1) 3 (polynomial3Second (pos p) (pos r)) i a b p r
   row-3-second = row-bounds pieces 3 (thirds 3) (omega arith) (table-tested 3 (omega arith) (omega arith)) (omega arith) hi w (hat-3-second (pos p) (pos r))
