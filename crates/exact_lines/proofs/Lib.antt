@@ -1,4 +1,6 @@
--- Numbers and lines are read only where their bytes stand. Each file opens with what it holds.
+-- Numbers and lines are read exactly where their bytes stand, and texts with them. Each file opens with what it holds.
 pub mod Decimals
 pub mod Written
 pub mod Read
+pub mod Lines
+pub mod Texts

@@ -105,7 +105,7 @@ unfolding valueFrom digitCount
 stops n [] e = (refl, refl)
 stops n (y ∷ ys) e = (rw (valueFrom, e), rw (digitCount, e))
 
-byte-of : (s : List ℕ) (i b : ℕ) (bs : List ℕ) → drop i s ≡ b ∷ bs → byte s i ≡ b
+pub byte-of : (s : List ℕ) (i b : ℕ) (bs : List ℕ) → drop i s ≡ b ∷ bs → byte s i ≡ b
 byte-of s i b bs e =
     let z : i ≡ i + 0 = omega arith in
     ap (byte s) z ∙ sym (getD-drop i s 0 0) ∙ ap (λ (l : List ℕ). byte l 0) e

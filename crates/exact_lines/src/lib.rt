@@ -1,1 +1,1 @@
-// Theorems on the lines that are read: their bytes are those that writing them gives. There is no code here.
+// Theorems on lines and texts: they are read exactly where the bytes stand that writing them gives. There is no code here.
