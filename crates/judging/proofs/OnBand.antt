@@ -18,12 +18,11 @@ use Rattle.leaf_list.specs.Checks.{lengthFine, numberFault}
 use Rattle.held.proofs.Deciding.{held-exactly}
 use Rattle.judging.specs.declared.Judgement.the-variants.{On, Off, Refused}
 use Rattle.judging.specs.Judging.{pointFault, judgingFault, Verdict, Judged}
-use Rattle.judging.specs.Searching.{heldAt}
-use Rattle.judging.specs.OnBand.{firstHolder, onBand}
+use Rattle.judging.specs.OnBand.{coverHeld, firstHolder, onBand}
 
 module _ (ns : List ℤ) (x y : ℤ) (whole : length ns % recordLength ≡ 0) where
   abbrev missed : ℕ → Bool
-  missed j = not (heldAt ns x y (recordLength * (j / covers)) (j % covers))
+  missed j = not (coverHeld ns x y (j / covers) (j % covers))
 
   held-missed : (b : Bool) → not b ≡ true → b ≡ true → ⊥
   held-missed true e f = clash (cc)

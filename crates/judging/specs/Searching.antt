@@ -1,4 +1,6 @@
--- How the code searches a leaf list that has passed its checks: the first cover of a record that holds a point. For private functions; places are counted from the index `at` where a record begins.
+-- How the code searches a leaf list that has passed its checks: the first cover of a record that holds a point. For
+-- the functions of `holder`: nothing here is part of a public promise. Places are counted from the index `at` where a
+-- record begins.
 use mathlib.Core.Bool.{Bool, not}
 use mathlib.Core.List.{List}
 use mathlib.Core.Option.{Option, none}
