@@ -1,2 +1,3 @@
--- What a reader must believe of the answer to a text.
+-- What a reader must believe of the answer to a text: the answer, and demand 3 as the theorem of it says it.
 pub mod Answers
+pub mod TextDemand

@@ -1,19 +1,24 @@
--- The lines of points: what each way through `put_point` writes, that such a line is short where the leaves are fine, that the lines of a text give those of its points, and each turn of the loop over the text.
+-- The lines of points: each says what judging answers, what each way through `put_point` writes, that such a line is short where the leaves are fine,
+-- that the lines of a text give those of its points, and each turn of the loop over the text.
 use mathlib.Core.Path.{_≡_, refl, sym, _∙_, ap, subst}
-use mathlib.Core.Bool.{Bool, true, false}
+use mathlib.Core.Bool.{Bool, true, false, not}
 use mathlib.Core.List.{List, [], _∷_, _++_, append-nil}
 use mathlib.Core.Option.{Option, none, some}
-use Prim.Native.Nat.{ℕ, _+_, _*_, _^_, _≤_, _<_}
+use Prim.Native.Nat.{ℕ, suc, _+_, _*_, _/_, _%_, _^_, _≤_, _<_}
 use native.Mathlib.Omega.{arith}
+use borrow.Author.Tests.{not-false}
 use lib.Dec.{lit≤}
 use lib.ListN.{length}
 use lib.IntN.{ℤ}
 use lib.Signed.{mag}
 use mir.Syntax.{w32}
+use Rattle.integers.proofs.Clash.{clash}
+use Rattle.integers.proofs.First.{bad-is, bad-below}
 use Rattle.integers.proofs.Ranges.{stored, read-again}
 use Rattle.refusals.specs.declared.Refusal.{Refusal}
 use Rattle.refusals.specs.declared.Refusal.the-variants.{PointX, PointY}
 use Rattle.boxes.specs.Ranges.{inRange}
+use Rattle.boxes.specs.Records.{covers, recordLength, boxIndex, boxAtIndex}
 use Rattle.appends.specs.Appends.{Appended, Within}
 use Rattle.appends.proofs.Appends.{append-none, append-both, appended-length, within}
 use Rattle.digits.specs.Digits.{digits}
@@ -27,34 +32,78 @@ use Rattle.text.specs.Meaning.{pointOf}
 use Rattle.text.proofs.Gathering.{Gathering, gathering-start, gathered-over, gathered-no-form, gathered-tolerance, gathered-curve, gathered-point}
 use Rattle.judging.specs.declared.Judgement.{Judgement}
 use Rattle.judging.specs.declared.Judgement.the-variants.{On, Off, Refused}
-use Rattle.judging.specs.Judging.{pointFault, judgingFault, Judged}
-use Rattle.judging.specs.OnBand.{onBand}
+use Rattle.held.proofs.Deciding.{held-exactly}
+use Rattle.judging.specs.Judging.{pointFault, judgingFault, Verdict, Judged}
+use Rattle.judging.specs.OnBand.{coverHeld, firstHolder, onBand}
+use Rattle.judging.proofs.Answers.{judged-refused, judged-found}
 use Rattle.judging.proofs.OnBand.{answered-on, answered-off, answered-refused}
 use Rattle.render.specs.Answers.{refusedLine, onLine, offLine}
 use Rattle.point_answers.specs.Points.{LeavesFine, pointLine, pointLines, lineAnswer}
 
+-- ---- the line of a point says what judging answers
+abbrev pub lineOf : Judgement → List ℕ
+lineOf (On leaf cover) = onLine
+lineOf Off = offLine
+lineOf (Refused r) = refusedLine r
+
+pub line-said : (ns : List ℤ) (x y : ℤ) (j : Judgement) → Judged 64 ns x y j → pointLine ns x y ≡ lineOf j
+unfolding pointLine
+line-said ns x y (On leaf cover) said = let f = answered-on 64 ns x y leaf cover said in rw (pointLine, f .0, f .1)
+line-said ns x y Off said = let f = answered-off 64 ns x y said in rw (pointLine, f .0, f .1)
+line-said ns x y (Refused r) said = let f = answered-refused 64 ns x y r said in rw (pointLine, f)
+
+-- an answer that judging may give
+pub record Answer (ns : List ℤ) (x y : ℤ) : Type 0 where
+  pub answer : Judgement
+  pub judged : Judged 64 ns x y answer
+
+module _ (ns : List ℤ) (x y : ℤ) where
+  abbrev missed : ℕ → Bool
+  missed j = not (coverHeld ns x y (j / covers) (j % covers))
+
+  abbrev count : ℕ
+  count = covers * (length ns / recordLength)
+
+  -- what is found holds the point
+  found : (j : ℕ) → firstHolder ns x y ≡ some j → Verdict none ns x y (On (j / covers) (j % covers))
+  unfolding firstHolder
+  found j f =
+      let k = j / covers in
+      let i = j % covers in
+      let b = bad-below missed count 0 j f in
+      let held = not-false _ (bad-is missed count 0 j f) in
+      (omega arith, omega arith, held-exactly (boxAtIndex ns (boxIndex k i)) (boxAtIndex ns (boxIndex k (suc i))) x y .0 held)
+
+  -- what holds it would have been found
+  not-found : judgingFault 64 ns x y ≡ none → firstHolder ns x y ≡ none → Verdict none ns x y Off
+  not-found e f k i hk hi held =
+      let on = answered-on 64 ns x y k i (judged-found 64 ns x y (On k i) e (hk, hi, held)) .1 in
+      clash-bools on (ap (λ (o : Option ℕ). elim o [ some j ↦ true | none ↦ false ]) f)
+    where
+      clash-bools : {b : Bool} → b ≡ true → b ≡ false → ⊥
+      clash-bools g h = clash (cc)
+
+  pub some-answer : Answer ns x y
+  some-answer = go (judgingFault 64 ns x y) refl (firstHolder ns x y) refl
+    where
+      go : (o : Option Refusal) → judgingFault 64 ns x y ≡ o → (h : Option ℕ) → firstHolder ns x y ≡ h → Answer ns x y
+      go (some r) e h f = record { answer = Refused r; judged = judged-refused 64 ns x y r e }
+      go none e (some j) f = record { answer = On (j / covers) (j % covers); judged = judged-found 64 ns x y _ e (found j f) }
+      go none e none f = record { answer = Off; judged = judged-found 64 ns x y Off e (not-found e f) }
+
 -- ---- one point
 module _ (ns : List ℤ) (x y : ℤ) (j : Judgement) (said : Judged 64 ns x y j) (d o : List ℕ) (at k : ℕ) where
+  its-line : (a : Judgement) → j ≡ a → lineOf a ≡ pointLine ns x y
+  its-line a e = sym (line-said ns x y a (subst (Judged 64 ns x y) e said))
+
   pub line-on : (leaf cover : ℕ) → j ≡ On leaf cover → Appended d at onLine o k → Within d at 52 (pointLine ns x y) o k
-  unfolding pointLine
-  line-on leaf cover e a =
-      let f = answered-on 64 ns x y leaf cover (subst (Judged 64 ns x y) e said) in
-      let l : onLine ≡ pointLine ns x y = rw (pointLine, f .0, f .1) in
-      within (subst (λ l. Appended d at l o k) l a) (omega (arith, a .next))
+  line-on leaf cover e a = within (subst (λ l. Appended d at l o k) (its-line (On leaf cover) e) a) (omega (arith, a .next))
 
   pub line-off : j ≡ Off → Appended d at offLine o k → Within d at 52 (pointLine ns x y) o k
-  unfolding pointLine
-  line-off e a =
-      let f = answered-off 64 ns x y (subst (Judged 64 ns x y) e said) in
-      let l : offLine ≡ pointLine ns x y = rw (pointLine, f .0, f .1) in
-      within (subst (λ l. Appended d at l o k) l a) (omega (arith, a .next))
+  line-off e a = within (subst (λ l. Appended d at l o k) (its-line Off e) a) (omega (arith, a .next))
 
   pub line-refused : (r : Refusal) → j ≡ Refused r → Within d at 52 (refusedLine r) o k → Within d at 52 (pointLine ns x y) o k
-  unfolding pointLine
-  line-refused r e a =
-      let f = answered-refused 64 ns x y r (subst (Judged 64 ns x y) e said) in
-      let l : refusedLine r ≡ pointLine ns x y = rw (pointLine, f) in
-      subst (λ l. Within d at 52 l o k) l a
+  line-refused r e a = subst (λ l. Within d at 52 l o k) (its-line (Refused r) e) a
 
 -- ---- its line is short
 short-x : length (refusedLine PointX) ≤ 18

@@ -1,0 +1,54 @@
+-- Demand 3 for the text program, as one claim from the bytes of a text to the bytes of its answer. The text s means a
+-- tolerance T, an outline and points (`meaning`), and banding accepts the outline at T with what is lent (`banded`) and
+-- reports a curves, b leaves and c nodes. `text-demand-3` of crates/answer/proofs/TextDemand.antt proves it.
+use mathlib.Core.Path.{_≡_}
+use mathlib.Core.List.{List, _∷_, _++_}
+use Prim.Native.Nat.{ℕ, _+_, _*_, _<_}
+use lib.ListN.{length, take, replicate}
+use lib.IntN.{ℤ, pos}
+use Rattle.integers.specs.Entry.{entry}
+use Rattle.boxes.specs.Records.{recordLength}
+use Rattle.bezier.specs.declared.Curve.{Curve}
+use Rattle.bezier.specs.Points.{Equals}
+use Rattle.banding.specs.Banding.{written}
+use Rattle.banding.specs.Outcomes.{Flat}
+use Rattle.engine.specs.Demand3.{CurveOf, Somewhere, Shallow}
+use Rattle.render.specs.Answers.{onLine}
+use Rattle.band_lines.specs.BandLines.{bandLines}
+use Rattle.point_answers.specs.Points.{pointLines}
+use Rattle.answer.specs.Answers.{lent, answerOf}
+
+-- the line of a point says that it is on
+abbrev pub SaysOn : List ℕ → Type 0
+SaysOn line = line ≡ onLine
+
+-- the lent list as banding leaves it, and the leaves written in it
+abbrev pub textRecords : ℤ → List ℤ → List ℤ
+textRecords T outline = written 64 T outline (replicate lent (pos 0))
+
+abbrev pub textLeaves : ℤ → List ℤ → (b : ℕ) → List ℤ
+textLeaves T outline b = take (recordLength * b) (textRecords T outline)
+
+module _ (s : List ℕ) (T : ℤ) (outline : List ℤ) (a b c : ℕ) where
+  -- the point (x, y) of a text, after the points `before` of it and before the points `after`
+  pub record PointAnswered (before : List (ℤ × ℤ)) (x y : ℤ) (after : List (ℤ × ℤ)) : Type 0 where
+    pub line : List ℕ
+    -- its line stands in the answer after the lines of the band and of the points before it
+    pub place : answerOf s
+        ≡ bandLines a b c (textRecords T outline) ++ pointLines (textLeaves T outline b) before ++ line
+        ++ pointLines (textLeaves T outline b) after
+    -- where the point equals one of the outline's curves at some rational parameter, its line says on
+    pub every-point-on : (k : ℕ) (curve : Curve) → CurveOf 64 outline k curve → (p r : ℕ) → 0 < p + r
+        → Equals curve p r x y → SaysOn line
+    -- where its line says on, there are one curve and one rational parameter at which that curve is within T
+    pub every-on-near : SaysOn line → Somewhere 64 T outline x y
+
+  pub record TextDemand3 (points : List (ℤ × ℤ)) : Type 0 where
+    -- the answer is the lines of the band, then one line for each point, in order
+    pub all-lines : answerOf s ≡ bandLines a b c (textRecords T outline) ++ pointLines (textLeaves T outline b) points
+    pub each-point : (before : List (ℤ × ℤ)) (x y : ℤ) (after : List (ℤ × ℤ)) → points ≡ before ++ (x, y) ∷ after
+        → PointAnswered before x y after
+    -- every leaf of a curve with largest second difference M has depth at most j, for every j that meets the premise
+    pub every-leaf-shallow : (i : ℕ) → i < b → (k : ℕ) (curve : Curve) → CurveOf 64 outline k curve
+        → entry (textLeaves T outline b) (recordLength * i) ≡ pos k → (j : ℕ) → Flat T curve j
+        → Shallow (textLeaves T outline b) i j
