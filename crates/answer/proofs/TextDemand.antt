@@ -1,26 +1,23 @@
 -- Demand 3 for the text program: the line of a point says what judging may answer to the leaves written, so the engine's demand 3 speaks of it.
-use mathlib.Core.Path.{_≡_, refl, sym, _∙_, ap, subst}
+use mathlib.Core.Path.{_≡_, refl, sym, _∙_, ap}
 use mathlib.Core.List.{List, [], _∷_, _++_, append-assoc}
-use Prim.Native.Nat.{ℕ, _+_, _*_, _<_}
+use Prim.Native.Nat.{ℕ, _+_, _*_}
 use native.Mathlib.Omega.{arith}
-use lib.ListN.{length, take, replicate, length-replicate, getD}
+use lib.ListN.{length, replicate, length-replicate, getD}
 use lib.IntN.{ℤ, pos}
-use Rattle.integers.proofs.Clash.{clash}
 use Rattle.boxes.specs.Records.{recordLength}
-use Rattle.bezier.specs.declared.Curve.{Curve}
-use Rattle.bezier.specs.Points.{Equals}
 use Rattle.banding.specs.declared.Banded.the-variants.{Done}
 use Rattle.banding.specs.Banding.{banded}
 use Rattle.banding.proofs.Theorems.{done-exactly, written-sound}
 use Rattle.judging.specs.declared.Judgement.{Judgement}
 use Rattle.judging.specs.declared.Judgement.the-variants.{On, Off, Refused}
-use Rattle.engine.specs.Demand3.{CurveOf, IsOn, Somewhere, Demand3}
+use Rattle.engine.specs.Demand3.{IsOn, Demand3}
 use Rattle.engine.proofs.Demand3.{demand-3}
 use Rattle.text.specs.Meaning.{means, meaning}
-use Rattle.render.specs.Answers.{refusedLine, onLine}
+use Rattle.render.specs.Answers.{refusedLine}
 use Rattle.band_lines.specs.BandLines.{bandLines}
 use Rattle.point_answers.specs.Points.{pointLine, pointLines}
-use Rattle.point_answers.proofs.Judging.{lineOf, line-said, Answer, some-answer}
+use Rattle.point_answers.proofs.Judging.{lineOf, line-said, some-answer}
 use Rattle.answer.specs.Answers.{lent, lines, answerTo, answerOf}
 use Rattle.answer.specs.TextDemand.{SaysOn, textRecords, textLeaves, PointAnswered, TextDemand3}
 

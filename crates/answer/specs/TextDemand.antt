@@ -4,7 +4,7 @@
 use mathlib.Core.Path.{_≡_}
 use mathlib.Core.List.{List, _∷_, _++_}
 use Prim.Native.Nat.{ℕ, _+_, _*_, _<_}
-use lib.ListN.{length, take, replicate}
+use lib.ListN.{take, replicate}
 use lib.IntN.{ℤ, pos}
 use Rattle.integers.specs.Entry.{entry}
 use Rattle.boxes.specs.Records.{recordLength}

@@ -3,4 +3,6 @@ pub mod Decimals
 pub mod Written
 pub mod Read
 pub mod Lines
+pub mod Legal
 pub mod Texts
+pub mod Accepted

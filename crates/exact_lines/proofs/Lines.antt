@@ -1,8 +1,9 @@
 -- What is written is read, line by line: where the line of a legal form stands, this form is read. With `form-written` this says exactly which forms
 -- are read.
 use mathlib.Core.Path.{_≡_, refl, sym, ap, _∙_, subst}
-use mathlib.Core.Bool.{Bool, true, false}
+use mathlib.Core.Bool.{true, false}
 use mathlib.Core.List.{List, [], _∷_, _++_, append-assoc, append-nil}
+use mathlib.Core.Logic.{_↔_}
 use Prim.Native.Nat.{ℕ, _+_}
 use native.Mathlib.Omega.{arith}
 use borrow.Author.Tests.{eq-eqb, ne-eqb}
@@ -20,6 +21,7 @@ use Rattle.forms.specs.Forms.{tolerance, curve, point, closing, points, toleran
 use Rattle.decimals.specs.Decimals.{decimal}
 use Rattle.exact_lines.specs.Written.{Written, pairBytes, toleranceLine, pointLine, curveLine, LineWritten}
 use Rattle.exact_lines.specs.Texts.{In32, Legal, tolerance as LegalTolerance, two, three, four, point as LegalPoint}
+use Rattle.exact_lines.proofs.Written.{form-written}
 use Rattle.exact_lines.proofs.Read.{byte-of, number-read}
 
 -- ---- the parts of what is written
@@ -188,3 +190,7 @@ form-read s i (four {x0} {y0} {x1} {y1} {x2} {y2} {x3} {y3} {j} h) w =
     past-four s i x0 y0 x1 y1 (h .0) (h .1) (h .2 .0) (h .2 .1) x2 y2 (h .2 .2 .0) (h .2 .2 .1) x3 y3 (h .2 .2 .2 .0) (h .2 .2 .2 .1) k
     (front s i j all closing w)
     ∙ end-read s i _ k j (back s i j all closing w)
+
+-- so where a legal form is read, and only there, its line stands; `form-legal` says that no other form is read
+pub form-exactly : (s : List ℕ) (i : ℕ) {f : Form} → Legal f → (formAt s i ≡ f) ↔ LineWritten s i f
+form-exactly s i l = (λ e. subst (LineWritten s i) e (form-written s i), form-read s i l)

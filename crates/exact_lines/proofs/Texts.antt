@@ -11,13 +11,12 @@ use lib.ListN.{length, drop, length-drop}
 use lib.Seq.{drop-drop, drop-append-seam}
 use lib.IntN.{ℤ, pos}
 use Rattle.forms.specs.declared.Points.{Points}
-use Rattle.forms.specs.declared.Form.{Form}
 use Rattle.forms.specs.declared.Form.the-variants.{Tolerance, Curve, Point}
-use Rattle.forms.specs.Forms.{curve, closing, points, formAt}
-use Rattle.text.specs.Lines.{linesOf, gather}
+use Rattle.forms.specs.Forms.{curve, closing, points}
+use Rattle.text.specs.Lines.{gather}
 use Rattle.text.specs.Meaning.{numbersOf, curveNumbers, pointOf, faultFrom, means, unless, meaningOf, mostBytes, meaning}
 use Rattle.text.proofs.Lines.{linesLeft, lines-over, lines-start, line-tolerance, line-curve, line-point}
-use Rattle.exact_lines.specs.Written.{Written, pairBytes, toleranceLine, pointLine, curveLine}
+use Rattle.exact_lines.specs.Written.{Written, toleranceLine, pointLine, curveLine}
 use Rattle.exact_lines.specs.Texts.{In32, PointsIn32, TwoToFour, CurvesIn32, Legal, tolerance, two, three, four, point}
 use Rattle.exact_lines.specs.Texts.{pairsBytes, curvesText, pointsText, textOf, coordinates, outlineOf}
 use Rattle.exact_lines.proofs.Lines.{form-read}
@@ -59,34 +58,34 @@ points-rest (p ∷ ps) s i late n h e =
     }
 
 -- ---- a curve of two to four points, as a line keeps it
+pub record Keeps (p : Points) (c : List (ℤ × ℤ)) : Type 0 where
+  pub line : curveLine p ≡ curve ++ pairsBytes c ++ closing
+  pub numbers : numbersOf p ≡ pos (length c - 1) ∷ coordinates c
+
+module _ (a b : ℤ × ℤ) where
+  pub keeps-two : Keeps (points (pos 1) (a .0) (a .1) (b .0) (b .1) (pos 0) (pos 0) (pos 0) (pos 0)) (a ∷ b ∷ [])
+  unfolding curveLine pairsBytes numbersOf coordinates
+  keeps-two = record { line = simp (append-assoc, append-nil); numbers = refl }
+
+  pub keeps-three : (c : ℤ × ℤ) → Keeps (points (pos 2) (a .0) (a .1) (b .0) (b .1) (c .0) (c .1) (pos 0) (pos 0)) (a ∷ b ∷ c ∷ [])
+  unfolding curveLine pairsBytes numbersOf coordinates
+  keeps-three c = record { line = simp (append-assoc, append-nil); numbers = refl }
+
+  pub keeps-four : (c d : ℤ × ℤ) → Keeps (points (pos 3) (a .0) (a .1) (b .0) (b .1) (c .0) (c .1) (d .0) (d .1)) (a ∷ b ∷ c ∷ d ∷ [])
+  unfolding curveLine pairsBytes numbersOf coordinates
+  keeps-four c d = record { line = simp (append-assoc, append-nil); numbers = refl }
+
 record Kept (c : List (ℤ × ℤ)) : Type 0 where
   kept : Points
   legal : (j : ℕ) → Legal (Curve kept j)
-  line : curveLine kept ≡ curve ++ pairsBytes c ++ closing
-  numbers : numbersOf kept ≡ pos (length c - 1) ∷ coordinates c
+  keeps : Keeps kept c
 
 kept-curve : (c : List (ℤ × ℤ)) → TwoToFour c → Kept c
-unfolding curveLine pairsBytes numbersOf coordinates
 kept-curve [] t = absurd (omega (arith, t .least))
 kept-curve (a ∷ []) t = absurd (omega (arith, t .least))
-kept-curve (a ∷ b ∷ []) t = record {
-  kept = points (pos 1) (a .0) (a .1) (b .0) (b .1) (pos 0) (pos 0) (pos 0) (pos 0);
-  legal = λ j. two (t .in-32);
-  line = simp (append-assoc, append-nil);
-  numbers = refl;
-}
-kept-curve (a ∷ b ∷ c ∷ []) t = record {
-  kept = points (pos 2) (a .0) (a .1) (b .0) (b .1) (c .0) (c .1) (pos 0) (pos 0);
-  legal = λ j. three (t .in-32);
-  line = simp (append-assoc, append-nil);
-  numbers = refl;
-}
-kept-curve (a ∷ b ∷ c ∷ d ∷ []) t = record {
-  kept = points (pos 3) (a .0) (a .1) (b .0) (b .1) (c .0) (c .1) (d .0) (d .1);
-  legal = λ j. four (t .in-32);
-  line = simp (append-assoc, append-nil);
-  numbers = refl;
-}
+kept-curve (a ∷ b ∷ []) t = record { kept = _; legal = λ j. two (t .in-32); keeps = keeps-two a b }
+kept-curve (a ∷ b ∷ c ∷ []) t = record { kept = _; legal = λ j. three (t .in-32); keeps = keeps-three a b c }
+kept-curve (a ∷ b ∷ c ∷ d ∷ []) t = record { kept = _; legal = λ j. four (t .in-32); keeps = keeps-four a b c d }
 kept-curve (a ∷ b ∷ c ∷ d ∷ e ∷ ps) t = absurd (omega (arith, t .most))
 
 -- ---- curves and then points
@@ -101,12 +100,12 @@ curves-rest (c ∷ cs) ps s i n h k e =
     let j = i + length l in
     let f = e ∙ append-assoc l (curvesText cs) (pointsText ps) in
     let there = line-there s i l (curvesText cs ++ pointsText ps) f in
-    let read = form-read s i (m .legal j) (subst (Written s i j) (sym (m .line)) there) in
+    let read = form-read s i (m .legal j) (subst (Written s i j) (sym (m .keeps .line)) there) in
     let here = line-curve s i (starts-inside s i 40 _ e) (Curve p j) (sym read) p j refl in
     let r = curves-rest cs ps s j (n + 1) (h .1) k (after-line s i l (curvesText cs ++ pointsText ps) f) in
     record {
       no-fault = ap (faultFrom false n) here ∙ r .no-fault;
-      curves-there = ap (gather curveNumbers) here ∙ ap₂ (λ (a b : List ℤ). a ++ b) (m .numbers) (r .curves-there);
+      curves-there = ap (gather curveNumbers) here ∙ ap₂ (λ (a b : List ℤ). a ++ b) (m .keeps .numbers) (r .curves-there);
       points-there = ap (gather pointOf) here ∙ r .points-there;
     }
 

@@ -1,6 +1,8 @@
 -- Texts byte for byte: which forms a line can have, and the text that a tolerance, curves and points make, line after
 -- line (document 01, "Text program"). A curve is its points, two to four of them, and every number has 32 bits signed.
--- `text-read` of crates/exact_lines/proofs/Texts.antt: such a text means this tolerance, this outline and these points.
+-- `text-exactly` of crates/exact_lines/proofs/Accepted.antt: a text has a meaning exactly where it is such a text, and
+-- means this tolerance, this outline and these points.
+use mathlib.Core.Path.{_≡_}
 use mathlib.Core.List.{List, [], _∷_, _++_}
 use Prim.Native.Nat.{ℕ, _-_, _^_, _≤_, _<_}
 use lib.ListN.{length}
@@ -9,6 +11,7 @@ use lib.Signed.{mag}
 use Rattle.forms.specs.declared.Form.{Form}
 use Rattle.forms.specs.declared.Form.the-variants.{Tolerance, Curve, Point}
 use Rattle.forms.specs.Forms.{curve, closing, points}
+use Rattle.text.specs.Meaning.{mostBytes}
 use Rattle.exact_lines.specs.Written.{pairBytes, toleranceLine, pointLine}
 
 -- ---- numbers of 32 bits signed
@@ -64,3 +67,13 @@ coordinates (p ∷ ps) = p .0 ∷ p .1 ∷ coordinates ps
 unfoldable pub outlineOf : List (List (ℤ × ℤ)) → List ℤ
 outlineOf [] = []
 outlineOf (c ∷ cs) = (pos (length c - 1) ∷ coordinates c) ++ outlineOf cs
+
+-- ---- the text s is that of T, some curves and the points ps; `outline` is that of these curves
+pub record IsText (s : List ℕ) (T : ℤ) (outline : List ℤ) (ps : List (ℤ × ℤ)) : Type 0 where
+  pub curves : List (List (ℤ × ℤ))
+  pub bytes : s ≡ textOf T curves ps
+  pub outline-is : outline ≡ outlineOf curves
+  pub tolerance-in-32 : In32 T
+  pub curves-in-32 : CurvesIn32 curves
+  pub points-in-32 : PointsIn32 ps
+  pub size : length s ≤ mostBytes

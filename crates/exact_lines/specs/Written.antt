@@ -1,5 +1,6 @@
--- Lines that a text can have, byte for byte: (tolerance 44), (curve (0 0) (10 30)) with two to four points, (point (240 363)). The theorems of crates/exact_lines/proofs/Written.antt
--- say that a line is read as a form only where it is one of these.
+-- Lines that a text can have, byte for byte: (tolerance 44), (curve (0 0) (10 30)) with two to four points,
+-- (point (240 363)). `form-exactly` of crates/exact_lines/proofs/Lines.antt says that a line is read as a form exactly
+-- where it is one of these.
 use mathlib.Core.Path.{_≡_}
 use mathlib.Core.Bool.{cond}
 use mathlib.Core.List.{List, [], _∷_, _++_}
