@@ -64,8 +64,8 @@ extern "C" {
 #define CONTOUR_BAND_VERTEX_ROOM 16
 
 /* The refusals, each with its condition and its spot. They stand in the order in which an operation tries them: banding 1 to
- * 8 (5, 2, 3 and 4 curve by curve), judging 9 to 11, drawing 12 and 13. A refusal leaves every lent list as it was; only
- * contour_band_and_judge has a refusal, 11, that comes after records are written. */
+ * 8 (5, 2, 3 and 4 curve by curve), judging 9 to 11, banding and judging together 1 to 8 and then 11, drawing 12 and 13. A
+ * refusal leaves every lent list as it was. */
 enum contour_band_refusal {
     CONTOUR_BAND_ACCEPTED = 0,         /* nothing is refused; 0 */
     CONTOUR_BAND_TOLERANCE = 1,        /* the tolerance is outside its range; 0 */
@@ -132,7 +132,7 @@ struct contour_band_judgement contour_judge(const int32_t *leaves, size_t leaves
 struct contour_band_outcome {
     uint32_t refusal; /* 0 where nothing is refused, else the number of the refusal: 1 to 8 of banding, or 11 */
     uint64_t spot;    /* the refusal's spot; 0 where nothing is refused */
-    uint64_t curves;  /* the report of banding, as in contour_band_answer; 0 where banding refuses */
+    uint64_t curves;  /* the report of banding, as in contour_band_answer; 0 where anything is refused */
     uint64_t leaves;
     uint64_t nodes;
     uint32_t on;    /* the judgement, as in contour_band_judgement; 0 where anything is refused */
@@ -142,8 +142,10 @@ struct contour_band_outcome {
 
 /* Puts a band round an outline, then judges a point against the records written and nothing else of the list.
  *
- * The parameters are those of contour_band and of contour_judge. A refusal of banding leaves the report 0 and the records as
- * they were. A refusal of the point, 11, comes after banding: the report and the records are those of contour_band. */
+ * The parameters are those of contour_band and of contour_judge.
+ *
+ * Accepted: the report and the records are those of contour_band, the judgement is that of contour_judge.
+ * Refused: every number of the records stays as it was, also where it is the point that is refused. */
 struct contour_band_outcome contour_band_and_judge(const int32_t *outline, size_t outline_length, int32_t tolerance,
                                                    int32_t *records, size_t records_length, int32_t x, int32_t y);
 

@@ -3,19 +3,19 @@ use mathlib.Core.Path.{_≡_}
 use mathlib.Core.List.{List}
 use lib.IntN.{ℤ}
 use Rattle.refusals.specs.Refusals.{numberOf, spotOf}
-use Rattle.banding.specs.declared.Banded.{Banded}
 use Rattle.judging.specs.declared.Judgement.{Judgement}
 use Rattle.judging.specs.Judging.{Judged}
 use Rattle.c_answers.specs.declared.JudgingAnswer.{JudgingAnswer}
 use Rattle.c_answers.specs.Answers.{judgingAnswerOf}
 use Rattle.engine.specs.declared.Outcome.{Outcome}
-use Rattle.engine.specs.declared.Outcome.the-variants.{NotBanded, Judged as WithJudgement}
+use Rattle.engine.specs.declared.Outcome.the-variants.{Refused, Judged as WithJudgement}
 use Rattle.contour.specs.declared.OutcomeAnswer.{OutcomeAnswer}
 use Rattle.engine.specs.Outcomes.{Answered}
 
--- the report beside the numbers of the judgement
+-- a refusal's number and spot and nothing else, or the report beside the numbers of the judgement
 abbrev pub outcomeAnswerOf : Outcome → OutcomeAnswer
-outcomeAnswerOf (NotBanded r) = record { refusal = numberOf r; spot = spotOf r; curves = 0; leaves = 0; nodes = 0; on = 0; leaf = 0; cover = 0 }
+outcomeAnswerOf (Refused r) =
+    record { refusal = numberOf r; spot = spotOf r; curves = 0; leaves = 0; nodes = 0; on = 0; leaf = 0; cover = 0 }
 outcomeAnswerOf (WithJudgement curves leaves nodes j) =
     let n = judgingAnswerOf j in
     record {
@@ -36,7 +36,7 @@ pub record JudgedInNumbers (ns : List ℤ) (x y : ℤ) (numbers : JudgingAnswer)
   pub are : numbers ≡ judgingAnswerOf judgement
 
 -- and those of an outcome that banding and judging together may give
-pub record AnsweredInNumbers (T : ℤ) (ns : List ℤ) (banded : Banded) (list : List ℤ) (x y : ℤ) (numbers : OutcomeAnswer) : Type 0 where
+pub record AnsweredInNumbers (T : ℤ) (ns : List ℤ) (x y : ℤ) (old : List ℤ) (numbers : OutcomeAnswer) : Type 0 where
   pub outcome : Outcome
-  pub answered : Answered 64 T ns banded list x y outcome
+  pub answered : Answered 64 T ns x y old outcome
   pub are : numbers ≡ outcomeAnswerOf outcome

@@ -5,6 +5,7 @@ ghost use Rattle.banding.specs.Banding.{banded, written};
 ghost use Rattle.drawing.specs.Drawing.{drawn, drawnInto};
 ghost use Rattle.c_answers.specs.Answers.{answerOf};
 ghost use Rattle.c_answers.specs.Drawings.{drawingOf};
+ghost use Rattle.engine.specs.Outcomes.{writtenFor};
 ghost use Rattle.contour.specs.Answers.{outcomeAnswerOf, JudgedInNumbers, AnsweredInNumbers};
 use boxes::Box;
 use c_answers::Answer;
@@ -34,7 +35,8 @@ pub extern "C" fn contour_judge(leaves: &[i32], x: i32, y: i32) -> JudgingAnswer
     judgement_in_numbers(judgement)
 }
 
-// What banding and judging together answer, in numbers: banding's refusal, or its report and the judgement.
+// What banding and judging together answer, in numbers: a refusal's number and spot, or 0 and 0, banding's report and
+// the judgement.
 #[repr(C)]
 pub struct OutcomeAnswer {
     pub refusal: u32,
@@ -47,7 +49,7 @@ pub struct OutcomeAnswer {
     pub cover: u64,
 }
 
-// Bands an outline, and judges the point (x, y) against exactly the records written.
+// Bands an outline, and judges the point (x, y) against exactly the records written. A refusal alters nothing.
 #[no_mangle]
 pub extern "C" fn contour_band_and_judge(
     outline: &[i32],
@@ -56,7 +58,8 @@ pub extern "C" fn contour_band_and_judge(
     x: i32,
     y: i32,
 ) -> OutcomeAnswer
-    ensures { λ r. ⌜ (now (records .exit) ≡ written 64 tolerance (now (outline .entry)) (now (records .entry))) × (AnsweredInNumbers tolerance (now (outline .entry)) (banded 64 tolerance (now (outline .entry)) (length (now (records .entry)))) (now (records .exit)) x y r) ⌝ }
+    ensures { λ r. ⌜ now (records .exit) ≡ writtenFor 64 tolerance (now (outline .entry)) x y (now (records .entry)) ⌝ }
+    ensures { λ r. ⌜ AnsweredInNumbers tolerance (now (outline .entry)) x y (now (records .entry)) r ⌝ }
 {
     let outcome = band_and_judge(outline, tolerance, records, x, y);
     outcome_in_numbers(outcome)
@@ -67,7 +70,7 @@ fn outcome_in_numbers(outcome: Outcome) -> OutcomeAnswer
     ensures { λ r. ⌜ r ≡ outcomeAnswerOf outcome ⌝ }
 {
     match outcome {
-        Outcome::NotBanded(refusal) => OutcomeAnswer {
+        Outcome::Refused(refusal) => OutcomeAnswer {
             refusal: refusal.number(),
             spot: refusal.spot() as u64,
             curves: 0,

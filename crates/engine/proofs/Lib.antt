@@ -3,4 +3,5 @@ pub mod Passing
 pub mod Covers
 pub mod Demand3
 pub mod Outcomes
+pub mod Consequences
 pub mod Starred

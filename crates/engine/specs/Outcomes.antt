@@ -1,27 +1,50 @@
--- What banding an outline and then judging a point against its leaves answers: banding's refusal, or its report with a judgement. The judgement is one that
--- judging may give to the leaves written, as many as are reported, and demand 3 holds of it.
+-- What banding an outline and then judging a point against its leaves answers, and what it leaves in the caller's list.
+-- It is banding's refusal, or else that of the point, and then nothing is written; or banding's report with a judgement
+-- of the leaves written, and demand 3 holds of it.
 use mathlib.Core.Path.{_≡_}
 use mathlib.Core.List.{List}
+use mathlib.Core.Option.{none, some}
 use Prim.Native.Nat.{ℕ, _*_}
-use lib.ListN.{take}
+use lib.ListN.{length, take}
 use lib.IntN.{ℤ}
 use Rattle.boxes.specs.Records.{recordLength}
+use Rattle.refusals.specs.declared.Refusal.{Refusal}
 use Rattle.banding.specs.declared.Banded.{Banded}
-use Rattle.banding.specs.declared.Banded.the-variants.{Done, Refused}
+use Rattle.banding.specs.declared.Banded.the-variants.{Done, Refused as NotBanded}
+use Rattle.banding.specs.Banding.{banded, written}
 use Rattle.judging.specs.declared.Judgement.{Judgement}
-use Rattle.judging.specs.Judging.{Judged}
+use Rattle.judging.specs.Judging.{pointFault, Verdict}
 use Rattle.engine.specs.declared.Outcome.{Outcome}
-use Rattle.engine.specs.declared.Outcome.the-variants.{NotBanded, Judged as WithJudgement}
+use Rattle.engine.specs.declared.Outcome.the-variants.{Refused, Judged}
 use Rattle.engine.specs.Demand3.{Demand3}
 
--- the outcome is a judgement of the leaves rs, beside the report of a curves, b leaves and c nodes
+-- ---- the caller's list afterwards: as banding leaves it, and unaltered where the point is refused
+abbrev pub writtenFor : ℕ → ℤ → List ℤ → (x y : ℤ) → List ℤ → List ℤ
+writtenFor most T ns x y old = elim (pointFault x y) [ some r ↦ old | none ↦ written most T ns old ]
+
+-- ---- the answer
+-- the outcome is a judgement of the leaves rs in which nothing is refused, beside the report of a curves, b leaves and c
+-- nodes
 pub record JudgedAs (most : ℕ) (T : ℤ) (ns rs : List ℤ) (x y : ℤ) (a b c : ℕ) (outcome : Outcome) : Type 0 where
   pub judgement : Judgement
-  pub is : outcome ≡ WithJudgement a b c judgement
-  pub judged : Judged most rs x y judgement
+  pub is : outcome ≡ Judged a b c judgement
+  pub judged : Verdict none rs x y judgement
   pub demand-3 : Demand3 most T ns rs x y judgement
 
--- `banded` is what banding answers, and `list` is the lent list as banding leaves it
-abbrev pub Answered : ℕ → ℤ → List ℤ → Banded → List ℤ → (x y : ℤ) → Outcome → Type 0
-Answered most T ns (Refused r) list x y outcome = outcome ≡ NotBanded r
-Answered most T ns (Done a b c) list x y outcome = JudgedAs most T ns (take (recordLength * b) list) x y a b c outcome
+-- checks 1 to 8, then 11, then the judgement of the leaves: of the first 18 × leaves numbers that banding leaves in the
+-- list
+abbrev pub Answered : ℕ → ℤ → List ℤ → (x y : ℤ) → List ℤ → Outcome → Type 0
+Answered most T ns x y old outcome =
+    elim (banded most T ns (length old)) [
+      | NotBanded r ↦ outcome ≡ Refused r
+      | Done a b c ↦
+          elim (pointFault x y) [
+            | some r ↦ outcome ≡ Refused r
+            | none ↦ JudgedAs most T ns (take (recordLength * b) (written most T ns old)) x y a b c outcome
+          ]
+    ]
+
+-- banding's refusal, or else that of a point; for a private function
+abbrev pub refusalOr : Refusal → Banded → Refusal
+refusalOr point (NotBanded r) = r
+refusalOr point (Done a b c) = point

@@ -1,15 +1,16 @@
 // Banding and judging together. Demand 3 as one theorem, and the starred examples, stand in `specs/` and `proofs/`.
 ghost use mathlib.Core.Path.{_≡_};
 ghost use lib.ListN.{length};
-ghost use Rattle.banding.specs.Banding.{banded, written};
-ghost use Rattle.engine.specs.Outcomes.{Answered};
+ghost use Rattle.banding.specs.Banding.{banded};
+ghost use Rattle.engine.specs.Outcomes.{refusalOr, writtenFor, Answered};
 use banding::Banded;
 use judging::Judgement;
 use refusals::Refusal;
 
-// What banding an outline and judging a point answers: banding's refusal, or its report and the judgement.
+// What banding an outline and judging a point answers: the first refusal, the point's after those of banding; or
+// banding's report and the judgement.
 pub enum Outcome {
-    NotBanded(Refusal),
+    Refused(Refusal),
     Judged {
         curves: usize,
         leaves: usize,
@@ -18,7 +19,8 @@ pub enum Outcome {
     },
 }
 
-// Puts a band round an outline, writes the leaves' records to the front of the list, and judges the point (x, y) against exactly these records.
+// Puts a band round an outline, writes the leaves' records to the front of the list, and judges the point (x, y)
+// against exactly these records. A refusal alters nothing, also that of the point.
 pub fn band_and_judge(
     outline: &[i32],
     tolerance: i32,
@@ -26,11 +28,18 @@ pub fn band_and_judge(
     x: i32,
     y: i32,
 ) -> Outcome
-    ensures { λ r. ⌜ (now (records .exit) ≡ written 64 tolerance (now (outline .entry)) (now (records .entry))) × (Answered 64 tolerance (now (outline .entry)) (banded 64 tolerance (now (outline .entry)) (length (now (records .entry)))) (now (records .exit)) x y r) ⌝ }
+    ensures { λ r. ⌜ now (records .exit) ≡ writtenFor 64 tolerance (now (outline .entry)) x y (now (records .entry)) ⌝ }
+    ensures { λ r. ⌜ Answered 64 tolerance (now (outline .entry)) x y (now (records .entry)) r ⌝ }
 {
+    if !boxes::in_range(x) {
+        return Outcome::Refused(refusal_or(outline, tolerance, records, Refusal::PointX));
+    }
+    if !boxes::in_range(y) {
+        return Outcome::Refused(refusal_or(outline, tolerance, records, Refusal::PointY));
+    }
     let banded = band::band(outline, tolerance, records);
     match banded {
-        Banded::Refused(refusal) => Outcome::NotBanded(refusal),
+        Banded::Refused(refusal) => Outcome::Refused(refusal),
         Banded::Done {
             curves,
             leaves,
@@ -44,5 +53,26 @@ pub fn band_and_judge(
                 judgement,
             }
         }
+    }
+}
+
+// What a point out of range gets: banding's refusal, or where there is none that of the point. Banding is lent no
+// number of the list: so it writes none, and its 8 says how many leaves there are.
+fn refusal_or(ns: &[i32], tolerance: i32, records: &mut [i32], point: Refusal) -> Refusal
+    ensures { λ r. ⌜ now (records .exit) ≡ now (records .entry) ⌝ }
+    ensures { λ r. ⌜ r ≡ refusalOr point (banded 64 tolerance (now (ns .entry)) (length (now (records .entry)))) ⌝ }
+{
+    let room = records.len();
+    let banded = band::band(ns, tolerance, &mut records[..0]);
+    match banded {
+        Banded::Refused(refusal) => match refusal {
+            Refusal::TooFewRecords(leaves) => { if room / 18 < leaves { refusal } else { point } }
+            _ => refusal,
+        },
+        Banded::Done {
+            curves: _,
+            leaves: _,
+            nodes: _,
+        } => point,
     }
 }

@@ -19,7 +19,7 @@ fn main() -> Result<(), Refusal> {
     // The same in one call. At 43 the arch has two leaves, and where they meet two covers hold the
     // point: either may be named.
     let outcome = band_and_judge(&outline, 43, &mut records, 240, 364)?;
-    let verdict = if outcome.judgement?.is_on() { "on" } else { "off" };
+    let verdict = if outcome.judgement.is_on() { "on" } else { "off" };
     println!("tolerance 43/16: {} leaves, (240 364) is {verdict}", outcome.report.leaves);
     Ok(())
 }

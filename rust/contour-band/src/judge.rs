@@ -75,14 +75,13 @@ pub fn judge(leaves: &[i32], x: i32, y: i32) -> Result<Judgement, Refusal> {
     Ok(Judgement::new(answer.on, answer.leaf, answer.cover))
 }
 
-/// What banding an outline and judging a point come to, where banding accepts the outline.
+/// What banding an outline and judging a point come to, where nothing is refused.
 #[derive(Debug, Clone, Copy, PartialEq, Eq, Hash)]
 pub struct Outcome {
     /// What banding reports.
     pub report: Report,
-    /// What judging says of the point: [`Refusal::PointX`] and [`Refusal::PointY`] are its only
-    /// refusals here.
-    pub judgement: Result<Judgement, Refusal>,
+    /// What judging says of the point.
+    pub judgement: Judgement,
 }
 
 /// Puts a band round an outline as [`band`](crate::band) does, and judges a point against the
@@ -95,19 +94,19 @@ pub struct Outcome {
 /// let mut records = [0; 100];
 /// let outcome = band_and_judge(&outline, 44, &mut records, 240, 363)?;
 /// assert_eq!(outcome.report.leaves, 1);
-/// assert_eq!(outcome.judgement, Ok(Judgement::On { leaf: 0, cover: 1 }));
+/// assert_eq!(outcome.judgement, Judgement::On { leaf: 0, cover: 1 });
 ///
-/// // A point that is refused leaves the band as it is.
-/// let outcome = band_and_judge(&outline, 44, &mut records, i32::MAX, 0)?;
-/// assert_eq!(outcome.report.leaves, 1);
-/// assert_eq!(outcome.judgement, Err(Refusal::PointX));
+/// // A point out of range is refused as well, and leaves the list as it was.
+/// let mut records = [0; 100];
+/// assert_eq!(band_and_judge(&outline, 44, &mut records, i32::MAX, 0), Err(Refusal::PointX));
+/// assert_eq!(records, [0; 100]);
 /// # Ok::<(), Refusal>(())
 /// ```
 ///
 /// # Errors
 ///
-/// A refusal of banding, with `records` unaltered. A point out of range is no error of the whole:
-/// the records are written, and [`Outcome::judgement`] has the refusal.
+/// The refusals of [`band`](crate::band), then [`Refusal::PointX`] and [`Refusal::PointY`], the first in
+/// this order. Each leaves `records` unaltered.
 pub fn band_and_judge(
     outline: &[i32],
     tolerance: i32,
@@ -116,14 +115,9 @@ pub fn band_and_judge(
     y: i32,
 ) -> Result<Outcome, Refusal> {
     let outcome = library::band_and_judge(outline, tolerance, records, x, y);
-    let judgement = if outcome.refusal == 0 {
-        Ok(Judgement::new(outcome.on, outcome.leaf, outcome.cover))
-    } else {
-        match Refusal::new(outcome.refusal, outcome.spot) {
-            refusal @ (Refusal::PointX | Refusal::PointY) => Err(refusal),
-            of_banding => return Err(of_banding),
-        }
-    };
+    if outcome.refusal != 0 {
+        return Err(Refusal::new(outcome.refusal, outcome.spot));
+    }
     let report = Report { curves: outcome.curves, leaves: outcome.leaves, nodes: outcome.nodes };
-    Ok(Outcome { report, judgement })
+    Ok(Outcome { report, judgement: Judgement::new(outcome.on, outcome.leaf, outcome.cover) })
 }

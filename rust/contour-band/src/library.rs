@@ -183,7 +183,7 @@ mod tests {
     }
 
     #[test]
-    fn an_outcome_has_a_report_unless_banding_refuses() {
+    fn an_outcome_has_a_report_unless_something_is_refused() {
         let line = [1, 0, 0, 0, 1];
         let mut records = [0; 18];
         let nothing =
@@ -193,11 +193,11 @@ mod tests {
         // Refusals of banding come first.
         let refused = Outcome { refusal: 8, spot: 1, ..nothing };
         assert_eq!(band_and_judge(&line, 2, &mut records[..17], FAR + 1, 0), refused);
+        let refused = Outcome { refusal: 11, spot: 1, ..nothing };
+        assert_eq!(band_and_judge(&line, 2, &mut records, 0, FAR + 1), refused);
         assert_eq!(records, [0; 18]);
         let off = Outcome { curves: 1, leaves: 1, nodes: 1, ..nothing };
         assert_eq!(band_and_judge(&line, 2, &mut records, 0, 17), off);
-        let refused = Outcome { refusal: 11, spot: 1, ..off };
-        assert_eq!(band_and_judge(&line, 2, &mut records, 0, FAR + 1), refused);
         let on = Outcome { on: 1, cover: 2, ..off };
         assert_eq!(band_and_judge(&line, 2, &mut records, 0, 15), on);
     }

@@ -1,4 +1,4 @@
-//! Banding and judging in one call, against one after the other by both engines.
+//! Banding and judging in one call by both engines, and one after the other by the proved one.
 
 use crate::judging::Answer;
 use crate::random::Random;
@@ -11,9 +11,9 @@ const MARGIN: usize = 20;
 /// What a call comes to.
 #[derive(Debug, Clone, Copy, PartialEq, Eq)]
 pub enum Outcome {
-    /// The curves, leaves and nodes that banding reports, and what judging answers.
+    /// The curves, leaves and nodes that banding reports, and what judging answers, which is no refusal.
     Banded([u64; 3], Answer),
-    /// The number and the spot of the refusal of banding.
+    /// The number and the spot of the refusal.
     Refused(u32, u64),
 }
 
@@ -64,8 +64,8 @@ impl Comparison {
     ///
     /// # Panics
     ///
-    /// Where the outcomes or the lists differ, a number that was not to be written has changed, or the
-    /// named cover does not hold the point. Prints the input and all outcomes.
+    /// Where the outcomes or the lists differ, a number that was not to be written has changed, a refusal has
+    /// changed any, or the named cover does not hold the point. Prints the input and all outcomes.
     pub fn band_and_judge(
         &mut self,
         outline: &[i32],
@@ -76,7 +76,7 @@ impl Comparison {
     ) -> Outcome {
         let noise: Vec<i32> = (0..length + 2 * MARGIN).map(|_| self.random.bits() as i32).collect();
         let lent = MARGIN..MARGIN + length;
-        let (mut one, mut two, mut plain) = (noise.clone(), noise.clone(), noise);
+        let (mut one, mut two, mut plain) = (noise.clone(), noise.clone(), noise.clone());
         let given = outline.to_vec();
         let together = together(&given, tolerance, &mut one[lent.clone()], x, y);
         let apart = apart(outline, tolerance, &mut two[lent.clone()], x, y);
@@ -85,7 +85,7 @@ impl Comparison {
         let same_lists = one == two && one == plain && given == outline;
         let right = match together {
             Banded([_, leaves, _], answer) => answer.is_right(&plain[MARGIN..][..18 * leaves as usize], x, y),
-            Refused(..) => true,
+            Refused(..) => one == noise,
         };
         if !(same_lists && right && together.agrees(apart) && together.agrees(by_plain)) {
             panic!(
@@ -104,10 +104,8 @@ impl Comparison {
         self.tally.numbers += (length + 2 * MARGIN) as u64;
         match outcome {
             Banded(_, Answer::On { .. }) => self.tally.on += 1,
-            Banded(_, Answer::Off) => self.tally.off += 1,
-            Banded(_, Answer::Refused(number, _)) | Refused(number, _) => {
-                self.tally.refused[number as usize] += 1;
-            }
+            Banded(_, _) => self.tally.off += 1,
+            Refused(number, _) => self.tally.refused[number as usize] += 1,
         }
     }
 
@@ -122,30 +120,32 @@ impl Comparison {
 fn together(outline: &[i32], tolerance: i32, records: &mut [i32], x: i32, y: i32) -> Outcome {
     match contour_band::band_and_judge(outline, tolerance, records, x, y) {
         Ok(contour_band::Outcome { report, judgement }) => {
-            Banded([report.curves, report.leaves, report.nodes], judgement.into())
+            Banded([report.curves, report.leaves, report.nodes], Ok(judgement).into())
         }
         Err(refusal) => Refused(refusal.number(), refusal.spot()),
     }
 }
 
-/// The proved engine in two calls.
+/// The proved engine in two calls, the first into a list of its own.
 fn apart(outline: &[i32], tolerance: i32, records: &mut [i32], x: i32, y: i32) -> Outcome {
-    match contour_band::band(outline, tolerance, records) {
-        Ok(report) => {
-            let judgement = contour_band::judge(&records[..18 * report.leaves as usize], x, y);
-            Banded([report.curves, report.leaves, report.nodes], judgement.into())
+    let mut changed = records.to_vec();
+    let report = match contour_band::band(outline, tolerance, &mut changed) {
+        Ok(report) => report,
+        Err(refusal) => return Refused(refusal.number(), refusal.spot()),
+    };
+    match contour_band::judge(&changed[..18 * report.leaves as usize], x, y).into() {
+        Answer::Refused(number, spot) => Refused(number, spot),
+        answer => {
+            records.copy_from_slice(&changed);
+            Banded([report.curves, report.leaves, report.nodes], answer)
         }
-        Err(refusal) => Refused(refusal.number(), refusal.spot()),
     }
 }
 
-/// The plain engine in two calls.
+/// The plain engine in one call.
 fn by_plain(outline: &[i32], tolerance: i32, records: &mut [i32], x: i32, y: i32) -> Outcome {
-    match plain::band(outline, tolerance, records) {
-        Ok(report) => {
-            let judgement = plain::judge(&records[..18 * report.leaves as usize], x, y);
-            Banded([report.curves, report.leaves, report.nodes], judgement.into())
-        }
+    match plain::band_and_judge(outline, tolerance, records, x, y) {
+        Ok((report, judgement)) => Banded([report.curves, report.leaves, report.nodes], Ok(judgement).into()),
         Err(refusal) => Refused(refusal.number(), refusal.spot()),
     }
 }

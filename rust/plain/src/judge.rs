@@ -1,6 +1,6 @@
 //! Judging: whether a point lies on the covers of a list of leaf records.
 
-use crate::band::RECORD;
+use crate::band::{band, Report, RECORD};
 use crate::cover;
 use crate::leaf_list;
 use crate::refusal::Refusal;
@@ -33,6 +33,22 @@ pub fn judge(leaves: &[i32], x: i32, y: i32) -> Result<Judgement, Refusal> {
     Ok(Judgement::Off)
 }
 
+/// Bands an outline into the lent list, and judges a point against exactly the records written. The
+/// point is checked last; whatever is refused, the list stays as it was.
+pub fn band_and_judge(
+    outline: &[i32],
+    tolerance: i32,
+    records: &mut [i32],
+    x: i32,
+    y: i32,
+) -> Result<(Report, Judgement), Refusal> {
+    let mut changed = records.to_vec();
+    let report = band(outline, tolerance, &mut changed)?;
+    let judgement = judge(&changed[..RECORD * report.leaves as usize], x, y)?;
+    records.copy_from_slice(&changed);
+    Ok((report, judgement))
+}
+
 /// The box of a record at break point `i`.
 fn box_at(record: &[i32; RECORD], i: usize) -> &[i32; 4] {
     record[2 + 4 * i..][..4].try_into().expect("a box has four numbers")
@@ -41,7 +57,6 @@ fn box_at(record: &[i32; RECORD], i: usize) -> &[i32; 4] {
 #[cfg(test)]
 mod tests {
     use super::*;
-    use crate::band;
 
     const CURVE_A: [i32; 9] = [3, 0, 0, 10, 30, 20, 30, 30, 0];
 
@@ -103,6 +118,21 @@ mod tests {
         assert_eq!(judge(&leaves, 0, -9), on(0, 2));
         // A record's last box and its first are no cover.
         assert_eq!(judge(&leaves, 9, 0), Ok(Judgement::Off));
+    }
+
+    #[test]
+    fn a_point_is_refused_after_banding_and_leaves_the_list() {
+        let mut lent = [7; 2 * RECORD];
+        let mut call = |tolerance, length: usize, x| {
+            let answer = band_and_judge(&CURVE_A, tolerance, &mut lent[..length], x, 363);
+            (answer.map(|(report, judgement)| (report.leaves, judgement)), lent == [7; 2 * RECORD])
+        };
+        assert_eq!(call(1, 0, 536_870_913), (Err(Refusal::Tolerance), true));
+        assert_eq!(call(43, 35, 536_870_913), (Err(Refusal::TooFewRecords { leaves: 2 }), true));
+        assert_eq!(call(43, 36, 536_870_913), (Err(Refusal::PointX), true));
+        assert_eq!(call(44, 36, 536_870_912), (Ok((1, Judgement::Off)), false));
+        assert_eq!(lent[..RECORD], records(&CURVE_A, 44));
+        assert_eq!(lent[RECORD..], [7; RECORD]);
     }
 
     #[test]

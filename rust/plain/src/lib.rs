@@ -2,7 +2,8 @@
 //! proved engine, and the two are compared with each other, number by number.
 //!
 //! [`band`] encloses an outline of Bézier curves in boxes, [`judge`] says whether a point lies on
-//! what they cover, and [`draw`] draws the hull of two boxes. [`text::answer`] is the text program. The
+//! what they cover, [`band_and_judge`] does both, and [`draw`] draws the hull of two boxes.
+//! [`text::answer`] is the text program. The
 //! modules follow the document's sections: the checks of an outline, halving, the enclosure, the walk;
 //! the checks of a leaf list and a point, covers, judging; drawing; the lines of a text, its answer.
 
@@ -24,5 +25,5 @@ pub mod text;
 
 pub use band::{band, Report, RECORD};
 pub use hull::draw;
-pub use judge::{judge, Judgement};
+pub use judge::{band_and_judge, judge, Judgement};
 pub use refusal::Refusal;

@@ -1,15 +1,64 @@
--- Banding, and then judging a point against the leaves that were written.
-use mathlib.Core.Path.{sym, _∙_}
+-- Banding, and then judging a point against the leaves that were written; before both, the range of the point.
+use mathlib.Core.Path.{_≡_, sym, _∙_}
+use mathlib.Core.Bool.{true}
 use native.Mathlib.Omega.{arith}
 use Prim.Native.Nat.{_*_, _≤_}
 use lib.ListN.{length}
 use lib.Seq.{length-take-le}
 use borrow.Author.Needs.{needs}
+use borrow.Author.Tests.{not-true, not-false}
 use mir.Facts.{toZ-ofZ}
+use Rattle.boxes.specs.Ranges.{inRange}
 use Rattle.boxes.specs.Records.{recordLength}
-use Rattle.engine.proofs.Outcomes.{done-room, not-banded, banded-judged}
+use Rattle.engine.proofs.Outcomes.{done-room, x-refused, y-refused, not-banded, banded-judged}
 use Rattle.engine.proofs.band_and_judge.Statement.{statement}
 use Rattle.engine.proofs.band_and_judge.Tie as tie
+
+in-range-requires : tie.Need-in-range-requires
+in-range-requires c κs = search needs
+
+refusal-or-requires : tie.Need-refusal-or-requires
+refusal-or-requires c κs = search needs
+
+same-length : tie.Need-same-length
+same-length c = search needs
+
+returns : tie.Need-returns
+returns c =
+    let t = c .before .before .before in
+    let s = t .before .before in
+    let a = s .args in
+    let out = rw (toZ-ofZ (s .fits .x)) at (sym (t .before .in-range .ensures) ∙ not-true (t .before .in-range .result) (t .if1 .taken)) in
+    let r = rw (toZ-ofZ (s .fits .tolerance)) at (c .before .refusal-or .ensures) in
+    x-refused 64 (a .tolerance) (a .outline .now) (a .records .now) (a .x) (a .y) out (r .0) (r .1)
+
+-- past the test of x
+x-fine : (c : tie.Else1) → inRange (c .before .before .args .x) ≡ true
+x-fine c = rw (toZ-ofZ (c .before .before .fits .x)) at (sym (c .before .in-range .ensures) ∙ not-false (c .before .in-range .result) (c .if1 .left))
+
+in-range-requires-2 : tie.Need-in-range-requires-2
+in-range-requires-2 c κs = search needs
+
+refusal-or-requires-2 : tie.Need-refusal-or-requires-2
+refusal-or-requires-2 c κs = search needs
+
+same-length-2 : tie.Need-same-length-2
+same-length-2 c = search needs
+
+returns-2 : tie.Need-returns-2
+returns-2 c =
+    let t = c .before .before .before in
+    let s = t .before .before .before .before in
+    let a = s .args in
+    let out = rw (toZ-ofZ (s .fits .y)) at (sym (t .before .in-range2 .ensures) ∙ not-true (t .before .in-range2 .result) (t .if2 .taken)) in
+    let r = rw (toZ-ofZ (s .fits .tolerance)) at (c .before .refusal-or2 .ensures) in
+    y-refused 64 (a .tolerance) (a .outline .now) (a .records .now) (a .x) (a .y) (x-fine (t .before .before)) out (r .0) (r .1)
+
+-- past the test of y
+y-fine : (c : tie.Else2) → inRange (c .before .before .before .before .args .y) ≡ true
+y-fine c =
+    let s = c .before .before .before .before in
+    rw (toZ-ofZ (s .fits .y)) at (sym (c .before .in-range2 .ensures) ∙ not-false (c .before .in-range2 .result) (c .if2 .left))
 
 band-requires : tie.Need-band-requires
 band-requires c κs = search needs
@@ -21,15 +70,16 @@ enum-known-banded-2 : tie.Need-enum-known-banded-2
 enum-known-banded-2 c = search needs
 
 -- the leaves have room in the lent list
-room : (c : tie.After-known-told2) → recordLength * c .before .banded2 .given .0 .1 .0 ≤ length (c .before .before .before .before .before .before .args .records .now)
+room : (c : tie.After-known-told2) → recordLength * c .before .banded2 .given .0 .1 .0
+    ≤ length (c .before .before .before .before .before .before .before .before .before .before .args .records .now)
 room c =
     let b = c .before .before .before .before in
-    let s = b .before .before in
+    let s = b .before .before .before .before .before .before in
     let r = rw (toZ-ofZ (s .fits .tolerance)) at (b .band .ensures) in
     done-room 64 (s .args .tolerance) (s .args .outline .now) (length (s .args .records .now)) (sym (r .0) ∙ c .before .banded2 .given .1)
 
 mul-judge : tie.Need-mul-judge
-mul-judge c = omega (arith, room c, c .before .before .before .before .before .before .good .1 .1 .0 .0)
+mul-judge c = omega (arith, room c, c .before .before .before .before .before .before .before .before .before .before .good .1 .1 .0 .0)
 
 slice-reshare-prefix-judge : tie.Need-slice-reshare-prefix-judge
 slice-reshare-prefix-judge c = omega (arith, room c, c .before .before .before .before .band .kept .1 .1 .0)
@@ -40,32 +90,45 @@ slice-aggregate-judge c = sym (length-take-le _ _ (slice-reshare-prefix-judge (c
 judge-requires : tie.Need-judge-requires
 judge-requires c κs = search needs
 
-same-length : tie.Need-same-length
-same-length c = search needs
+same-length-3 : tie.Need-same-length-3
+same-length-3 c = search needs
 
-returns : tie.Need-returns
-returns c =
+returns-3 : tie.Need-returns-3
+returns-3 c =
     let b = c .before .before .before .before in
-    let s = b .before .before in
+    let e = b .before .before in
+    let s = e .before .before .before .before in
+    let a = s .args in
     let r = rw (toZ-ofZ (s .fits .tolerance)) at (b .band .ensures) in
-    not-banded 64 (s .args .tolerance) (s .args .outline .now) (s .args .records .now) (r .1) (s .args .x) (s .args .y) (sym (r .0) ∙ c .before .banded .given .1)
+    not-banded 64 (a .tolerance) (a .outline .now) (a .records .now) (a .x) (a .y) (x-fine (e .before .before)) (y-fine e) (r .1)
+    (sym (r .0) ∙ c .before .banded .given .1)
 
-same-length-2 : tie.Need-same-length-2
-same-length-2 c = search needs
+same-length-4 : tie.Need-same-length-4
+same-length-4 c = search needs
 
-returns-2 : tie.Need-returns-2
-returns-2 c =
+returns-4 : tie.Need-returns-4
+returns-4 c =
     let b = c .before .before .before .before .before .before in
-    let s = b .before .before in
+    let e = b .before .before in
+    let s = e .before .before .before .before in
+    let a = s .args in
     let r = rw (toZ-ofZ (s .fits .tolerance)) at (b .band .ensures) in
     let j = rw (toZ-ofZ (s .fits .x), toZ-ofZ (s .fits .y)) at (c .judge .ensures) in
-    banded-judged 64 (s .args .tolerance) (s .args .outline .now) (s .args .records .now) (r .1) (s .args .x) (s .args .y) (sym (r .0) ∙ c .before .before .before .banded2 .given .1)
-    (c .judge .result) j
+    banded-judged 64 (a .tolerance) (a .outline .now) (a .records .now) (a .x) (a .y) (x-fine (e .before .before)) (y-fine e) (r .1)
+    (sym (r .0) ∙ c .before .before .before .banded2 .given .1) (c .judge .result) j
 
 pub band-and-judge-spec : {M : Type 1} → statement M
 band-and-judge-spec =
     tie.close
     (tie.spec
+    in-range-requires
+    refusal-or-requires
+    same-length
+    returns
+    in-range-requires-2
+    refusal-or-requires-2
+    same-length-2
+    returns-2
     band-requires
     enum-known-banded
     enum-known-banded-2
@@ -73,7 +136,7 @@ band-and-judge-spec =
     slice-reshare-prefix-judge
     slice-aggregate-judge
     judge-requires
-    same-length
-    returns
-    same-length-2
-    returns-2)
+    same-length-3
+    returns-3
+    same-length-4
+    returns-4)

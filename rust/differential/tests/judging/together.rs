@@ -17,17 +17,45 @@ fn examples() {
         let mut call = |x, y| comparison.band_and_judge(&CURVE_A, 44, length, x, y);
         assert_eq!(call(240, 363), Outcome::Banded(report, on));
         assert_eq!(call(240, 364), Outcome::Banded(report, Answer::Off));
-        assert_eq!(call(FARTHEST + 1, i32::MAX), Outcome::Banded(report, Answer::Refused(11, 0)));
-        assert_eq!(call(0, -FARTHEST - 1), Outcome::Banded(report, Answer::Refused(11, 1)));
+        assert_eq!(call(FARTHEST + 1, i32::MAX), Outcome::Refused(11, 0));
+        assert_eq!(call(0, -FARTHEST - 1), Outcome::Refused(11, 1));
     }
-    // Banding refuses first, and then there is no report.
-    let mut call = |outline: &[i32], tolerance, length| {
-        comparison.band_and_judge(outline, tolerance, length, i32::MIN, i32::MIN)
-    };
-    assert_eq!(call(&CURVE_A, 1, 18), Outcome::Refused(1, 0));
-    assert_eq!(call(&[], 44, 18), Outcome::Refused(6, 0));
-    assert_eq!(call(&CURVE_A[..8], 44, 18), Outcome::Refused(3, 8));
-    assert_eq!(call(&CURVE_A, 43, 35), Outcome::Refused(8, 2));
+    comparison.report();
+}
+
+/// Every refusal of banding, and none, with points on either side of both ends of their range: banding's
+/// refusals come before the point's, and each leaves the list as it was.
+#[test]
+fn orders() {
+    const STEEP: [i32; 9] = [3, 0, 0, 0, 1_048_576, 0, 1_048_576, 0, 0];
+    const ENDS: [i32; 7] = [i32::MIN, -FARTHEST - 1, -FARTHEST, 0, FARTHEST, FARTHEST + 1, i32::MAX];
+    let many = [1, 0, 0, 0, 1].repeat(65);
+    let calls: [(&[i32], i32, usize, Option<(u32, u64)>); 12] = [
+        (&CURVE_A, 1, 18, Some((1, 0))),
+        (&[], 44, 18, Some((6, 0))),
+        (&many, 44, 18, Some((5, 320))),
+        (&[4], 44, 18, Some((2, 0))),
+        (&CURVE_A[..8], 44, 18, Some((3, 8))),
+        (&[1, 0, 0, 1_048_577, 0], 44, 18, Some((4, 3))),
+        (&STEEP, 2, 18, Some((7, 256))),
+        (&STEEP, 2, 0, Some((7, 256))),
+        (&CURVE_A, 43, 0, Some((8, 2))),
+        (&CURVE_A, 43, 35, Some((8, 2))),
+        (&CURVE_A, 43, 36, None),
+        (&CURVE_A, 43, 54, None),
+    ];
+    let mut comparison = Comparison::new("judging, together with banding, orders of refusals", 744);
+    for (outline, tolerance, length, of_banding) in calls {
+        for (x, y) in ENDS.iter().flat_map(|&x| ENDS.map(|y| (x, y))) {
+            let beyond = |n: i32| n.unsigned_abs() > FARTHEST as u32;
+            let of_point = if beyond(x) { Some((11, 0)) } else { beyond(y).then_some((11, 1)) };
+            let outcome = comparison.band_and_judge(outline, tolerance, length, x, y);
+            match of_banding.or(of_point) {
+                Some((number, spot)) => assert_eq!(outcome, Outcome::Refused(number, spot)),
+                None => assert!(matches!(outcome, Outcome::Banded([1, 2, 3], _))),
+            }
+        }
+    }
     comparison.report();
 }
 
