@@ -1,19 +1,41 @@
--- What a caller may conclude from the promises of this crate. Each law uses a definition that the promises end in, so that a weaker one is seen here.
-use mathlib.Core.Path.{_≡_, refl}
-use mathlib.Core.List.{List}
+-- What a caller may conclude from the promises of this crate. Each law uses a definition in which the promises end, so that a weaker one is seen here.
+use mathlib.Core.Path.{_≡_, refl, sym, _∙_, subst}
+use mathlib.Core.List.{List, [], _∷_}
 use mathlib.Core.Option.{Option, none, some}
-use Prim.Native.Nat.{ℕ}
-use lib.ListN.{length}
-use lib.IntN.{ℤ}
+use Prim.Native.Nat.{ℕ, _+_, _*_, _≤_, _<_}
+use lib.Dec.{lit<}
+use lib.ListN.{length, take}
+use lib.IntN.{ℤ, pos, negℤ, _+ℤ_, pow, one}
+use lib.Signed.{_≤ℤ_}
+use Rattle.integers.specs.Entry.{entry}
+use Rattle.integers.specs.First.{firstBad}
 use Rattle.integers.proofs.Clash.{clash}
+use Rattle.integers.proofs.Ring.{sides}
+use Rattle.integers.proofs.Order.{gap, natural, le-by, pos-lt, pow-positive, *ℤ-cancel, _+₀_, _×₀_}
 use Rattle.refusals.specs.declared.Refusal.{Refusal}
+use Rattle.bernstein.specs.Value.{choose, sum, value}
+use Rattle.halves.specs.Sizes.{Each}
+use Rattle.bezier.specs.declared.Curve.{Curve}
+use Rattle.bezier.specs.Nodes.{depth}
+use Rattle.bezier.specs.Points.{Equals, Near}
+use Rattle.bezier.specs.Differences.{largestOf, bend, largest}
+use Rattle.bezier.proofs.Values.{value-high, value-low}
+use Rattle.boxes.specs.Records.{recordLength}
+use Rattle.outline_curves.specs.Curves.{curveAt}
+use Rattle.curve_faults.specs.Faults.{faultAt}
+use Rattle.outline.specs.Checks.{outlineFrom, outlined}
 use Rattle.banding.specs.declared.Banded.{Banded}
 use Rattle.banding.specs.declared.Banded.the-variants.{Done, Refused as NotBanded}
-use Rattle.banding.specs.Banding.{banded}
+use Rattle.banding.specs.Banding.{banded, written}
+use Rattle.banding.specs.Outcomes.{Flat}
 use Rattle.banding.proofs.Theorems.{refused-unaltered as banding-unaltered}
-use Rattle.judging.specs.Judging.{pointFault}
+use Rattle.judging.specs.declared.Judgement.{Judgement}
+use Rattle.judging.specs.Judging.{pointFault, Verdict, Judged as JudgedSo}
 use Rattle.engine.specs.declared.Outcome.the-variants.{Refused, Judged}
+use Rattle.engine.specs.Demand3.{CurveOf, IsOn, Somewhere, Shallow, Demand3}
 use Rattle.engine.specs.Outcomes.{JudgedAs, writtenFor, Answered}
+use Rattle.engine.specs.Starred.{A}
+use Rattle.engine.proofs.Demand3.{demand-3, curve-small}
 
 -- ---- a refusal of banding and judging together, whichever it is, leaves the lent list as it was
 module _ (most : ℕ) (T : ℤ) (ns old : List ℤ) (x y : ℤ) (r : Refusal) where
@@ -27,3 +49,96 @@ module _ (most : ℕ) (T : ℤ) (ns old : List ℤ) (x y : ℤ) (r : Refusal) wh
       go b e (some q) f = rw f
       go (NotBanded q) e none f = rw f (banding-unaltered most T ns old q e)
       go (Done a b c) e none f = absurd (not-judged (rw (e, Answered, f) at answered))
+
+-- ---- an outcome with a judgement: nothing was refused, the report is banding's, and the judgement is of the leaves that it left in the list
+pub record Told (most : ℕ) (T : ℤ) (ns : List ℤ) (x y : ℤ) (old : List ℤ) (a b c : ℕ) (j : Judgement) : Type 0 where
+  pub report : banded most T ns (length old) ≡ Done a b c
+  pub list : writtenFor most T ns x y old ≡ written most T ns old
+  pub judged : Verdict none (take (recordLength * b) (written most T ns old)) x y j
+  pub demand-3 : Demand3 most T ns (take (recordLength * b) (written most T ns old)) x y j
+
+module _ (most : ℕ) (T : ℤ) (ns old : List ℤ) (x y : ℤ) (a b c : ℕ) (j : Judgement) where
+  pub judged-told : Answered most T ns x y old (Judged a b c j) → Told most T ns x y old a b c j
+  judged-told answered = go (banded most T ns (length old)) refl (pointFault x y) refl
+    where
+      same : {a′ b′ c′ : ℕ} {j′ : Judgement} → Judged a b c j ≡ Judged a′ b′ c′ j′ → (a ≡ a′) × (b ≡ b′) × (c ≡ c′) × (j ≡ j′)
+      same e = (cc, cc, cc, cc)
+
+      not-refused : {r : Refusal} → Judged a b c j ≡ Refused r → ⊥
+      not-refused e = clash (cc)
+
+      go : (d : Banded) → banded most T ns (length old) ≡ d → (fault : Option Refusal) → pointFault x y ≡ fault → Told most T ns x y old a b c j
+      go (NotBanded q) e fault f = absurd (not-refused (rw (e, Answered) at answered))
+      go (Done a′ b′ c′) e (some q) f = absurd (not-refused (rw (e, Answered, f) at answered))
+      go (Done a′ b′ c′) e none f =
+          let k = rw (e, Answered, f) at answered in
+          let s = same (k .is) in
+          rw (s .0, s .1, s .2, s .3) (record { report = e; list = rw f; judged = k .judged; demand-3 = k .demand-3 })
+
+-- ---- a point near a curve lies no farther than T from the square in which control points lie, 16 × 1,048,576 sixteenths each way
+abbrev Reach : ℤ → ℤ → Type 0
+Reach T z = (negℤ (pos 16777216 +ℤ T) ≤ℤ z) × (z ≤ℤ (pos 16777216 +ℤ T))
+
+near-in-reach : (T : ℤ) (d p r : ℕ) (cs : List ℤ) → Each 1048576 cs → 0 < p + r → (z : ℤ) → Near T d p r cs z → Reach T z
+near-in-reach T d p r cs each nonzero z near =
+    let w = pow (pos (p + r)) d in
+    let v = value (pos p) (pos r) d cs in
+    let positive = pow-positive (pos-lt nonzero) d in (
+      *ℤ-cancel positive (le-by (w ∷ v ∷ z ∷ T ∷ []) (gap (near .below) +₀ natural 16 ×₀ gap (value-low p r 1048576 d cs each)) (search sides depth 20) refl),
+      *ℤ-cancel positive (le-by (w ∷ v ∷ z ∷ T ∷ []) (gap (near .above) +₀ natural 16 ×₀ gap (value-high p r 1048576 d cs each)) (search sides depth 20) refl),
+    )
+
+pub somewhere-in-reach : (most : ℕ) (T : ℤ) (ns : List ℤ) (x y : ℤ) → Somewhere most T ns x y → Reach T x × Reach T y
+somewhere-in-reach most T ns x y s =
+    let c = s .curve in
+    let small = curve-small most ns (s .of) in (
+      near-in-reach T (c .degree) (s .p) (s .r) (c .x) (small .0) (s .some) x (s .near .in-x),
+      near-in-reach T (c .degree) (s .p) (s .r) (c .y) (small .1) (s .some) y (s .near .in-y),
+    )
+
+-- ---- an outline that is banded, and whatever judging answers to its leaves
+module _ (most : ℕ) (T : ℤ) (ns old : List ℤ) (a b c : ℕ) (done : banded most T ns (length old) ≡ Done a b c) where
+  abbrev leaves : List ℤ
+  leaves = take (recordLength * b) (written most T ns old)
+
+  module _ (x y : ℤ) (answer : Judgement) (judged : JudgedSo most leaves x y answer) where
+    claim : Demand3 most T ns leaves x y answer
+    claim = demand-3 most T ns old a b c done x y answer judged
+
+    -- a point beyond the reach is never judged on
+    pub on-in-reach : IsOn answer → Reach T x × Reach T y
+    on-in-reach on = somewhere-in-reach most T ns x y (claim .every-on-near on)
+
+    -- the node that stands in a leaf's record has depth at most j
+    pub leaf-depth : (i : ℕ) → recordLength * i < length leaves → (k : ℕ) (c : Curve) → CurveOf most ns k c → entry leaves (recordLength * i) ≡ pos k
+        → (j : ℕ) → Flat T c j → (n : ℕ) → entry leaves (recordLength * i + 1) ≡ pos n → depth n ≤ j
+    leaf-depth i h k c of e j flat n is =
+        let s = claim .every-leaf-shallow i h k c of e j flat in
+        subst (λ m. depth m ≤ j) (natural-is (sym (s .is) ∙ is)) (s .depth-at-most)
+      where
+        natural-is : {m n : ℕ} → pos m ≡ pos n → m ≡ n
+        natural-is e = cc
+
+-- ---- curve A: half-way it is at (240 360), which is on at every tolerance and with every list lent
+abbrev curveA : Curve
+curveA = record { degree = 3; x = pos 0 ∷ pos 10 ∷ pos 20 ∷ pos 30 ∷ []; y = pos 0 ∷ pos 30 ∷ pos 30 ∷ pos 0 ∷ [] }
+
+of-a : CurveOf 64 A 0 curveA
+unfolding outlined outlineFrom faultAt firstBad curveAt
+of-a = record { before = []; after = []; all = refl; number = refl }
+
+half-way : Equals curveA 1 1 (pos 240) (pos 360)
+unfolding value sum choose pow one
+half-way = record { in-x = refl; in-y = refl }
+
+pub half-way-on : (T : ℤ) (old : List ℤ) (a b c : ℕ) → banded 64 T A (length old) ≡ Done a b c
+    → (answer : Judgement) → JudgedSo 64 (take (recordLength * b) (written 64 T A old)) (pos 240) (pos 360) answer → IsOn answer
+half-way-on T old a b c done answer judged = claim 64 T A old a b c done (pos 240) (pos 360) answer judged .every-point-on 0 curveA of-a 1 1 (lit< tt) half-way
+
+-- ---- the premise of the depth claim where both its sides are equal: y 0, 0, 125 has M = 125, and 178 × 125 = 125 × (180 − 2)
+abbrev bow : Curve
+bow = record { degree = 2; x = pos 0 ∷ pos 0 ∷ pos 0 ∷ pos 0 ∷ []; y = pos 0 ∷ pos 0 ∷ pos 125 ∷ pos 0 ∷ [] }
+
+pub flat-at-equality : Flat (pos 180) bow 0
+unfolding largest bend largestOf
+flat-at-equality = le-by [] (natural 0) (search sides depth 20) refl

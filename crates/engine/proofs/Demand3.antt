@@ -69,6 +69,11 @@ small {c} s = (each-wider fits (s .x), each-wider fits (s .y))
     fits : 2 ^ 20 * 2 ^ (c .degree * 0) ≤ 1048576
     fits = le-of-eq (rw (mul-zero (c .degree)))
 
+-- the coordinates of a curve of an outline
+pub curve-small : (most : ℕ) (ns : List ℤ) {k : ℕ} {c : Curve} → CurveOf most ns k c → Each 1048576 (c .x) × Each 1048576 (c .y)
+curve-small most ns {k} {c} of =
+    small (accepted-all most ns 0 _ (outlined-from most ns _ (of .all)) c (Memᴰ·append-right (of .before) (List·Memᴰ·head refl)))
+
 -- ---- the claim, for the records of curves that all meet T
 module _ (most : ℕ) (T : ℤ) (ns : List ℤ) (cs : List Curve) (faultless : Faultless most T ns cs) (meet : AllMeet T cs) where
   abbrev rs : List ℤ

@@ -2,6 +2,7 @@
 pub mod Decimals
 pub mod Written
 pub mod Read
+pub mod Spelling
 pub mod Lines
 pub mod Legal
 pub mod Texts

@@ -1,0 +1,62 @@
+-- What a C caller may conclude from the numbers of an answer, so that numbers without a meaning are seen here.
+use mathlib.Core.Path.{_≡_, refl, _∙_, ap}
+use mathlib.Core.List.{List}
+use mathlib.Core.Option.{Option, none, some}
+use Prim.Native.Nat.{ℕ, _*_}
+use native.Mathlib.Omega.{arith}
+use lib.ListN.{take}
+use lib.IntN.{ℤ}
+use Rattle.refusals.specs.declared.Refusal.{Refusal}
+use Rattle.refusals.specs.Refusals.{numberOf, spotOf}
+use Rattle.boxes.specs.Records.{recordLength}
+use Rattle.held.specs.Covers.{CoverHolds}
+use Rattle.judging.specs.declared.Judgement.{Judgement}
+use Rattle.judging.specs.declared.Judgement.the-variants.{On, Off, Refused}
+use Rattle.judging.specs.Judging.{judgingFault, Verdict}
+use Rattle.c_answers.specs.declared.JudgingAnswer.{JudgingAnswer}
+use Rattle.c_answers.specs.Answers.{judgingAnswerOf}
+use Rattle.engine.specs.declared.Outcome.{Outcome}
+use Rattle.engine.specs.declared.Outcome.the-variants.{Refused as Outright, Judged}
+use Rattle.engine.specs.Outcomes.{writtenFor, Answered}
+use Rattle.engine.proofs.Consequences.{refused-unaltered, judged-told}
+use Rattle.contour.specs.declared.OutcomeAnswer.{OutcomeAnswer}
+use Rattle.contour.specs.Answers.{outcomeAnswerOf, JudgedInNumbers, AnsweredInNumbers}
+
+-- ---- judging: where `on` is 1, the record and the cover that are named hold the point; a refusal has its number and spot
+module _ (ns : List ℤ) (x y : ℤ) where
+  on-held : (fault : Option Refusal) (j : Judgement) → Verdict fault ns x y j → judgingAnswerOf j .on ≡ 1
+      → CoverHolds ns (judgingAnswerOf j .leaf) (judgingAnswerOf j .cover) x y
+  on-held none (On k i) v on = v .2
+  on-held none Off v on = absurd (omega arith)
+  on-held none (Refused r) v on = absurd v
+  on-held (some r) j v on = absurd (let o = rw v at on in omega (arith, o))
+
+  module _ (n : JudgingAnswer) (judged : JudgedInNumbers ns x y n) where
+    pub judged-held : n .on ≡ 1 → CoverHolds ns (n .leaf) (n .cover) x y
+    judged-held on = let e = judged .are in rw e (on-held (judgingFault 64 ns x y) (judged .judgement) (judged .judged) (rw e at on))
+
+    pub judged-refused : (r : Refusal) → judgingFault 64 ns x y ≡ some r → (n .refusal ≡ numberOf r) × (n .spot ≡ spotOf r)
+    judged-refused r e = let j = rw e at (judged .judged) in (rw (judged .are, j), rw (judged .are, j))
+
+-- ---- banding and judging together: a refusal leaves the list as it was; else as many records stand in it as are reported, and where `on` is 1 the record and
+-- the cover that are named hold the point
+module _ (T : ℤ) (ns : List ℤ) (x y : ℤ) (old : List ℤ) where
+  unaltered : (o : Outcome) → Answered 64 T ns x y old o → (outcomeAnswerOf o .refusal ≡ 0 → ⊥) → writtenFor 64 T ns x y old ≡ old
+  unaltered (Outright r) answered nonzero = refused-unaltered 64 T ns old x y r answered
+  unaltered (Judged a b c (On k i)) answered nonzero = absurd (nonzero refl)
+  unaltered (Judged a b c Off) answered nonzero = absurd (nonzero refl)
+  unaltered (Judged a b c (Refused r)) answered nonzero = absurd (judged-told 64 T ns old x y a b c (Refused r) answered .judged)
+
+  held : (o : Outcome) → Answered 64 T ns x y old o → outcomeAnswerOf o .on ≡ 1
+      → CoverHolds (take (recordLength * outcomeAnswerOf o .leaves) (writtenFor 64 T ns x y old)) (outcomeAnswerOf o .leaf) (outcomeAnswerOf o .cover) x y
+  held (Outright r) answered on = absurd (omega arith)
+  held (Judged a b c j) answered on =
+      let t = judged-told 64 T ns old x y a b c j answered in
+      rw (t .list) (on-held (take (recordLength * b) _) x y none j (t .judged) on)
+
+  module _ (n : OutcomeAnswer) (answered : AnsweredInNumbers T ns x y old n) where
+    pub answered-unaltered : (n .refusal ≡ 0 → ⊥) → writtenFor 64 T ns x y old ≡ old
+    answered-unaltered nonzero = unaltered (answered .outcome) (answered .answered) (rw (answered .are) at nonzero)
+
+    pub answered-held : n .on ≡ 1 → CoverHolds (take (recordLength * n .leaves) (writtenFor 64 T ns x y old)) (n .leaf) (n .cover) x y
+    answered-held on = let e = answered .are in rw e (held (answered .outcome) (answered .answered) (rw e at on))

@@ -1,0 +1,2 @@
+-- What a C caller may conclude from the numbers of an answer.
+pub mod Consequences
