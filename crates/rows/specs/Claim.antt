@@ -1,5 +1,5 @@
--- The claim on the rows (document 01, "Enclosure rows"): each row bounds, at every rational u from 0 to 1 when joined by
--- straight lines, −u(1−u), −u(1−u)(2−u) and −u(1−u)(1+u) respectively.
+-- The claim on the rows (document 01, "Enclosure rows"): each row bounds, at every rational u from 0 to 1 when joined
+-- by straight lines, −u(1−u), −u(1−u)(2−u) and −u(1−u)(1+u) respectively.
 use mathlib.Core.Path.{_≡_}
 use mathlib.Core.List.{[], _∷_}
 use Prim.Native.Nat.{ℕ, _+_, _<_}
@@ -21,7 +21,8 @@ abbrev pub polynomial3Second : (p r : ℤ) → ℤ
 polynomial3Second p r = negℤ (p *ℤ r *ℤ ((p +ℤ r) +ℤ p))
 
 -- ---- the claim
--- The row ρ of degree d bounds the polynomial P at every rational u: u lies on a piece, and wherever it lies the lines bound.
+-- The row ρ of degree d bounds the polynomial P at every rational u: u lies on a piece, and wherever it lies the lines
+-- bound.
 pub record Bounds (ρ : Row) (d : ℕ) (P : (p r : ℤ) → ℤ) : Type 0 where
   pub lies : (p r : ℕ) → 0 < p + r → (i : ℕ) × (a : ℕ) × (b : ℕ) × (i < pieces) × Place pieces i a b p r
   pub holds : (p r : ℕ) → 0 < p + r → (i a b : ℕ) → i < pieces → Place pieces i a b p r

@@ -1,0 +1,47 @@
+// Callers of the functions that `contour` exports to programs in other languages.
+ghost use mathlib.Core.Path.{_≡_};
+ghost use lib.ListN.{length};
+ghost use Rattle.banding.specs.Banding.{banded, written};
+ghost use Rattle.drawing.specs.Drawing.{drawn, drawnInto};
+ghost use Rattle.c_answers.specs.Answers.{answerOf};
+ghost use Rattle.c_answers.specs.Drawings.{drawingOf};
+ghost use Rattle.contour.specs.Answers.{JudgedInNumbers, AnsweredInNumbers};
+use boxes::Box;
+use c_answers::Answer;
+use c_answers::Drawing;
+use c_answers::JudgingAnswer;
+use contour::OutcomeAnswer;
+
+pub fn contour_band(outline: &[i32], tolerance: i32, records: &mut [i32]) -> Answer
+    ensures { λ r. ⌜ (r ≡ answerOf (banded 64 tolerance (now (outline .entry)) (length (now (records .entry)))))
+        × (now (records .exit) ≡ written 64 tolerance (now (outline .entry)) (now (records .entry))) ⌝ }
+{
+    contour::contour_band(outline, tolerance, records)
+}
+
+pub fn contour_judge(leaves: &[i32], x: i32, y: i32) -> JudgingAnswer
+    ensures { λ r. ⌜ JudgedInNumbers (now (leaves .entry)) x y r ⌝ }
+{
+    contour::contour_judge(leaves, x, y)
+}
+
+pub fn contour_band_and_judge(
+    outline: &[i32],
+    tolerance: i32,
+    records: &mut [i32],
+    x: i32,
+    y: i32,
+) -> OutcomeAnswer
+    ensures { λ r. ⌜ (now (records .exit) ≡ written 64 tolerance (now (outline .entry)) (now (records .entry)))
+        × (AnsweredInNumbers tolerance (now (outline .entry))
+        (banded 64 tolerance (now (outline .entry)) (length (now (records .entry)))) (now (records .exit)) x y r) ⌝ }
+{
+    contour::contour_band_and_judge(outline, tolerance, records, x, y)
+}
+
+pub fn contour_draw(first: Box, second: Box, vertices: &mut [i32]) -> Drawing
+    ensures { λ r. ⌜ (r ≡ drawingOf (drawn first second (length (now (vertices .entry)))))
+        × (now (vertices .exit) ≡ drawnInto first second (now (vertices .entry))) ⌝ }
+{
+    contour::contour_draw(first, second, vertices)
+}

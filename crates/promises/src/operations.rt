@@ -1,0 +1,30 @@
+// Callers of banding, judging and drawing.
+ghost use mathlib.Core.Path.{_≡_};
+ghost use lib.ListN.{length};
+ghost use Rattle.banding.specs.Banding.{banded, written};
+ghost use Rattle.judging.specs.Judging.{Judged};
+ghost use Rattle.drawing.specs.Drawing.{drawn, drawnInto};
+use banding::Banded;
+use boxes::Box;
+use drawing::Drawn;
+use judging::Judgement;
+
+pub fn band(outline: &[i32], tolerance: i32, records: &mut [i32]) -> Banded
+    ensures { λ r. ⌜ (r ≡ banded 64 tolerance (now (outline .entry)) (length (now (records .entry))))
+        × (now (records .exit) ≡ written 64 tolerance (now (outline .entry)) (now (records .entry))) ⌝ }
+{
+    band::band(outline, tolerance, records)
+}
+
+pub fn judge(leaves: &[i32], x: i32, y: i32) -> Judgement
+    ensures { λ r. ⌜ Judged 64 (now (leaves .entry)) x y r ⌝ }
+{
+    judge::judge(leaves, x, y)
+}
+
+pub fn draw(first: Box, second: Box, vertices: &mut [i32]) -> Drawn
+    ensures { λ r. ⌜ (r ≡ drawn first second (length (now (vertices .entry))))
+        × (now (vertices .exit) ≡ drawnInto first second (now (vertices .entry))) ⌝ }
+{
+    cover::draw(first, second, vertices)
+}

@@ -1,0 +1,28 @@
+// Callers of the operations that band and judge: the engine's, and the text program's.
+ghost use mathlib.Core.Path.{_≡_};
+ghost use lib.ListN.{length};
+ghost use Rattle.appends.specs.Appends.{Within};
+ghost use Rattle.banding.specs.Banding.{banded, written};
+ghost use Rattle.engine.specs.Outcomes.{Answered};
+ghost use Rattle.answer.specs.Answers.{answerOf};
+use engine::Outcome;
+
+pub fn band_and_judge(
+    outline: &[i32],
+    tolerance: i32,
+    records: &mut [i32],
+    x: i32,
+    y: i32,
+) -> Outcome
+    ensures { λ r. ⌜ (now (records .exit) ≡ written 64 tolerance (now (outline .entry)) (now (records .entry)))
+        × (Answered 64 tolerance (now (outline .entry))
+        (banded 64 tolerance (now (outline .entry)) (length (now (records .entry)))) (now (records .exit)) x y r) ⌝ }
+{
+    engine::band_and_judge(outline, tolerance, records, x, y)
+}
+
+pub fn answer(text: &[u8], out: &mut [u8; 243100]) -> usize
+    ensures { λ r. ⌜ Within (now (out .entry)) 0 243100 (answerOf (now (text .entry))) (now (out .exit)) r ⌝ }
+{
+    answer::answer(text, out)
+}
