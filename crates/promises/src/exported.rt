@@ -5,6 +5,7 @@ ghost use Rattle.banding.specs.Banding.{banded, written};
 ghost use Rattle.drawing.specs.Drawing.{drawn, drawnInto};
 ghost use Rattle.c_answers.specs.Answers.{answerOf};
 ghost use Rattle.c_answers.specs.Drawings.{drawingOf};
+ghost use Rattle.engine.specs.Outcomes.{writtenFor};
 ghost use Rattle.contour.specs.Answers.{JudgedInNumbers, AnsweredInNumbers};
 use boxes::Box;
 use c_answers::Answer;
@@ -32,9 +33,8 @@ pub fn contour_band_and_judge(
     x: i32,
     y: i32,
 ) -> OutcomeAnswer
-    ensures { λ r. ⌜ (now (records .exit) ≡ written 64 tolerance (now (outline .entry)) (now (records .entry)))
-        × (AnsweredInNumbers tolerance (now (outline .entry))
-        (banded 64 tolerance (now (outline .entry)) (length (now (records .entry)))) (now (records .exit)) x y r) ⌝ }
+    ensures { λ r. ⌜ now (records .exit) ≡ writtenFor 64 tolerance (now (outline .entry)) x y (now (records .entry)) ⌝ }
+    ensures { λ r. ⌜ AnsweredInNumbers tolerance (now (outline .entry)) x y (now (records .entry)) r ⌝ }
 {
     contour::contour_band_and_judge(outline, tolerance, records, x, y)
 }

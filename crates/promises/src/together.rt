@@ -1,9 +1,7 @@
 // Callers of the operations that band and judge: the engine's, and the text program's.
 ghost use mathlib.Core.Path.{_≡_};
-ghost use lib.ListN.{length};
 ghost use Rattle.appends.specs.Appends.{Within};
-ghost use Rattle.banding.specs.Banding.{banded, written};
-ghost use Rattle.engine.specs.Outcomes.{Answered};
+ghost use Rattle.engine.specs.Outcomes.{writtenFor, Answered};
 ghost use Rattle.answer.specs.Answers.{answerOf};
 use engine::Outcome;
 
@@ -14,9 +12,8 @@ pub fn band_and_judge(
     x: i32,
     y: i32,
 ) -> Outcome
-    ensures { λ r. ⌜ (now (records .exit) ≡ written 64 tolerance (now (outline .entry)) (now (records .entry)))
-        × (Answered 64 tolerance (now (outline .entry))
-        (banded 64 tolerance (now (outline .entry)) (length (now (records .entry)))) (now (records .exit)) x y r) ⌝ }
+    ensures { λ r. ⌜ now (records .exit) ≡ writtenFor 64 tolerance (now (outline .entry)) x y (now (records .entry)) ⌝ }
+    ensures { λ r. ⌜ Answered 64 tolerance (now (outline .entry)) x y (now (records .entry)) r ⌝ }
 {
     engine::band_and_judge(outline, tolerance, records, x, y)
 }
