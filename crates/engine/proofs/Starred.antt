@@ -1,16 +1,20 @@
 -- The starred examples hold: banding's and drawing's by computation, and judging's for every answer that its promise allows.
 use mathlib.Core.Path.{_≡_, refl, subst}
 use mathlib.Core.Bool.{Bool, true, false}
-use mathlib.Core.List.{List, _∷_, _++_}
+use mathlib.Core.List.{List, [], _∷_, _++_}
 use mathlib.Core.Option.{none}
-use Prim.Native.Nat.{ℕ, zero, suc, _*_, _<_}
+use Prim.Native.Nat.{ℕ, zero, suc, _*_, _≤_, _<_}
 use native.Mathlib.Omega.{arith}
+use borrow.Author.Tests.{le-ltb}
 use lib.Dec.{lit<}
-use lib.ListN.{replicate}
+use lib.ListN.{length, replicate, drop}
 use lib.IntN.{ℤ, pos, pow, one}
+use lib.Signed.{ltZ, leZ, ≤ℤ-refl}
 use Rattle.integers.specs.First.{firstBad}
 use Rattle.integers.specs.Rounding.{floor, ceiling}
 use Rattle.integers.proofs.Clash.{clash}
+use Rattle.integers.proofs.Ranges.{yes-le, no-lt}
+use Rattle.refusals.specs.declared.Refusal.the-variants.{Tolerance, Coordinate, EmptyOutline, TooWide}
 use Rattle.halves.specs.Halves.{triangle, left, right}
 use Rattle.bezier.specs.Halves.{leftHalf, rightHalf}
 use Rattle.bezier.specs.Nodes.{descendIn, descend, depth, nodeCurve}
@@ -25,8 +29,11 @@ use Rattle.records.specs.Records.{recordOf, recordsOf, allRecords}
 use Rattle.passes.specs.Leaves.{firstTooWide, leavesOf, nodesOf}
 use Rattle.banding.specs.Banding.{bandCurves, banded, written}
 use Rattle.boxes.specs.declared.Box.{Box}
-use Rattle.polygon.specs.Polygon.{reached, endsOf, pathPoint, moves, verticesOf, pathOf, vertices, numbers}
-use Rattle.drawing.specs.Drawing.{drawn, drawnInto}
+use Rattle.polygon.specs.declared.Span.{Span}
+use Rattle.polygon.specs.Polygon.{joined, reached, endsOf, pathPoint, moves, verticesOf, pathOf, vertices, numbers}
+use Rattle.drawing.specs.declared.Drawn.the-variants.{Vertices}
+use Rattle.drawing.specs.Drawing.{twoBoxesFault, drawn, drawnInto}
+use Rattle.boxes.specs.Ranges.{inRange}
 use Rattle.leaf_list.specs.Checks.{numberFault}
 use Rattle.held.specs.Covers.{CoverHolds}
 use Rattle.held.specs.Deciding.{held}
@@ -35,7 +42,7 @@ use Rattle.judging.specs.declared.Judgement.{Judgement}
 use Rattle.judging.specs.declared.Judgement.the-variants.{On, Off, Refused}
 use Rattle.judging.specs.Judging.{judgingFault, Verdict, Judged}
 use Rattle.engine.specs.Demand3.{IsOn}
-use Rattle.engine.specs.Starred.{box, A, Starred}
+use Rattle.engine.specs.Starred.{box, A, single, Starred}
 
 -- what the examples of banding compute through
 computing : ℤ → List ℤ → List ℤ → List ℤ
@@ -101,6 +108,45 @@ a-44-leaf = refl
 judged : (y : ℤ) → checked (pos 240) y → (answer : Judgement) → Judged 64 (written 64 (pos 44) A (replicate 18 (pos 0))) (pos 240) y answer → Verdict none leaf (pos 240) y answer
 judged y e answer j = subst (λ o. Verdict o leaf (pos 240) y answer) e (subst (λ rs. Judged 64 rs (pos 240) y answer) a-44-leaf j)
 
+-- ---- equal single points: nothing is less than itself, so every stretch of the path is the point, and it never moves on
+less : (z : ℤ) → ltZ z z ≡ false
+less z = no-lt (≤ℤ-refl z)
+
+at-most : (z : ℤ) → leZ z z ≡ true
+at-most z = yes-le (≤ℤ-refl z)
+
+abbrev alone : ℤ → Span
+alone z = record { low = z; high = z }
+
+joined-alone : (z : ℤ) → joined (alone z) (alone z) ≡ alone z
+joined-alone z = rw (less z)
+
+reached-alone : (l s : ℤ) → reached l l (alone s) (alone s) ≡ alone s
+unfolding reached
+reached-alone l s = rw (reached, less l, less l, joined-alone s)
+
+ends-alone : (l s : ℤ) → endsOf (alone l) (alone l) (alone s) (alone s) ≡ record { levels = alone l; lowest = alone s; highest = alone s }
+unfolding endsOf
+ends-alone l s = rw (endsOf, reached-alone l s, joined-alone l)
+
+module _ (x y : ℤ) where
+  the-vertex : vertices (single x y) (single x y) ≡ record { x = x; y = y } ∷ []
+  unfolding pathPoint moves verticesOf pathOf vertices
+  the-vertex = rw (ends-alone x y, ends-alone y x, at-most x, at-most y)
+
+  module _ (in-x : inRange x ≡ true) (in-y : inRange y ≡ true) (old : List ℤ) (enough : 16 ≤ length old) where
+    no-fault : twoBoxesFault (single x y) (single x y) ≡ none
+    unfolding firstBad
+    no-fault = rw (in-x, at-most x, in-x, in-y, at-most y, in-y, in-x, at-most x, in-x, in-y, at-most y, in-y)
+
+    one-drawn : drawn (single x y) (single x y) (length old) ≡ Vertices 1
+    unfolding drawn
+    one-drawn = rw (drawn, no-fault, le-ltb (length old) 16 enough, the-vertex)
+
+    one-vertex : drawnInto (single x y) (single x y) old ≡ x ∷ y ∷ drop 2 old
+    unfolding drawnInto numbers
+    one-vertex = rw (drawnInto, one-drawn, the-vertex)
+
 pub starred : Starred
 unfolding computing drawing
 starred = record {
@@ -112,16 +158,16 @@ starred = record {
   y-18 = refl;
   line-1 = refl;
   tolerance-2 = refl;
-  tolerance-1 = refl;
+  tolerance-1 = λ outline room. record { refusal = Tolerance; is = refl; numbered = refl; spotted = refl };
   coordinate-passes = refl;
-  coordinate-beyond = refl;
-  empty = refl;
-  too-wide = refl;
-  too-wide-spot = refl;
+  coordinate-beyond = λ room. record { refusal = Coordinate 3; is = refl; numbered = refl; spotted = refl };
+  empty = λ room. record { refusal = EmptyOutline; is = refl; numbered = refl; spotted = refl };
+  too-wide = λ room. record { refusal = TooWide 0 256; is = refl; numbered = refl; spotted = refl };
   six-drawn = refl;
   six-vertices = refl;
   eight-drawn = refl;
-  one-drawn = refl;
+  one-drawn = one-drawn;
+  one-vertex = one-vertex;
   point-on = λ answer j. on answer (judged (pos 363) passes-363 answer j);
   point-off = λ answer j. off answer (judged (pos 364) passes-364 answer j);
 }

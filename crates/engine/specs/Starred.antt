@@ -1,23 +1,34 @@
--- The starred examples of document 01 ("Measured examples" and "Drawing a cover"), in one statement. The lists that are lent hold zeros.
+-- The starred examples of document 01 ("Measured examples" and "Drawing a cover"), in one statement. A refusal is given
+-- by its number and its spot. The lists that are lent hold zeros where nothing else is said.
 use mathlib.Core.Path.{_≡_}
+use mathlib.Core.Bool.{true}
 use mathlib.Core.List.{List, [], _∷_, _++_}
-use Prim.Native.Nat.{ℕ}
-use lib.ListN.{replicate}
+use Prim.Native.Nat.{ℕ, _≤_}
+use lib.ListN.{length, replicate, drop}
 use lib.IntN.{ℤ, pos, negℤ}
-use Rattle.refusals.specs.declared.Refusal.the-variants.{Tolerance, Coordinate, EmptyOutline, TooWide}
-use Rattle.refusals.specs.Refusals.{nodeSpot}
+use Rattle.refusals.specs.declared.Refusal.{Refusal}
+use Rattle.refusals.specs.Refusals.{numberOf, spotOf}
+use Rattle.banding.specs.declared.Banded.{Banded}
 use Rattle.banding.specs.declared.Banded.the-variants.{Done, Refused}
 use Rattle.banding.specs.Banding.{banded, written}
 use Rattle.judging.specs.declared.Judgement.{Judgement}
 use Rattle.judging.specs.declared.Judgement.the-variants.{Off}
 use Rattle.judging.specs.Judging.{Judged}
 use Rattle.boxes.specs.declared.Box.{Box}
+use Rattle.boxes.specs.Ranges.{inRange}
 use Rattle.drawing.specs.declared.Drawn.the-variants.{Vertices}
 use Rattle.drawing.specs.Drawing.{drawn, drawnInto}
 use Rattle.engine.specs.Demand3.{IsOn}
 
 abbrev zeros : ℕ → List ℤ
 zeros n = replicate n (pos 0)
+
+-- banding refuses, and gives this number and this spot
+pub record RefusedWith (number spot : ℕ) (answer : Banded) : Type 0 where
+  pub refusal : Refusal
+  pub is : answer ≡ Refused refusal
+  pub numbered : numberOf refusal ≡ number
+  pub spotted : spotOf refusal ≡ spot
 
 -- the numbers of a box above the x axis, and of one below it
 abbrev pub box : (a b c d : ℕ) → List ℤ
@@ -34,12 +45,20 @@ A = pos 3 ∷ pos 0 ∷ pos 0 ∷ pos 10 ∷ pos 30 ∷ pos 20 ∷ pos 30 ∷ po
 abbrev pub line : ℕ → List ℤ
 line x = pos 1 ∷ pos 0 ∷ pos 0 ∷ pos x ∷ pos 1 ∷ []
 
+-- y 0, 1048576, 1048576, 0, x all 0
+abbrev pub steep : List ℤ
+steep = pos 3 ∷ pos 0 ∷ pos 0 ∷ pos 0 ∷ pos 1048576 ∷ pos 0 ∷ pos 1048576 ∷ pos 0 ∷ pos 0 ∷ []
+
 -- boxes to be drawn: from low to high in x and in y alike; and from −x to x by −y to y
 abbrev pub between : (low high : ℕ) → Box
 between low high = record { «x_low» = pos low; «x_high» = pos high; «y_low» = pos low; «y_high» = pos high }
 
 abbrev pub cross : (x y : ℤ) → Box
 cross x y = record { «x_low» = negℤ x; «x_high» = x; «y_low» = negℤ y; «y_high» = y }
+
+-- the box that is the point (x, y)
+abbrev pub single : (x y : ℤ) → Box
+single x y = record { «x_low» = x; «x_high» = x; «y_low» = y; «y_high» = y }
 
 pub record Starred : Type 0 where
   -- A, T 44: the leaf in the listing
@@ -58,17 +77,16 @@ pub record Starred : Type 0 where
       ≡ pos 0 ∷ pos 1 ∷ box 0 0 0 17 ++ box 0 0 127 144 ++ box 0 0 127 144 ++ box 0 0 0 17
   -- the line 0, 1
   pub line-1 : written 64 (pos 2) (line 0) (zeros 18) ≡ pos 0 ∷ pos 1 ∷ box 0 0 0 0 ++ box 0 0 5 6 ++ box 0 0 10 11 ++ box 0 0 16 16
-  -- T 2 passes, T 1 gives 1
+  -- T 2 passes; T 1 gives 1, whatever the outline
   pub tolerance-2 : banded 64 (pos 2) (line 0) 18 ≡ Done 1 1 1
-  pub tolerance-1 : banded 64 (pos 1) (line 0) 18 ≡ Refused Tolerance
-  -- coordinate 1,048,576 passes its check, 1,048,577 gives 4
+  pub tolerance-1 : (outline : List ℤ) (room : ℕ) → RefusedWith 1 0 (banded 64 (pos 1) outline room)
+  -- coordinate 1,048,576 passes its check, coordinate 1,048,577 gives 4; it stands at index 3
   pub coordinate-passes : banded 64 (pos 2) (line 1048576) 18 ≡ Done 1 1 1
-  pub coordinate-beyond : banded 64 (pos 2) (line 1048577) 18 ≡ Refused (Coordinate 3)
+  pub coordinate-beyond : (room : ℕ) → RefusedWith 4 3 (banded 64 (pos 2) (line 1048577) room)
   -- empty outline: 6
-  pub empty : banded 64 (pos 2) [] 18 ≡ Refused EmptyOutline
+  pub empty : (room : ℕ) → RefusedWith 6 0 (banded 64 (pos 2) [] room)
   -- y 0, 1048576, 1048576, 0 as curve 0, x all 0, T 2: 7, spot 256
-  pub too-wide : banded 64 (pos 2) (pos 3 ∷ pos 0 ∷ pos 0 ∷ pos 0 ∷ pos 1048576 ∷ pos 0 ∷ pos 1048576 ∷ pos 0 ∷ pos 0 ∷ []) 18 ≡ Refused (TooWide 0 256)
-  pub too-wide-spot : nodeSpot 0 256 ≡ 256
+  pub too-wide : (room : ℕ) → RefusedWith 7 256 (banded 64 (pos 2) steep room)
   -- (240 363) is on A's band at T 44, (240 364) off
   pub point-on : (answer : Judgement) → Judged 64 (written 64 (pos 44) A (zeros 18)) (pos 240) (pos 363) answer → IsOn answer
   pub point-off : (answer : Judgement) → Judged 64 (written 64 (pos 44) A (zeros 18)) (pos 240) (pos 364) answer → answer ≡ Off
@@ -77,5 +95,8 @@ pub record Starred : Type 0 where
   pub six-vertices : drawnInto (between 0 1) (between 3 4) (zeros 16) ≡ box 0 0 1 0 ++ box 4 3 4 4 ++ box 3 4 0 1 ++ zeros 4
   -- −10–10 by −1–1 with −1–1 by −10–10: eight
   pub eight-drawn : drawn (cross (pos 10) (pos 1)) (cross (pos 1) (pos 10)) 16 ≡ Vertices 8
-  -- equal single points: one
-  pub one-drawn : drawn (between 7 7) (between 7 7) 16 ≡ Vertices 1
+  -- equal single points, anywhere in range: one, the point itself, and the rest of the list as it was
+  pub one-drawn : (x y : ℤ) → inRange x ≡ true → inRange y ≡ true → (old : List ℤ) → 16 ≤ length old
+      → drawn (single x y) (single x y) (length old) ≡ Vertices 1
+  pub one-vertex : (x y : ℤ) → inRange x ≡ true → inRange y ≡ true → (old : List ℤ) → 16 ≤ length old
+      → drawnInto (single x y) (single x y) old ≡ x ∷ y ∷ drop 2 old
