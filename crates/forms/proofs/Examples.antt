@@ -23,10 +23,6 @@ abbrev measured : List ℕ
 measured = 32 ∷ 40 ∷ 50 ∷ 52 ∷ 48 ∷ 32 ∷ 51 ∷ 54 ∷ 51 ∷ 41 ∷ []
 
 -- ---- forms
-pub tolerance-44 : formAt (tolerance ++ (52 ∷ 52 ∷ end)) 0 ≡ Tolerance (pos 44) 15
-unfolding formAt startsWith toleranceAt numberAt naturalAt valueFrom digitCount
-tolerance-44 = refl
-
 pub point-240-363 : formAt (point ++ measured ++ end) 0 ≡ Point (pos 240) (pos 363) 18
 unfolding formAt startsWith pointAt spacedPairAt pairAt numberThen numberAt naturalAt valueFrom digitCount
 point-240-363 = refl
@@ -34,10 +30,6 @@ point-240-363 = refl
 pub two-points : formAt (curve ++ origin ++ ten-thirty ++ end) 0 ≡ Curve (points (pos 1) (pos 0) (pos 0) (pos 10) (pos 30) (pos 0) (pos 0) (pos 0) (pos 0)) 22
 unfolding formAt startsWith curveAt curveThird curveEnd spacedPairAt pairAt numberThen numberAt naturalAt valueFrom digitCount
 two-points = refl
-
-pub three-points : formAt (curve ++ origin ++ ten-thirty ++ origin ++ end) 0 ≡ Curve (points (pos 2) (pos 0) (pos 0) (pos 10) (pos 30) (pos 0) (pos 0) (pos 0) (pos 0)) 28
-unfolding formAt startsWith curveAt curveThird curveFourth curveEnd spacedPairAt pairAt numberThen numberAt naturalAt valueFrom digitCount
-three-points = refl
 
 pub four-points : formAt (curve ++ origin ++ ten-thirty ++ ten-thirty ++ origin ++ end) 0 ≡ Curve (points (pos 3) (pos 0) (pos 0) (pos 10) (pos 30) (pos 10) (pos 30) (pos 0) (pos 0)) 36
 unfolding formAt startsWith curveAt curveThird curveFourth curveEnd spacedPairAt pairAt numberThen numberAt naturalAt valueFrom digitCount
@@ -72,12 +64,3 @@ not-ended = refl
 pub space-at-end : formAt (point ++ measured ++ (32 ∷ end)) 0 ≡ NoForm
 unfolding formAt startsWith pointAt spacedPairAt pairAt numberThen numberAt naturalAt valueFrom digitCount
 space-at-end = refl
-
--- an empty line, and the end of the text
-pub empty-line : formAt (10 ∷ []) 0 ≡ NoForm
-unfolding formAt startsWith
-empty-line = refl
-
-pub text-over : formAt [] 0 ≡ NoForm
-unfolding formAt startsWith
-text-over = refl

@@ -16,39 +16,10 @@ pub leading-zeros : numberAt (48 ∷ 48 ∷ 55 ∷ []) 0 ≡ Is (pos 0) 1
 unfolding numberAt
 leading-zeros = refl
 
--- −0, −07, a minus alone, two of them, a plus, nothing
+-- −0
 pub minus-zero : numberAt (45 ∷ 48 ∷ []) 0 ≡ Nothing
 unfolding numberAt naturalAt
 minus-zero = refl
-
-pub minus-seven-padded : numberAt (45 ∷ 48 ∷ 55 ∷ []) 0 ≡ Nothing
-unfolding numberAt naturalAt
-minus-seven-padded = refl
-
-pub minus-alone : numberAt (45 ∷ 32 ∷ []) 0 ≡ Nothing
-unfolding numberAt naturalAt
-minus-alone = refl
-
-pub two-minuses : numberAt (45 ∷ 45 ∷ 55 ∷ []) 0 ≡ Nothing
-unfolding numberAt naturalAt
-two-minuses = refl
-
-pub plus-seven : numberAt (43 ∷ 55 ∷ []) 0 ≡ Nothing
-unfolding numberAt naturalAt
-plus-seven = refl
-
-pub text-over : numberAt (55 ∷ []) 1 ≡ Nothing
-unfolding numberAt naturalAt
-text-over = refl
-
--- 360 and −38, with the place after them
-pub three-digits : numberAt (32 ∷ 51 ∷ 54 ∷ 48 ∷ 41 ∷ []) 1 ≡ Is (pos 360) 4
-unfolding numberAt naturalAt valueFrom digitCount
-three-digits = refl
-
-pub below-zero : numberAt (45 ∷ 51 ∷ 56 ∷ 32 ∷ []) 0 ≡ Is (negℤ (pos 38)) 3
-unfolding numberAt naturalAt valueFrom digitCount
-below-zero = refl
 
 -- 2147483647, and one more on either side of zero
 abbrev most : ℕ → List ℕ

@@ -38,31 +38,14 @@ pub least-number : toleranceFine (negℤ (pos 2147483648)) ≡ false
 least-number = refl
 
 -- ---- 6: an empty list, even where no curve may stand
-pub empty : check [] ≡ (6, 0)
-unfolding outlined
-empty = refl
-
 pub empty-none-allowed : answer (outlined 0 []) ≡ (6, 0)
 unfolding outlined
 empty-none-allowed = refl
-
--- ---- 2: the degree, before anything that follows it
-pub degree-four : check (pos 4 ∷ []) ≡ (2, 0)
-unfolding outlined outlineFrom faultAt
-degree-four = refl
-
-pub degree-minus-one : check (negsuc 0 ∷ pos 0 ∷ pos 0 ∷ pos 1 ∷ pos 1 ∷ []) ≡ (2, 0)
-unfolding outlined outlineFrom faultAt
-degree-minus-one = refl
 
 -- ---- 3: the list ends inside a curve, before the coordinates that are there are looked at
 pub cut-short : check (pos 3 ∷ pos 1048577 ∷ pos 0 ∷ []) ≡ (3, 3)
 unfolding outlined outlineFrom faultAt
 cut-short = refl
-
-pub second-cut-short : check (line ++ (pos 1 ∷ pos 0 ∷ [])) ≡ (3, 7)
-unfolding outlined outlineFrom faultAt firstBad
-second-cut-short = refl
 
 -- ---- 4: a coordinate, before the next curve's degree
 pub farthest : check (pos 1 ∷ pos 1048576 ∷ negℤ (pos 1048576) ∷ pos 0 ∷ pos 0 ∷ []) ≡ (0, 1)
@@ -76,10 +59,6 @@ beyond = refl
 pub beyond-below : check (line ++ (pos 1 ∷ pos 0 ∷ pos 0 ∷ pos 0 ∷ negℤ (pos 1048577) ∷ [])) ≡ (4, 9)
 unfolding outlined outlineFrom faultAt firstBad
 beyond-below = refl
-
-pub next-degree : check (line ++ (pos 7 ∷ [])) ≡ (2, 5)
-unfolding outlined outlineFrom faultAt firstBad
-next-degree = refl
 
 -- ---- 5: a curve too many begins, whatever its degree
 pub most-curves : check (lines 64) ≡ (0, 64)
