@@ -1,4 +1,4 @@
--- Demand 3 and the laws behind it, and the starred examples. Each file opens with what it holds.
+-- Demand 3, the laws behind it and what follows from it, and the starred examples. Each file opens with what it holds.
 pub mod Passing
 pub mod Covers
 pub mod Demand3

@@ -1,5 +1,5 @@
--- What a reader must believe of the engine: demand 3 as one claim, what banding and then judging answers, the starred examples, and the numbers of an
--- outcome for the C interface.
+-- What a reader must believe of the engine: demand 3 as one claim, what banding and then judging answers and leaves in
+-- the list, and the starred examples.
 pub mod Demand3
 pub mod Outcomes
 pub mod Starred
