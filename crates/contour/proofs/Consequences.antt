@@ -1,5 +1,5 @@
 -- What a C caller may conclude from the numbers of an answer, so that numbers without a meaning are seen here.
-use mathlib.Core.Path.{_≡_, refl, _∙_, ap}
+use mathlib.Core.Path.{_≡_, refl, sym, _∙_, ap, subst}
 use mathlib.Core.List.{List}
 use mathlib.Core.Option.{Option, none, some}
 use Prim.Native.Nat.{ℕ, _*_}
@@ -33,13 +33,18 @@ module _ (ns : List ℤ) (x y : ℤ) where
 
   module _ (n : JudgingAnswer) (judged : JudgedInNumbers ns x y n) where
     pub judged-held : n .on ≡ 1 → CoverHolds ns (n .leaf) (n .cover) x y
-    judged-held on = let e = judged .are in rw e (on-held (judgingFault 64 ns x y) (judged .judgement) (judged .judged) (rw e at on))
+    judged-held =
+        subst (λ (m : JudgingAnswer). m .on ≡ 1 → CoverHolds ns (m .leaf) (m .cover) x y) (sym (judged .are))
+        (on-held (judgingFault 64 ns x y) (judged .judgement) (judged .judged))
 
     pub judged-refused : (r : Refusal) → judgingFault 64 ns x y ≡ some r → (n .refusal ≡ numberOf r) × (n .spot ≡ spotOf r)
-    judged-refused r e = let j = rw e at (judged .judged) in (rw (judged .are, j), rw (judged .are, j))
+    judged-refused r e =
+        let j = subst (λ f. Verdict f ns x y (judged .judgement)) e (judged .judged) in
+        let a : n ≡ judgingAnswerOf (Refused r) = judged .are ∙ ap judgingAnswerOf j in
+        (ap (λ m. m .refusal) a, ap (λ m. m .spot) a)
 
--- ---- banding and judging together: a refusal leaves the list as it was; else as many records stand in it as are reported, and where `on` is 1 the record and
--- the cover that are named hold the point
+-- ---- banding and judging together: a refusal leaves the list as it was; else as many records stand in it as are reported, and where `on` is 1
+-- the record and the cover that are named hold the point
 module _ (T : ℤ) (ns : List ℤ) (x y : ℤ) (old : List ℤ) where
   unaltered : (o : Outcome) → Answered 64 T ns x y old o → (outcomeAnswerOf o .refusal ≡ 0 → ⊥) → writtenFor 64 T ns x y old ≡ old
   unaltered (Outright r) answered nonzero = refused-unaltered 64 T ns old x y r answered
@@ -48,7 +53,7 @@ module _ (T : ℤ) (ns : List ℤ) (x y : ℤ) (old : List ℤ) where
   unaltered (Judged a b c (Refused r)) answered nonzero = absurd (judged-told 64 T ns old x y a b c (Refused r) answered .judged)
 
   held : (o : Outcome) → Answered 64 T ns x y old o → outcomeAnswerOf o .on ≡ 1
-      → CoverHolds (take (recordLength * outcomeAnswerOf o .leaves) (writtenFor 64 T ns x y old)) (outcomeAnswerOf o .leaf) (outcomeAnswerOf o .cover) x y
+      → let n = outcomeAnswerOf o in CoverHolds (take (recordLength * n .leaves) (writtenFor 64 T ns x y old)) (n .leaf) (n .cover) x y
   held (Outright r) answered on = absurd (omega arith)
   held (Judged a b c j) answered on =
       let t = judged-told 64 T ns old x y a b c j answered in
@@ -56,7 +61,11 @@ module _ (T : ℤ) (ns : List ℤ) (x y : ℤ) (old : List ℤ) where
 
   module _ (n : OutcomeAnswer) (answered : AnsweredInNumbers T ns x y old n) where
     pub answered-unaltered : (n .refusal ≡ 0 → ⊥) → writtenFor 64 T ns x y old ≡ old
-    answered-unaltered nonzero = unaltered (answered .outcome) (answered .answered) (rw (answered .are) at nonzero)
+    answered-unaltered =
+        subst (λ (m : OutcomeAnswer). (m .refusal ≡ 0 → ⊥) → writtenFor 64 T ns x y old ≡ old) (sym (answered .are))
+        (unaltered (answered .outcome) (answered .answered))
 
     pub answered-held : n .on ≡ 1 → CoverHolds (take (recordLength * n .leaves) (writtenFor 64 T ns x y old)) (n .leaf) (n .cover) x y
-    answered-held on = let e = answered .are in rw e (held (answered .outcome) (answered .answered) (rw e at on))
+    answered-held =
+        subst (λ (m : OutcomeAnswer). m .on ≡ 1 → CoverHolds (take (recordLength * m .leaves) (writtenFor 64 T ns x y old)) (m .leaf) (m .cover) x y)
+        (sym (answered .are)) (held (answered .outcome) (answered .answered))

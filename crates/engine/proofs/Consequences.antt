@@ -1,4 +1,4 @@
--- What a caller may conclude from the promises of this crate. Each law uses a definition in which the promises end, so that a weaker one is seen here.
+-- What a caller may conclude from the promises of this crate. Each law uses a definition in which they end, so that a weaker one is seen here.
 use mathlib.Core.Path.{_≡_, refl, sym, _∙_, subst}
 use mathlib.Core.List.{List, [], _∷_}
 use mathlib.Core.Option.{Option, none, some}
@@ -83,9 +83,11 @@ near-in-reach : (T : ℤ) (d p r : ℕ) (cs : List ℤ) → Each 1048576 cs → 
 near-in-reach T d p r cs each nonzero z near =
     let w = pow (pos (p + r)) d in
     let v = value (pos p) (pos r) d cs in
+    let low = value-low p r 1048576 d cs each in
+    let high = value-high p r 1048576 d cs each in
     let positive = pow-positive (pos-lt nonzero) d in (
-      *ℤ-cancel positive (le-by (w ∷ v ∷ z ∷ T ∷ []) (gap (near .below) +₀ natural 16 ×₀ gap (value-low p r 1048576 d cs each)) (search sides depth 20) refl),
-      *ℤ-cancel positive (le-by (w ∷ v ∷ z ∷ T ∷ []) (gap (near .above) +₀ natural 16 ×₀ gap (value-high p r 1048576 d cs each)) (search sides depth 20) refl),
+      *ℤ-cancel positive (le-by (w ∷ v ∷ z ∷ T ∷ []) (gap (near .below) +₀ natural 16 ×₀ gap low) (search sides depth 20) refl),
+      *ℤ-cancel positive (le-by (w ∷ v ∷ z ∷ T ∷ []) (gap (near .above) +₀ natural 16 ×₀ gap high) (search sides depth 20) refl),
     )
 
 pub somewhere-in-reach : (most : ℕ) (T : ℤ) (ns : List ℤ) (x y : ℤ) → Somewhere most T ns x y → Reach T x × Reach T y
@@ -133,7 +135,8 @@ half-way = record { in-x = refl; in-y = refl }
 
 pub half-way-on : (T : ℤ) (old : List ℤ) (a b c : ℕ) → banded 64 T A (length old) ≡ Done a b c
     → (answer : Judgement) → JudgedSo 64 (take (recordLength * b) (written 64 T A old)) (pos 240) (pos 360) answer → IsOn answer
-half-way-on T old a b c done answer judged = claim 64 T A old a b c done (pos 240) (pos 360) answer judged .every-point-on 0 curveA of-a 1 1 (lit< tt) half-way
+half-way-on T old a b c done answer judged =
+    claim 64 T A old a b c done (pos 240) (pos 360) answer judged .every-point-on 0 curveA of-a 1 1 (lit< tt) half-way
 
 -- ---- the premise of the depth claim where both its sides are equal: y 0, 0, 125 has M = 125, and 178 × 125 = 125 × (180 − 2)
 abbrev bow : Curve

@@ -1,4 +1,4 @@
--- A form has one spelling: where it is read at the same place of two texts, the bytes up to its end are the same. It is what the lines of a form are for.
+-- A form has one spelling: where it is read at the same place of two texts, the bytes up to its end are the same.
 use mathlib.Core.Path.{_≡_, sym, _∙_, ap, subst}
 use mathlib.Core.List.{List}
 use Prim.Native.Nat.{ℕ, _-_}
