@@ -2,6 +2,8 @@
 
 use std::env;
 use std::io::{self, Read, Write};
+use std::os::fd::OwnedFd;
+use std::os::unix::net::UnixStream;
 use std::path::{Path, PathBuf};
 use std::process::{Child, Command, ExitStatus, Stdio};
 use std::sync::mpsc::{channel, RecvTimeoutError};
@@ -55,12 +57,48 @@ pub fn run(program: &Path, text: &[u8]) -> Run {
 /// Runs the program on a text that comes in pieces, with a pause after each.
 pub fn run_on_pieces(program: &Path, pieces: &[&[u8]]) -> Run {
     watch(Command::new(program).stdout(Stdio::piped()), PATIENCE, |input| {
-        for piece in pieces {
-            input.write_all(piece)?;
-            thread::sleep(Duration::from_millis(1));
-        }
-        Ok(())
+        give_pieces(input, pieces, Duration::from_millis(1))
     })
+}
+
+/// The same through a stream at which no read waits: it fails where nothing has come yet.
+pub fn run_on_pieces_unready(program: &Path, pieces: &[&[u8]]) -> Run {
+    let (mut input, theirs) = UnixStream::pair().expect("two ends of a stream");
+    theirs.set_nonblocking(true).expect("a stream need not wait");
+    let mut command = Command::new(program);
+    command.stdin(OwnedFd::from(theirs)).stdout(Stdio::piped());
+    let child = spawn(&mut command);
+    // Only the program holds its end from here on.
+    drop(command);
+    attend(child, PATIENCE, move || give_pieces(&mut input, pieces, Duration::from_millis(15)))
+}
+
+/// Runs the program on a text while what it prints goes to a stream that is full and at which no write waits.
+/// Somebody reads it only after a while. What was printed is what came after the stuffing.
+pub fn run_to_unready(program: &Path, text: &[u8]) -> Run {
+    let (mut ours, mut theirs) = UnixStream::pair().expect("two ends of a stream");
+    theirs.set_nonblocking(true).expect("a stream need not wait");
+    let mut stuffing = 0;
+    while let Ok(count) = theirs.write(&[b'.'; 4096]) {
+        stuffing += count;
+    }
+    let reader = thread::spawn(move || {
+        thread::sleep(Duration::from_millis(50));
+        let mut all = Vec::new();
+        ours.read_to_end(&mut all).expect("the stream can be read");
+        all.split_off(stuffing)
+    });
+    // The command is dropped here, and with it the last end that can be written to.
+    let run = run_command(Command::new(program).stdout(OwnedFd::from(theirs)), text);
+    Run { printed: reader.join().expect("the reader does not panic"), ..run }
+}
+
+fn give_pieces(input: &mut dyn Write, pieces: &[&[u8]], pause: Duration) -> io::Result<()> {
+    for piece in pieces {
+        input.write_all(piece)?;
+        thread::sleep(pause);
+    }
+    Ok(())
 }
 
 /// Runs a command on a text. The caller says where its standard output goes.
@@ -73,7 +111,7 @@ pub fn run_unread(command: &mut Command, text: &[u8]) -> Run {
     let mut child = start(command.stdout(Stdio::piped()));
     // It has not read its text yet, so it has printed nothing.
     drop(child.stdout.take());
-    attend(child, PATIENCE, |input| input.write_all(text))
+    attend_fed(child, PATIENCE, |input| input.write_all(text))
 }
 
 /// Starts a command, gives it its standard input, and ends it where it takes too long.
@@ -82,17 +120,31 @@ fn watch(
     patience: Duration,
     give: impl FnOnce(&mut dyn Write) -> io::Result<()>,
 ) -> Run {
-    attend(start(command), patience, give)
+    attend_fed(start(command), patience, give)
 }
 
 fn start(command: &mut Command) -> Child {
+    spawn(command.stdin(Stdio::piped()))
+}
+
+fn spawn(command: &mut Command) -> Child {
     let name = format!("{command:?}");
-    let spawned = command.stdin(Stdio::piped()).stderr(Stdio::piped()).spawn();
+    let spawned = command.stderr(Stdio::piped()).spawn();
     spawned.unwrap_or_else(|error| panic!("{name} does not start: {error}"))
 }
 
-fn attend(mut child: Child, patience: Duration, give: impl FnOnce(&mut dyn Write) -> io::Result<()>) -> Run {
+/// Attends to a run whose standard input is a pipe.
+fn attend_fed(
+    mut child: Child,
+    patience: Duration,
+    give: impl FnOnce(&mut dyn Write) -> io::Result<()>,
+) -> Run {
     let mut input = child.stdin.take().expect("standard input is a pipe");
+    attend(child, patience, move || give(&mut input))
+}
+
+/// Gives a run its input, which ends with the call, and ends the run where it takes too long.
+fn attend(mut child: Child, patience: Duration, give: impl FnOnce() -> io::Result<()>) -> Run {
     let output = child.stdout.take();
     let mut errors = child.stderr.take().expect("standard error is a pipe");
     let child = Mutex::new(child);
@@ -107,9 +159,8 @@ fn attend(mut child: Child, patience: Duration, give: impl FnOnce(&mut dyn Write
             late
         });
         // A program that has ended, or been ended, reads no further.
-        let given = give(&mut input);
+        let given = give();
         assert!(given.as_ref().is_ok() || given.is_err_and(|e| e.kind() == io::ErrorKind::BrokenPipe));
-        drop(input);
         let (mut printed, mut complaints) = (Vec::new(), Vec::new());
         if let Some(mut output) = output {
             output.read_to_end(&mut printed).expect("standard output can be read");

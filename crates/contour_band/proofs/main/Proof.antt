@@ -1,50 +1,56 @@
--- `contour_band::main` meets its contract: what it writes is what stands at the front of the list.
+-- `contour_band::main` runs without a fault: the text that it answers is what was read.
 use mathlib.Core.Path.{sym}
-use Prim.Native.Nat.{ℕ}
-use lib.ListN.{length-replicate}
 use lib.Seq.{length-take-le}
-use Rattle.appends.proofs.Appends.{within-fits}
+use Rattle.contour_band.proofs.Steps.{text-fits}
 use borrow.Author.Needs.{needs}
 use Rattle.contour_band.proofs.main.Statement.{statement}
 use Rattle.contour_band.proofs.main.Tie as tie
 
-slice-aggregate-read-full : tie.Need-slice-aggregate-read-full
-slice-aggregate-read-full c = search needs
+slice-aggregate-read-text : tie.Need-slice-aggregate-read-text
+slice-aggregate-read-text c = search needs
 
-read-full-requires : tie.Need-read-full-requires
-read-full-requires c κs = search needs
+read-text-requires : tie.Need-read-text-requires
+read-text-requires c κs = search needs
+
+enum-known-input : tie.Need-enum-known-input
+enum-known-input c = search needs
 
 array-share-prefix-text : tie.Need-array-share-prefix-text
-array-share-prefix-text c = search needs
+array-share-prefix-text c = search text-fits
 
-slice-aggregate-answer : tie.Need-slice-aggregate-answer
-slice-aggregate-answer c = search needs
+slice-aggregate-put-answer : tie.Need-slice-aggregate-put-answer
+slice-aggregate-put-answer c = sym (length-take-le _ _ (array-share-prefix-text (c .before)))
 
-answer-requires : tie.Need-answer-requires
-answer-requires c κs = search needs
+put-answer-requires : tie.Need-put-answer-requires
+put-answer-requires c κs = search needs
 
-array-share-prefix-out : tie.Need-array-share-prefix-out
-array-share-prefix-out c = within-fits _ _ _ 243100 _ (c .answer .ensures) (length-replicate {A = ℕ} 243100 0)
+enum-told : tie.Need-enum-told
+enum-told c = search needs
 
-slice-aggregate-write-all : tie.Need-slice-aggregate-write-all
-slice-aggregate-write-all c = sym (length-take-le _ _ (array-share-prefix-out (c .before)))
+slice-aggregate-fail : tie.Need-slice-aggregate-fail
+slice-aggregate-fail c = search needs
 
-write-all-requires : tie.Need-write-all-requires
-write-all-requires c κs = search needs
+fail-requires : tie.Need-fail-requires
+fail-requires c κs = search needs
 
 returns : tie.Need-returns
 returns c = search needs
+
+returns-2 : tie.Need-returns-2
+returns-2 c = search needs
 
 pub main-spec : {M : Type 1} → statement M
 main-spec =
     tie.close
     (tie.spec
-    slice-aggregate-read-full
-    read-full-requires
+    slice-aggregate-read-text
+    read-text-requires
+    enum-known-input
     array-share-prefix-text
-    slice-aggregate-answer
-    answer-requires
-    array-share-prefix-out
-    slice-aggregate-write-all
-    write-all-requires
-    returns)
+    slice-aggregate-put-answer
+    put-answer-requires
+    enum-told
+    slice-aggregate-fail
+    fail-requires
+    returns
+    returns-2)

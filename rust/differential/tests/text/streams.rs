@@ -1,6 +1,8 @@
 //! Where the text comes from and where the answer goes.
 
-use differential::program::{path, run_command, run_on_pieces, run_unread, Run};
+use differential::program::{
+    path, run_command, run_on_pieces, run_on_pieces_unready, run_to_unready, run_unread, Run,
+};
 use differential::random::Random;
 use differential::text::Comparison;
 use differential::texts::{text, LISTING};
@@ -11,6 +13,14 @@ use std::process::{Command, Stdio};
 
 /// The signal that ends a program which prints to a pipe that nobody reads.
 const BROKEN_PIPE: i32 = 13;
+
+/// What it says where it cannot read, before the system's words for why.
+const UNREAD: &str =
+    "contour_band: no answer; give it a text that can be read. Reading standard input failed: ";
+
+/// What it says where it cannot write.
+const UNWRITTEN: &str =
+    "contour_band: no whole answer; give it an output that takes it. Writing standard output failed: ";
 
 /// A shell that does something before it becomes the program.
 fn shell(script: &str) -> Command {
@@ -36,6 +46,13 @@ fn ends_quietly(run: &Run) {
         run.hung,
         run.complaints.escape_ascii()
     );
+}
+
+/// Ended by itself, in time, after one line on standard error.
+fn says(run: &Run, what: &str, why: &str) {
+    let line = format!("{what}{why}\n");
+    assert_eq!(run.complaints.escape_ascii().to_string(), line.escape_default().to_string());
+    assert!(!run.hung && run.status.success(), "ended with {}, hung: {}", run.status, run.hung);
 }
 
 #[test]
@@ -76,19 +93,61 @@ fn an_input_without_end_is_too_long() {
 }
 
 #[test]
-fn it_ends_quietly_where_nobody_reads_the_answer() {
+fn a_text_may_come_where_no_read_waits() {
+    let mut comparison = Comparison::new("texts, in pieces to a stream that is not ready");
+    let long = long();
+    for text in [LISTING, b"", &long] {
+        let (first, second) = text.split_at(text.len() / 2);
+        let run = run_on_pieces_unready(&path(), &[b"", first, second]);
+        comparison.check(text, &run, &plain::text::answer(text));
+    }
+    comparison.report();
+}
+
+#[test]
+fn an_answer_may_go_where_no_write_waits() {
+    let mut comparison = Comparison::new("texts, to a stream that is full");
     for text in [LISTING, b"", &long()] {
-        ends_quietly(&run_unread(&mut Command::new(path()), text));
-        ends_quietly(&run_unread(&mut shell("trap '' PIPE; exec \"$0\""), text));
+        comparison.check(text, &run_to_unready(&path(), text), &plain::text::answer(text));
+    }
+    comparison.report();
+}
+
+#[test]
+fn what_cannot_be_read_is_said_and_not_answered() {
+    for (input, why) in [("</", "Is a directory"), ("<&-", "Bad file descriptor")] {
+        let run = run_command(shell(&format!("exec \"$0\" {input}")).stdout(Stdio::piped()), b"");
+        says(&run, UNREAD, why);
+        assert!(run.printed.is_empty(), "{input}: {}", run.printed.escape_ascii());
     }
 }
 
 #[test]
-fn it_ends_quietly_where_the_answer_cannot_be_written() {
+fn a_small_stack_is_enough() {
+    let mut comparison = Comparison::new("texts, on a stack of 512 KiB");
+    for text in [LISTING, &long()] {
+        let run = run_command(shell("ulimit -s 512; exec \"$0\"").stdout(Stdio::piped()), text);
+        comparison.check(text, &run, &plain::text::answer(text));
+    }
+    comparison.report();
+}
+
+#[test]
+fn it_ends_quietly_where_nobody_reads_the_answer() {
     for text in [LISTING, b"", &long()] {
-        ends_quietly(&run_command(shell("exec \"$0\" >&-").stdout(Stdio::null()), text));
+        ends_quietly(&run_unread(&mut Command::new(path()), text));
+    }
+}
+
+#[test]
+fn what_cannot_be_written_is_said() {
+    for text in [LISTING, b"", &long()] {
+        // Where the broken pipe does not end it.
+        says(&run_unread(&mut shell("trap '' PIPE; exec \"$0\""), text), UNWRITTEN, "Broken pipe");
+        let run = run_command(shell("exec \"$0\" >&-").stdout(Stdio::null()), text);
+        says(&run, UNWRITTEN, "Bad file descriptor");
         let full = File::options().write(true).open("/dev/full").expect("a full device");
-        ends_quietly(&run_command(Command::new(path()).stdout(full), text));
+        says(&run_command(Command::new(path()).stdout(full), text), UNWRITTEN, "No space left on device");
     }
 }
 

@@ -1,0 +1,2 @@
+-- Laws of the steps that the program's loops make.
+mod Steps
