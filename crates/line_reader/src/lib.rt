@@ -1,7 +1,9 @@
-// The line reader: the text that it was lent, and how far it has read. The functions over it are thin, since each is proved by a walk of its code; the reading
-// itself is `form_reading::form_at`. Other crates call `line_from`, whose parameters are plain.
+// The line reader: the text that it was lent, and how far it has read. The functions over it are thin, since each is
+// proved by a walk of its code; the reading itself is `form_reading::form_at`. Other crates call `line_from`, whose
+// parameters are plain.
 ghost use mathlib.Core.Path.{_≡_};
 ghost use Rattle.forms.specs.Forms.{formAt};
+ghost use Rattle.line_reader.specs.Reading.{placeAfter};
 use forms::Form;
 
 pub struct LineReader<'a> {
@@ -23,9 +25,31 @@ pub fn next<'a>(reader: LineReader<'a>) -> Form
     form_reading::form_at(reader.text, reader.read)
 }
 
+// The reader after a line that it read, of the same text.
+pub fn after<'a>(reader: LineReader<'a>, line: Form) -> LineReader<'a>
+    ensures { λ r. ⌜ (r .text ≡ reader .entry .text) × (r .read ≡ placeAfter line (reader .entry .read)) ⌝ }
+{
+    LineReader {
+        text: reader.text,
+        read: place_after(line, reader.read),
+    }
+}
+
 // The line that starts at a place, read by a reader. Every text and every place may be asked about.
 pub fn line_from(text: &[u8], at: usize) -> Form
     ensures { λ r. ⌜ r ≡ formAt (now (text .entry)) at ⌝ }
 {
     next(new(text, at))
+}
+
+// Where reading goes on after a line that started at a place.
+fn place_after(line: Form, at: usize) -> usize
+    ensures { λ r. ⌜ r ≡ placeAfter line at ⌝ }
+{
+    match line {
+        Form::Tolerance(_, next) => next,
+        Form::Curve(_, next) => next,
+        Form::Point(_, _, next) => next,
+        Form::NoForm => at,
+    }
 }
