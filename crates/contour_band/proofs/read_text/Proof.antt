@@ -1,4 +1,5 @@
--- `contour_band::read_text` meets its contract. The loop's invariant: the bytes read lie within the list, whose length stays. The measure is the turns that are left.
+-- `contour_band::read_text` meets its contract. The loop's invariant: the bytes read lie within the list, whose length stays. The measure is the
+-- turns that are left.
 use mathlib.Core.Path.{_≡_}
 use Prim.Native.Nat.{_≤_}
 use lib.ListN.{length}

@@ -1,5 +1,4 @@
 -- `contour_band::write_all` runs without a fault. The loop's invariant: no more is written than there is. The measure is the turns that are left.
-use mathlib.Core.Path.{_≡_}
 use Prim.Native.Nat.{_≤_}
 use lib.ListN.{length}
 use native.Mathlib.Omega.{arith}

@@ -1,0 +1,2 @@
+-- Laws of the checks of lines.
+mod Checking

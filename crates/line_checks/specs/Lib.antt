@@ -1,0 +1,2 @@
+-- What the contracts of `line_checks` cite.
+pub mod Inside
