@@ -1,9 +1,10 @@
 -- The search for the first bad place, up to an end: one place at a time, in two parts, and what it says where it finds none.
 use mathlib.Core.Path.{_≡_, refl, subst}
+use mathlib.Core.Logic.{⊎-elim}
 use mathlib.Core.Bool.{Bool, true, false}
 use mathlib.Core.Option.{Option, none, some}
 use Prim.Native.Nat.{ℕ, zero, suc, _+_, _-_, _≤_, _<_}
-use native.Mathlib.Nat.{add-zero, zero-add}
+use native.Mathlib.Nat.{add-zero, zero-add, eq-or-lt-of-le}
 use native.Mathlib.Omega.{arith}
 use Rattle.integers.specs.First.{firstBad}
 use Rattle.integers.proofs.Clash.{clash}
@@ -107,3 +108,13 @@ bad-is fine (suc n) i j e = go (fine i) refl (firstBad fine n (i + 1)) (λ f. ba
     go : (t : Bool) → fine i ≡ t → (o : Option ℕ) → (o ≡ some j → fine j ≡ false) → _≡_ {A = Option ℕ} (elim t [ true ↦ o | false ↦ some i ]) (some j) → fine j ≡ false
     go true g o h f = h f
     go false g o h f = let l : i ≡ j = cc in subst (λ k. fine k ≡ false) l g
+
+-- ---- and every place before it is fine
+pub bad-first : (fine : ℕ → Bool) (n i j : ℕ) → firstBad fine n i ≡ some j → (k : ℕ) → i ≤ k → k < j → fine k ≡ true
+unfolding firstBad
+bad-first fine zero i j e k l h = clash (cc)
+bad-first fine (suc n) i j e k l h = go (fine i) refl (firstBad fine n (i + 1)) (λ f m. bad-first fine n (i + 1) j f k m h) e
+  where
+    go : (t : Bool) → fine i ≡ t → (o : Option ℕ) → (o ≡ some j → i + 1 ≤ k → fine k ≡ true) → _≡_ {A = Option ℕ} (elim t [ true ↦ o | false ↦ some i ]) (some j) → fine k ≡ true
+    go true g o again f = ⊎-elim (λ m. subst (λ q. fine q ≡ true) m g) (λ m. again f (omega arith)) (eq-or-lt-of-le {n = i} {m = k} l)
+    go false g o again f = let m : i ≡ j = cc in absurd (omega arith)

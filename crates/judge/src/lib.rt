@@ -1,9 +1,11 @@
 // Judging: whether a point lies on the band that a leaf list describes.
 ghost use Rattle.judging.specs.Judging.{Judged};
+ghost use Rattle.judging.specs.Searching.{Passed};
 use judging::Judgement;
 use refusals::Refusal;
 
-// Judges the point (x, y), in sixteenths, against a list of leaf records. Every list and every point may be asked about.
+// Judges the point (x, y), in sixteenths, against a list of leaf records: on, with the first record of the list that holds it and in
+// this the lowest cover; off; or the first fault. Every list and every point may be asked about.
 pub fn judge(leaves: &[i32], x: i32, y: i32) -> Judgement
     ensures { λ r. ⌜ Judged 64 (now (leaves .entry)) x y r ⌝ }
 {
@@ -17,6 +19,14 @@ pub fn judge(leaves: &[i32], x: i32, y: i32) -> Judgement
     if bad < leaves.len() {
         return Judgement::Refused(Refusal::LeafListNumber(bad));
     }
+    judge_point(leaves, x, y)
+}
+
+// The same of a list that has passed checks 9 and 10: check 11, and the first record and cover that hold the point.
+pub fn judge_point(leaves: &[i32], x: i32, y: i32) -> Judgement
+    requires { ⌜ Passed 64 (now leaves) ⌝ }
+    ensures { λ r. ⌜ Judged 64 (now (leaves .entry)) x y r ⌝ }
+{
     if !boxes::in_range(x) {
         return Judgement::Refused(Refusal::PointX);
     }

@@ -63,20 +63,21 @@ module _ (most : ℕ) (ns : List ℤ) (x y : ℤ) where
       numbers-fine = place-none (inList most ns) (length ns) all
 
       pub passed : Passed most ns
-      passed = record { whole = whole; numbers = numbers-fine }
+      passed = record { whole = length-fine; numbers = numbers-fine }
 
-      -- ---- 11
-      pub x-bad : inRange x ≡ false → judgingFault most ns x y ≡ some PointX
-      unfolding judgingFault
-      x-bad e = rw (judgingFault, length-fine, numbers-fine, e)
+  -- ---- 11, of a list that passed
+  module _ (p : Passed most ns) where
+    pub x-bad : inRange x ≡ false → judgingFault most ns x y ≡ some PointX
+    unfolding judgingFault
+    x-bad e = rw (judgingFault, p .whole, p .numbers, e)
 
-      pub y-bad : inRange x ≡ true → inRange y ≡ false → judgingFault most ns x y ≡ some PointY
-      unfolding judgingFault
-      y-bad e f = rw (judgingFault, length-fine, numbers-fine, e, f)
+    pub y-bad : inRange x ≡ true → inRange y ≡ false → judgingFault most ns x y ≡ some PointY
+    unfolding judgingFault
+    y-bad e f = rw (judgingFault, p .whole, p .numbers, e, f)
 
-      pub none-bad : inRange x ≡ true → inRange y ≡ true → judgingFault most ns x y ≡ none
-      unfolding judgingFault
-      none-bad e f = rw (judgingFault, length-fine, numbers-fine, e, f)
+    pub none-bad : inRange x ≡ true → inRange y ≡ true → judgingFault most ns x y ≡ none
+    unfolding judgingFault
+    none-bad e f = rw (judgingFault, p .whole, p .numbers, e, f)
 
   -- ---- the answer
   pub judged-refused : (r : Refusal) → judgingFault most ns x y ≡ some r → Judged most ns x y (Refused r)

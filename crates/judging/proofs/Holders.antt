@@ -16,7 +16,7 @@ use Rattle.integers.specs.First.{firstBad}
 use Rattle.integers.proofs.Clash.{clash}
 use Rattle.integers.proofs.Size.{abs-within}
 use Rattle.integers.proofs.Between.{between-low, between-high}
-use Rattle.integers.proofs.First.{none-bad, bad-none, bad-is}
+use Rattle.integers.proofs.First.{none-bad, bad-none, bad-is, bad-first}
 use Rattle.integers.proofs.Both.{both-true}
 use Rattle.boxes.specs.declared.Box.{Box}
 use Rattle.boxes.specs.Ranges.{farthest, inRange, lowFine, boxNumberFine, placeOr}
@@ -25,11 +25,13 @@ use Rattle.boxes.proofs.Faults.{place-some, place-none}
 use Rattle.leaf_list.specs.Checks.{numberFault}
 use Rattle.leaf_list.specs.Parts.{fineAt, recordFaultAt}
 use Rattle.leaf_list.proofs.Numbers.{gone-on, found-first, inList}
+use Rattle.held.specs.Covers.{CoverHolds}
 use Rattle.held.specs.Deciding.{BoxInRange, held}
 use Rattle.held.proofs.Deciding.{held-exactly}
 use Rattle.judging.specs.declared.Judgement.the-variants.{On, Off}
 use Rattle.judging.specs.Judging.{Verdict}
 use Rattle.judging.specs.Searching.{Passed, RecordAt, heldAt, holderAt}
+use Rattle.judging.proofs.Judgements.{whole-of}
 
 pub range-size : (z : ℤ) → inRange z ≡ true → natAbs z ≤ farthest
 range-size z e = abs-within farthest z (between-low (negℤ (pos farthest)) (pos farthest) z e) (between-high (negℤ (pos farthest)) (pos farthest) z e)
@@ -109,6 +111,13 @@ module _ (ns : List ℤ) (x y : ℤ) (at : ℕ) where
       let s = place-some covers (holderAt ns x y at) (subst (λ k. k < covers) e h) in
       not-false (heldAt ns x y at i) (bad-is missed covers 0 i (s ∙ ap some (sym e)))
 
+  -- no lower cover does
+  pub holder-first : (i : ℕ) → i ≡ placeOr covers (holderAt ns x y at) → i < covers → (q : ℕ) → q < i → heldAt ns x y at q ≡ false
+  unfolding holderAt
+  holder-first i e h q l =
+      let s = place-some covers (holderAt ns x y at) (subst (λ k. k < covers) e h) in
+      not-true (heldAt ns x y at q) (bad-first missed covers 0 i (s ∙ ap some (sym e)) q (omega arith) l)
+
   pub holder-none : covers ≤ placeOr covers (holderAt ns x y at) → (i : ℕ) → i < covers → heldAt ns x y at i ≡ false
   unfolding holderAt
   holder-none h i l =
@@ -121,7 +130,7 @@ module _ {most : ℕ} {ns : List ℤ} (passed : Passed most ns) where
   pub record-passed : (at : ℕ) → at % recordLength ≡ 0 → at < length ns → RecordAt most ns at
   unfolding recordFaultAt numberFault
   record-passed at e h =
-      let w = passed .whole in
+      let w = whole-of (length ns) (passed .whole) in
       let inside : at + recordLength ≤ length ns = omega arith in
       record { inside = inside; fine = bad-none (fineAt most ns at) recordLength 0 (λ k l. each k l inside) }
     where
@@ -143,6 +152,12 @@ pub searched-none : (ns : List ℤ) (x y : ℤ) → Searched ns x y 0 0
 searched-none ns x y = record { begins = refl; no-cover = λ k i h l. absurd (omega arith) }
 
 module _ {ns : List ℤ} {x y : ℤ} {at leaf : ℕ} (s : Searched ns x y at leaf) where
+  not-held : (k i : ℕ) → heldAt ns x y (recordLength * k) i ≡ false → CoverHolds ns k i x y → ⊥
+  not-held k i e c = both e (held-exactly (boxAtIndex ns (boxIndex k i)) (boxAtIndex ns (boxIndex k (suc i))) x y .1 c)
+    where
+      both : {b : Bool} → b ≡ false → b ≡ true → ⊥
+      both f t = clash (cc)
+
   pub begins-whole : at % recordLength ≡ 0
   begins-whole = let b = s .begins in omega arith
 
@@ -157,19 +172,14 @@ module _ {ns : List ℤ} {x y : ℤ} {at leaf : ℕ} (s : Searched ns x y at lea
 
   pub found-on : (i : ℕ) → at < length ns → i ≡ placeOr covers (holderAt ns x y at) → i < covers → Verdict none ns x y (On leaf i)
   found-on i h e l =
-      let b = s .begins in (
-        omega arith,
-        l,
-        held-exactly (boxAtIndex ns (boxIndex leaf i)) (boxAtIndex ns (boxIndex leaf (suc i))) x y .0
-            (rw (s .begins) at (holder-holds ns x y at i e l)),
-      )
+      let b = s .begins in
+      record {
+        inside = omega arith;
+        cover = l;
+        holds = held-exactly (boxAtIndex ns (boxIndex leaf i)) (boxAtIndex ns (boxIndex leaf (suc i))) x y .0 (rw (s .begins) at (holder-holds ns x y at i e l));
+        none-earlier = λ k q m n. not-held k q (s .no-cover k q m n);
+        none-lower = λ q m. not-held leaf q (rw (s .begins) at (holder-first ns x y at i e l q m));
+      }
 
   pub found-off : length ns ≤ at → Verdict none ns x y Off
-  found-off h k i l m c =
-      let b = s .begins in
-      let f = s .no-cover k i (omega arith) m in
-      let t = held-exactly (boxAtIndex ns (boxIndex k i)) (boxAtIndex ns (boxIndex k (suc i))) x y .1 c in
-      clash-bools f t
-    where
-      clash-bools : {b : Bool} → b ≡ false → b ≡ true → ⊥
-      clash-bools e f = clash (cc)
+  found-off h k i l m = let b = s .begins in not-held k i (s .no-cover k i (omega arith) m)

@@ -28,10 +28,19 @@ judgingFault most ns x y =
       | true ↦ elim (numberFault most ns) [ some i ↦ some (LeafListNumber i) | none ↦ pointFault x y ]
     ]
 
--- ---- What the answer says. On names a record of the list and a cover that hold the point; off says that no cover of any record does.
+-- ---- the first holder of a point (document 02, request 01): cover i of record k holds it, and no cover of an earlier record of the
+-- list and no lower cover of record k does
+pub record FirstHolder (ns : List ℤ) (x y : ℤ) (k i : ℕ) : Type 0 where
+  pub inside : recordLength * k < length ns
+  pub cover : i < covers
+  pub holds : CoverHolds ns k i x y
+  pub none-earlier : (j q : ℕ) → j < k → q < covers → CoverHolds ns j q x y → ⊥
+  pub none-lower : (q : ℕ) → q < i → CoverHolds ns k q x y → ⊥
+
+-- ---- What the answer says: on names the first holder of the point; off says that no cover of any record holds it.
 abbrev pub Verdict : Option Refusal → List ℤ → (x y : ℤ) → Judgement → Type 0
 Verdict (some r) ns x y answer = answer ≡ Refused r
-Verdict none ns x y (On k i) = (recordLength * k < length ns) × (i < covers) × CoverHolds ns k i x y
+Verdict none ns x y (On k i) = FirstHolder ns x y k i
 Verdict none ns x y Off = (k i : ℕ) → recordLength * k < length ns → i < covers → CoverHolds ns k i x y → ⊥
 Verdict none ns x y (Refused r) = ⊥
 

@@ -1,30 +1,30 @@
 -- How the code searches a leaf list that has passed its checks: the first cover of a record that holds a point. For
--- the functions of `holder`: nothing here is part of a public promise. Places are counted from the index `at` where a
--- record begins.
-use mathlib.Core.Bool.{Bool, not}
+-- private functions: nothing here is part of a public promise. Places are counted from the index `at` where a record
+-- begins.
+use mathlib.Core.Bool.{Bool, true, not}
 use mathlib.Core.List.{List}
 use mathlib.Core.Option.{Option, none}
 use mathlib.Core.Path.{_≡_}
-use Prim.Native.Nat.{ℕ, suc, _+_, _*_, _%_, _≤_}
+use Prim.Native.Nat.{ℕ, suc, _+_, _*_, _≤_}
 use lib.ListN.{length}
 use lib.IntN.{ℤ, natAbs}
 use Rattle.integers.specs.First.{firstBad}
 use Rattle.boxes.specs.Ranges.{farthest}
 use Rattle.boxes.specs.Records.{covers, recordLength, boxAtIndex}
-use Rattle.leaf_list.specs.Checks.{numberFault}
+use Rattle.leaf_list.specs.Checks.{lengthFine, numberFault}
 use Rattle.leaf_list.specs.Parts.{recordFaultAt}
 use Rattle.held.specs.Deciding.{held}
 
 -- ---- a list that passes checks 9 and 10, and a point that passes 11
 pub record Passed (most : ℕ) (ns : List ℤ) : Type 0 where
-  pub whole : length ns % recordLength ≡ 0
+  pub whole : lengthFine (length ns) ≡ true
   pub numbers : numberFault most ns ≡ none
 
 pub record InRange (x y : ℤ) : Type 0 where
   pub in-x : natAbs x ≤ farthest
   pub in-y : natAbs y ≤ farthest
 
--- ---- covers: i of the record that begins at index `at`
+-- ---- the covers of the record that begins at index `at`: whether cover i holds the point, and the first that does
 abbrev pub heldAt : List ℤ → (x y : ℤ) → (at i : ℕ) → Bool
 heldAt ns x y at i = held (boxAtIndex ns (at + (2 + 4 * i))) (boxAtIndex ns (at + (2 + 4 * suc i))) x y
 

@@ -1,27 +1,24 @@
 -- The lines of points: each says what judging answers, what each way through `put_point` writes, that such a line is short where the leaves are fine,
 -- that the lines of a text give those of its points, and each turn of the loop over the text.
 use mathlib.Core.Path.{_≡_, refl, sym, _∙_, ap, subst}
-use mathlib.Core.Bool.{Bool, true, false, not}
+use mathlib.Core.Bool.{Bool, true, false}
 use mathlib.Core.List.{List, [], _∷_, _++_, append-nil}
 use mathlib.Core.Option.{Option, none, some}
-use Prim.Native.Nat.{ℕ, suc, _+_, _*_, _/_, _%_, _^_, _≤_, _<_}
+use Prim.Native.Nat.{ℕ, _+_, _*_, _^_, _≤_, _<_}
 use native.Mathlib.Omega.{arith}
-use borrow.Author.Tests.{not-false}
 use lib.Dec.{lit≤}
-use lib.ListN.{length}
+use lib.ListN.{length, length-append}
 use lib.IntN.{ℤ}
 use lib.Signed.{mag}
 use mir.Syntax.{w32}
-use Rattle.integers.proofs.Clash.{clash}
-use Rattle.integers.proofs.First.{bad-is, bad-below}
 use Rattle.integers.proofs.Ranges.{stored, read-again}
 use Rattle.refusals.specs.declared.Refusal.{Refusal}
 use Rattle.refusals.specs.declared.Refusal.the-variants.{PointX, PointY}
 use Rattle.boxes.specs.Ranges.{inRange}
-use Rattle.boxes.specs.Records.{covers, recordLength, boxIndex, boxAtIndex}
 use Rattle.appends.specs.Appends.{Appended, Within}
 use Rattle.appends.proofs.Appends.{append-none, append-both, appended-length, within}
 use Rattle.digits.specs.Digits.{digits}
+use Rattle.digits.proofs.Digits.{digits-few}
 use Rattle.decimals.specs.Decimals.{spacedNatural}
 use Rattle.forms.specs.declared.Points.{Points}
 use Rattle.forms.specs.declared.Form.{Form}
@@ -32,78 +29,33 @@ use Rattle.text.specs.Meaning.{pointOf}
 use Rattle.text.proofs.Gathering.{Gathering, gathering-start, gathered-over, gathered-no-form, gathered-tolerance, gathered-curve, gathered-point}
 use Rattle.judging.specs.declared.Judgement.{Judgement}
 use Rattle.judging.specs.declared.Judgement.the-variants.{On, Off, Refused}
-use Rattle.held.proofs.Deciding.{held-exactly}
-use Rattle.judging.specs.Judging.{pointFault, judgingFault, Verdict, Judged}
-use Rattle.judging.specs.OnBand.{coverHeld, firstHolder, onBand}
-use Rattle.judging.proofs.Answers.{judged-refused, judged-found}
-use Rattle.judging.proofs.OnBand.{answered-on, answered-off, answered-refused}
-use Rattle.render.specs.Answers.{refusedLine, onLine, offLine}
-use Rattle.point_answers.specs.Points.{LeavesFine, pointLine, pointLines, lineAnswer}
+use Rattle.judging.specs.Judging.{pointFault, judgingFault, Judged}
+use Rattle.judging.specs.Judgements.{judgement}
+use Rattle.judging.specs.Searching.{Passed}
+use Rattle.judging.proofs.Judgements.{is-judged, judged-is, judged-on, judged-fault}
+use Rattle.leaf_lines.specs.Leaves.{closing}
+use Rattle.render.specs.Answers.{twoNumbers, refusedLine, onWord, onLine, offLine}
+use Rattle.point_answers.specs.Points.{LeavesFine, lineOf, pointLine, pointLines, lineAnswer}
 
 -- ---- the line of a point says what judging answers
-abbrev pub lineOf : Judgement → List ℕ
-lineOf (On leaf cover) = onLine
-lineOf Off = offLine
-lineOf (Refused r) = refusedLine r
-
-pub line-said : (ns : List ℤ) (x y : ℤ) (j : Judgement) → Judged 64 ns x y j → pointLine ns x y ≡ lineOf j
+pub line-said : (ns : List ℤ) (x y : ℤ) (j : Judgement) → Judged 64 ns x y j → lineOf j ≡ pointLine ns x y
 unfolding pointLine
-line-said ns x y (On leaf cover) said = let f = answered-on 64 ns x y leaf cover said in rw (pointLine, f .0, f .1)
-line-said ns x y Off said = let f = answered-off 64 ns x y said in rw (pointLine, f .0, f .1)
-line-said ns x y (Refused r) said = let f = answered-refused 64 ns x y r said in rw (pointLine, f)
-
--- an answer that judging may give
-pub record Answer (ns : List ℤ) (x y : ℤ) : Type 0 where
-  pub answer : Judgement
-  pub judged : Judged 64 ns x y answer
-
-module _ (ns : List ℤ) (x y : ℤ) where
-  abbrev missed : ℕ → Bool
-  missed j = not (coverHeld ns x y (j / covers) (j % covers))
-
-  abbrev count : ℕ
-  count = covers * (length ns / recordLength)
-
-  -- what is found holds the point
-  found : (j : ℕ) → firstHolder ns x y ≡ some j → Verdict none ns x y (On (j / covers) (j % covers))
-  unfolding firstHolder
-  found j f =
-      let k = j / covers in
-      let i = j % covers in
-      let b = bad-below missed count 0 j f in
-      let held = not-false _ (bad-is missed count 0 j f) in
-      (omega arith, omega arith, held-exactly (boxAtIndex ns (boxIndex k i)) (boxAtIndex ns (boxIndex k (suc i))) x y .0 held)
-
-  -- what holds it would have been found
-  not-found : judgingFault 64 ns x y ≡ none → firstHolder ns x y ≡ none → Verdict none ns x y Off
-  not-found e f k i hk hi held =
-      let on = answered-on 64 ns x y k i (judged-found 64 ns x y (On k i) e (hk, hi, held)) .1 in
-      clash-bools on (ap (λ (o : Option ℕ). elim o [ some j ↦ true | none ↦ false ]) f)
-    where
-      clash-bools : {b : Bool} → b ≡ true → b ≡ false → ⊥
-      clash-bools g h = clash (cc)
-
-  pub some-answer : Answer ns x y
-  some-answer = go (judgingFault 64 ns x y) refl (firstHolder ns x y) refl
-    where
-      go : (o : Option Refusal) → judgingFault 64 ns x y ≡ o → (h : Option ℕ) → firstHolder ns x y ≡ h → Answer ns x y
-      go (some r) e h f = record { answer = Refused r; judged = judged-refused 64 ns x y r e }
-      go none e (some j) f = record { answer = On (j / covers) (j % covers); judged = judged-found 64 ns x y _ e (found j f) }
-      go none e none f = record { answer = Off; judged = judged-found 64 ns x y Off e (not-found e f) }
+line-said ns x y j said = ap lineOf (judged-is 64 ns x y j said)
 
 -- ---- one point
 module _ (ns : List ℤ) (x y : ℤ) (j : Judgement) (said : Judged 64 ns x y j) (d o : List ℕ) (at k : ℕ) where
-  its-line : (a : Judgement) → j ≡ a → lineOf a ≡ pointLine ns x y
-  its-line a e = sym (line-said ns x y a (subst (Judged 64 ns x y) e said))
+  -- the line of what judging answers is the point's line
+  line-put : (n : ℕ) → n ≤ 52 → (l : List ℕ) → l ≡ lineOf j → Within d at n l o k → Within d at 52 (pointLine ns x y) o k
+  line-put n h l e a = within (subst (λ m. Appended d at m o k) (e ∙ line-said ns x y j said) (a .put)) (omega (arith, a .small))
 
-  pub line-on : (leaf cover : ℕ) → j ≡ On leaf cover → Appended d at onLine o k → Within d at 52 (pointLine ns x y) o k
-  line-on leaf cover e a = within (subst (λ l. Appended d at l o k) (its-line (On leaf cover) e) a) (omega (arith, a .next))
+  pub line-on : (leaf cover : ℕ) → j ≡ On leaf cover → Within d at 47 (onLine leaf cover) o k → Within d at 52 (pointLine ns x y) o k
+  line-on leaf cover e = line-put 47 (omega arith) (onLine leaf cover) (ap lineOf (sym e))
 
   pub line-off : j ≡ Off → Appended d at offLine o k → Within d at 52 (pointLine ns x y) o k
-  line-off e a = within (subst (λ l. Appended d at l o k) (its-line Off e) a) (omega (arith, a .next))
+  line-off e a = line-put 6 (omega arith) offLine (ap lineOf (sym e)) (within a (omega (arith, a .next)))
 
   pub line-refused : (r : Refusal) → j ≡ Refused r → Within d at 52 (refusedLine r) o k → Within d at 52 (pointLine ns x y) o k
-  line-refused r e a = subst (λ l. Within d at 52 l o k) (its-line (Refused r) e) a
+  line-refused r e = line-put 52 (omega arith) (refusedLine r) (ap lineOf (sym e))
 
 -- ---- its line is short
 short-x : length (refusedLine PointX) ≤ 18
@@ -127,18 +79,27 @@ short-point x y = go (inRange x) (inRange y)
     go true false = short-y
     go true true = omega arith
 
-fault-fine : (ns : List ℤ) → LeavesFine ns → (x y : ℤ) → judgingFault 64 ns x y ≡ pointFault x y
+fault-fine : (ns : List ℤ) → Passed 64 ns → (x y : ℤ) → judgingFault 64 ns x y ≡ pointFault x y
 unfolding judgingFault
 fault-fine ns f x y = rw (judgingFault, f .whole, f .numbers)
 
+short-on : (leaf cover : ℕ) → leaf < 1000 → cover < 10 → length (onLine leaf cover) ≤ 18
+unfolding onLine spacedNatural
+short-on leaf cover l m =
+    let a = digits-few 2 20 leaf (omega arith) in
+    let b = digits-few 0 20 cover (omega arith) in
+    omega (arith, length-append onWord (twoNumbers leaf cover), length-append (spacedNatural leaf ++ spacedNatural cover) closing, length-append (spacedNatural leaf) (spacedNatural cover))
+
 pub short-line : (ns : List ℤ) → LeavesFine ns → (x y : ℤ) → length (pointLine ns x y) ≤ 18
 unfolding pointLine
-short-line ns f x y = go (judgingFault 64 ns x y) (onBand ns x y) (subst Short (sym (fault-fine ns f x y)) (short-point x y))
+short-line ns f x y = go (judgement 64 ns x y) (is-judged 64 ns x y)
   where
-    go : (o : Option Refusal) (c : Bool) → Short o → length {A = ℕ} (elim o [ some r ↦ refusedLine r | none ↦ elim c [ true ↦ onLine | false ↦ offLine ] ]) ≤ 18
-    go (some r) c h = h
-    go none true h = lit≤ tt
-    go none false h = lit≤ tt
+    go : (j : Judgement) → Judged 64 ns x y j → length (lineOf j) ≤ 18
+    go (On leaf cover) v =
+        let h = judged-on 64 ns x y leaf cover v in
+        short-on leaf cover (omega (arith, h .inside, f .few)) (omega (arith, h .cover))
+    go Off v = lit≤ tt
+    go (Refused r) v = subst Short (sym (fault-fine ns (f .passed) x y) ∙ judged-fault 64 ns x y r v) (short-point x y)
 
 -- ---- the lines of the points, as the text has them and as its meaning has them
 module _ (leaves : List ℤ) where

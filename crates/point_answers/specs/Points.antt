@@ -1,23 +1,25 @@
--- The line of a point (document 01, "Text program"): (on) or (off), or the point's refusal. It is judged against the leaves written, and nothing else.
-use mathlib.Core.Path.{_≡_}
-use mathlib.Core.Bool.{true, false}
+-- The line of a point (document 01, "Text program", and request 01 of document 02): (on record cover), (off), or the point's refusal. It is judged against
+-- the leaves written, and nothing else.
 use mathlib.Core.List.{List, [], _∷_, _++_}
-use mathlib.Core.Option.{none, some}
-use Prim.Native.Nat.{ℕ}
+use Prim.Native.Nat.{ℕ, _≤_}
 use lib.ListN.{length}
 use lib.IntN.{ℤ}
 use Rattle.forms.specs.declared.Form.{Form}
 use Rattle.forms.specs.declared.Form.the-variants.{Tolerance, Curve, Point, NoForm}
-use Rattle.leaf_list.specs.Checks.{lengthFine, numberFault}
-use Rattle.judging.specs.Judging.{judgingFault}
-use Rattle.judging.specs.OnBand.{onBand}
+use Rattle.judging.specs.declared.Judgement.{Judgement}
+use Rattle.judging.specs.declared.Judgement.the-variants.{On, Off, Refused}
+use Rattle.judging.specs.Judgements.{judgement}
+use Rattle.judging.specs.Searching.{Passed}
 use Rattle.render.specs.Answers.{refusedLine, onLine, offLine}
 
+-- the line of an answer of judging
+abbrev pub lineOf : Judgement → List ℕ
+lineOf (On leaf cover) = onLine leaf cover
+lineOf Off = offLine
+lineOf (Refused r) = refusedLine r
+
 unfoldable pub pointLine : List ℤ → (x y : ℤ) → List ℕ
-pointLine leaves x y = elim (judgingFault 64 leaves x y) [
-  | some r ↦ refusedLine r
-  | none ↦ elim (onBand leaves x y) [ true ↦ onLine | false ↦ offLine ]
-]
+pointLine leaves x y = lineOf (judgement 64 leaves x y)
 
 unfoldable pub pointLines : List ℤ → List (ℤ × ℤ) → List ℕ
 pointLines leaves [] = []
@@ -30,7 +32,7 @@ lineAnswer leaves (Tolerance t next) = []
 lineAnswer leaves (Curve p next) = []
 lineAnswer leaves NoForm = []
 
--- leaves that pass checks 9 and 10, as `put_points` asks
+-- leaves that pass checks 9 and 10, no more than a text can have, as `put_points` asks
 pub record LeavesFine (leaves : List ℤ) : Type 0 where
-  pub whole : lengthFine (length leaves) ≡ true
-  pub numbers : numberFault 64 leaves ≡ none
+  pub passed : Passed 64 leaves
+  pub few : length leaves ≤ 16380

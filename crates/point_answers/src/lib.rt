@@ -2,18 +2,19 @@
 ghost use Prim.Native.Nat.{_+_, _*_, _≤_};
 ghost use lib.ListN.{length};
 ghost use Rattle.appends.specs.Appends.{Within};
+ghost use Rattle.judging.specs.Searching.{Passed};
 ghost use Rattle.text.specs.Lines.{linesOf, gather};
 ghost use Rattle.point_answers.specs.Points.{LeavesFine, pointLine, lineAnswer};
 use forms::Form;
 use judging::Judgement;
 
-// The line of one point.
+// The line of one point. The leaves passed their checks when they were written.
 fn put_point(leaves: &[i32], x: i32, y: i32, out: &mut [u8], at: usize) -> usize
-    requires { ⌜ at + 52 ≤ length (now out) ⌝ }
+    requires { ⌜ (at + 52 ≤ length (now out)) × (Passed 64 (now leaves)) ⌝ }
     ensures { λ r. ⌜ Within (now (out .entry)) at 52 (pointLine (now (leaves .entry)) x y) (now (out .exit)) r ⌝ }
 {
-    match judge::judge(leaves, x, y) {
-        Judgement::On { leaf: _, cover: _ } => render::put_on(out, at),
+    match judge::judge_point(leaves, x, y) {
+        Judgement::On { leaf, cover } => render::put_on(out, at, leaf, cover),
         Judgement::Off => render::put_off(out, at),
         Judgement::Refused(refusal) => render::put_refused(out, at, refusal),
     }

@@ -9,7 +9,7 @@ use Rattle.appends.specs.Appends.{Appended, Within}
 use Rattle.appends.proofs.Appends.{append-both, within}
 use Rattle.decimals.specs.Decimals.{spacedNatural}
 use Rattle.leaf_lines.specs.Leaves.{closing}
-use Rattle.render.specs.Answers.{done, doneLine, refusedWord, refusedLine}
+use Rattle.render.specs.Answers.{done, doneLine, twoNumbers, refusedWord, refusedLine, onWord, onLine}
 
 module _ (d : List ℕ) (i : ℕ) where
   pub three-put : (a b c : ℕ) (o u v : List ℕ) (j k l : ℕ) → Within d i 21 (spacedNatural a) o j → Within o j 21 (spacedNatural b) u k → Within u k 21 (spacedNatural c) v l
@@ -29,15 +29,20 @@ module _ (d : List ℕ) (i : ℕ) where
       (append-both d u v (done ++ (spacedNatural a ++ spacedNatural b ++ spacedNatural c)) closing i k l (append-both d o u done (spacedNatural a ++ spacedNatural b ++ spacedNatural c) i j k p (q .put)) r))
       (omega (arith, p .next, q .small, r .next))
 
-  pub refused-put : (n spot : ℕ) (o u v w : List ℕ) (j k l m : ℕ) → Appended d i refusedWord o j → Within o j 21 (spacedNatural n) u k → Within u k 21 (spacedNatural spot) v l → Appended v l closing w m
-      → Within d i 52 (refusedWord ++ spacedNatural n ++ spacedNatural spot ++ closing) w m
-  refused-put n spot o u v w j k l m a b c e =
+  pub two-put : (a b : ℕ) (o u v : List ℕ) (j k l : ℕ) → Within d i 21 (spacedNatural a) o j → Within o j 21 (spacedNatural b) u k → Appended u k closing v l
+      → Within d i 44 (twoNumbers a b) v l
+  two-put a b o u v j k l p q r =
       within
-      (append-both d v w (refusedWord ++ spacedNatural n ++ spacedNatural spot) closing i l m
-      (append-both d u v (refusedWord ++ spacedNatural n) (spacedNatural spot) i k l (append-both d o u refusedWord (spacedNatural n) i j k a (b .put)) (c .put)) e)
-      (omega (arith, a .next, b .small, c .small, e .next))
+      (append-both d u v (spacedNatural a ++ spacedNatural b) closing i k l (append-both d o u (spacedNatural a) (spacedNatural b) i j k (p .put) (q .put)) r)
+      (omega (arith, p .small, q .small, r .next))
 
-  pub refusal-put : (r : Refusal) (n spot : ℕ) (o : List ℕ) (j : ℕ) → n ≡ numberOf r → spot ≡ spotOf r → Within d i 52 (refusedWord ++ spacedNatural n ++ spacedNatural spot ++ closing) o j
-      → Within d i 52 (refusedLine r) o j
+  pub refused-put : (r : Refusal) (n spot : ℕ) (o u : List ℕ) (j k : ℕ) → n ≡ numberOf r → spot ≡ spotOf r → Appended d i refusedWord o j → Within o j 44 (twoNumbers n spot) u k
+      → Within d i 52 (refusedLine r) u k
   unfolding refusedLine
-  refusal-put r n spot o j e f a = rw (e, f) at a
+  refused-put r n spot o u j k e f a b =
+      let c = rw (e, f) at b in
+      within (append-both d o u refusedWord (twoNumbers (numberOf r) (spotOf r)) i j k a (c .put)) (omega (arith, a .next, b .small))
+
+  pub on-put : (leaf cover : ℕ) (o u : List ℕ) (j k : ℕ) → Appended d i onWord o j → Within o j 44 (twoNumbers leaf cover) u k → Within d i 47 (onLine leaf cover) u k
+  unfolding onLine
+  on-put leaf cover o u j k a b = within (append-both d o u onWord (twoNumbers leaf cover) i j k a (b .put)) (omega (arith, a .next, b .small))

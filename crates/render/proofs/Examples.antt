@@ -4,12 +4,17 @@ use mathlib.Core.List.{[], _∷_}
 use Rattle.refusals.specs.declared.Refusal.the-variants.{PointX, TextTooLong, TooWide}
 use Rattle.digits.specs.Digits.{digits}
 use Rattle.decimals.specs.Decimals.{spacedNatural}
-use Rattle.render.specs.Answers.{doneLine, refusedLine}
+use Rattle.render.specs.Answers.{doneLine, refusedLine, onLine}
 
 -- "(done 1 1 1)"
 pub listing-done : doneLine 1 1 1 ≡ 40 ∷ 100 ∷ 111 ∷ 110 ∷ 101 ∷ 32 ∷ 49 ∷ 32 ∷ 49 ∷ 32 ∷ 49 ∷ 41 ∷ 10 ∷ []
 unfolding doneLine spacedNatural digits
 listing-done = refl
+
+-- "(on 0 1)"
+pub listing-on : onLine 0 1 ≡ 40 ∷ 111 ∷ 110 ∷ 32 ∷ 48 ∷ 32 ∷ 49 ∷ 41 ∷ 10 ∷ []
+unfolding onLine spacedNatural digits
+listing-on = refl
 
 -- "(refused 16 16385)", "(refused 11 0)", "(refused 7 256)"
 pub refused-size : refusedLine (TextTooLong 16385) ≡ 40 ∷ 114 ∷ 101 ∷ 102 ∷ 117 ∷ 115 ∷ 101 ∷ 100 ∷ 32 ∷ 49 ∷ 54 ∷ 32 ∷ 49 ∷ 54 ∷ 51 ∷ 56 ∷ 53 ∷ 41 ∷ 10 ∷ []

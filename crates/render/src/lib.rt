@@ -3,8 +3,7 @@ ghost use mathlib.Core.List.{_++_};
 ghost use Prim.Native.Nat.{_+_, _≤_};
 ghost use lib.ListN.{length};
 ghost use Rattle.appends.specs.Appends.{Appended, Within};
-ghost use Rattle.leaf_lines.specs.Leaves.{closing};
-ghost use Rattle.render.specs.Answers.{doneLine, refusedWord, refusedLine, onLine, offLine};
+ghost use Rattle.render.specs.Answers.{doneLine, twoNumbers, refusedLine, onLine, offLine};
 ghost use Rattle.decimals.specs.Decimals.{spacedNatural};
 use decimals::put_spaced_natural;
 use decimals::put_word;
@@ -27,15 +26,17 @@ pub fn put_refused(out: &mut [u8], at: usize, refusal: Refusal) -> usize
 {
     let number = refusal.number() as u64;
     let spot = refusal.spot() as u64;
-    put_refused_numbers(out, at, number, spot)
+    let i = put_word(out, at, b"(refused");
+    put_two(out, i, number, spot)
 }
 
-// A point that is on the band.
-pub fn put_on(out: &mut [u8], at: usize) -> usize
-    requires { ⌜ at + 5 ≤ length (now out) ⌝ }
-    ensures { λ r. ⌜ Appended (now (out .entry)) at onLine (now (out .exit)) r ⌝ }
+// A point that is on the band, with the record and the cover that hold it.
+pub fn put_on(out: &mut [u8], at: usize, leaf: usize, cover: usize) -> usize
+    requires { ⌜ at + 47 ≤ length (now out) ⌝ }
+    ensures { λ r. ⌜ Within (now (out .entry)) at 47 (onLine leaf cover) (now (out .exit)) r ⌝ }
 {
-    put_word(out, at, b"(on)\n")
+    let i = put_word(out, at, b"(on");
+    put_two(out, i, leaf as u64, cover as u64)
 }
 
 // A point that is off it.
@@ -55,12 +56,11 @@ fn put_three(out: &mut [u8], at: usize, a: u64, b: u64, c: u64) -> usize
     put_spaced_natural(out, j, c)
 }
 
-fn put_refused_numbers(out: &mut [u8], at: usize, number: u64, spot: u64) -> usize
-    requires { ⌜ at + 52 ≤ length (now out) ⌝ }
-    ensures { λ r. ⌜ Within (now (out .entry)) at 52 (refusedWord ++ spacedNatural number ++ spacedNatural spot ++ closing) (now (out .exit)) r ⌝ }
+fn put_two(out: &mut [u8], at: usize, a: u64, b: u64) -> usize
+    requires { ⌜ at + 44 ≤ length (now out) ⌝ }
+    ensures { λ r. ⌜ Within (now (out .entry)) at 44 (twoNumbers a b) (now (out .exit)) r ⌝ }
 {
-    let i = put_word(out, at, b"(refused");
-    let j = put_spaced_natural(out, i, number);
-    let k = put_spaced_natural(out, j, spot);
-    put_word(out, k, b")\n")
+    let i = put_spaced_natural(out, at, a);
+    let j = put_spaced_natural(out, i, b);
+    put_word(out, j, b")\n")
 }

@@ -1,17 +1,7 @@
--- `judge::judge` meets its contract: each return is one of the checks 9, 10 and 11, or what the search finds.
-use mathlib.Core.Path.{_≡_, sym, _∙_, ap}
-use mathlib.Core.Bool.{true}
-use mir.Syntax.{w32, w64}
-use mir.Val.{SFits}
-use mir.Facts.{toZ-ofZ, sfits-widen}
+-- `judge::judge` meets its contract: each return is one of the checks 9 and 10, or what is said of a list that passed them.
 use borrow.Author.Needs.{needs}
-use borrow.Author.Tests.{not-true, not-false}
-use lib.IntN.{ℤ}
-use Rattle.integers.proofs.Ranges.{stored}
-use Rattle.integers.proofs.Machine.{machine, fits! }
-use Rattle.boxes.specs.Ranges.{inRange}
-use Rattle.judging.proofs.Holders.{range-size}
-use Rattle.judging.proofs.Answers.{list-empty, list-cut, number-bad, passed, x-bad, y-bad, none-bad, judged-refused, judged-found}
+use mir.Facts.{toZ-ofZ}
+use Rattle.judging.proofs.Answers.{list-empty, list-cut, number-bad, passed, judged-refused}
 use Rattle.judge.proofs.judge.Statement.{statement}
 use Rattle.judge.proofs.judge.Tie as tie
 
@@ -35,84 +25,16 @@ returns-3 c =
     judged-refused 64 (a .leaves .now) (a .x) (a .y) _
     (number-bad 64 (a .leaves .now) (a .x) (a .y) (e .before .if1 .left) (e .if2 .left) (c .before .number-fault .result) (c .before .number-fault .ensures) (c .if3 .taken))
 
-in-range-requires : tie.Need-in-range-requires
-in-range-requires c κs = search needs
+judge-point-requires : tie.Need-judge-point-requires
+judge-point-requires c κs =
+    let n = c .before .before in
+    let a = n .before .before .args in
+    passed 64 (a .leaves .now) (a .x) (a .y) (n .before .if1 .left) (n .if2 .left) (rw (c .before .number-fault .ensures) at (c .if3 .left))
 
 returns-4 : tie.Need-returns-4
 returns-4 c =
-    let e = c .before .before in
-    let n = e .before .before in
-    let a = n .before .before .args in
-    let f = rw (toZ-ofZ (n .before .before .fits .x)) at (sym (c .before .in-range .ensures) ∙ not-true (c .before .in-range .result) (c .if4 .taken)) in
-    judged-refused 64 (a .leaves .now) (a .x) (a .y) _
-    (x-bad 64 (a .leaves .now) (a .x) (a .y) (n .before .if1 .left) (n .if2 .left) (rw (e .before .number-fault .ensures) at (e .if3 .left)) f)
-
--- past the test of x
-x-fine : (c : tie.Else4) → inRange (c .before .before .before .before .before .before .args .x) ≡ true
-x-fine c = rw (toZ-ofZ (c .before .before .before .before .before .before .fits .x)) at (sym (c .before .in-range .ensures) ∙ not-false (c .before .in-range .result) (c .if4 .left))
-
-in-range-requires-2 : tie.Need-in-range-requires-2
-in-range-requires-2 c κs = search needs
-
-returns-5 : tie.Need-returns-5
-returns-5 c =
-    let d = c .before .before in
-    let e = d .before .before in
-    let n = e .before .before in
-    let a = n .before .before .args in
-    let f = rw (toZ-ofZ (n .before .before .fits .y)) at (sym (c .before .in-range2 .ensures) ∙ not-true (c .before .in-range2 .result) (c .if5 .taken)) in
-    judged-refused 64 (a .leaves .now) (a .x) (a .y) _
-    (y-bad 64 (a .leaves .now) (a .x) (a .y) (n .before .if1 .left) (n .if2 .left) (rw (e .before .number-fault .ensures) at (e .if3 .left)) (x-fine d) f)
-
--- past the test of y
-y-fine : (c : tie.Else5) → inRange (c .before .before .before .before .before .before .before .before .args .y) ≡ true
-y-fine c = rw (toZ-ofZ (c .before .before .before .before .before .before .before .before .fits .y)) at (sym (c .before .in-range2 .ensures) ∙ not-false (c .before .in-range2 .result) (c .if5 .left))
-
--- a number of 32 bits, read as one of 64
-widened : {z : ℤ} → SFits w32 z → stored w64 (stored w32 z) ≡ z
-widened fits = ap (stored w64) (toZ-ofZ fits) ∙ toZ-ofZ (sfits-widen {w′ = w64} tt fits)
-
-cast-find : tie.Need-cast-find
-cast-find c = fits! (search (machine, c .before .before .before .before .before .before .before .before .fits .x) depth 40) tt
-
-cast-find-2 : tie.Need-cast-find-2
-cast-find-2 c = fits! (search (machine, c .before .before .before .before .before .before .before .before .fits .y) depth 40) tt
-
-find-requires : tie.Need-find-requires
-find-requires c κs =
-    let d = c .before .before in
-    let e = d .before .before in
-    let n = e .before .before in
-    let s = n .before .before in
-    let a = s .args in (
-      passed 64 (a .leaves .now) (a .x) (a .y) (n .before .if1 .left) (n .if2 .left) (rw (e .before .number-fault .ensures) at (e .if3 .left)),
-      rw (widened (s .fits .x), widened (s .fits .y)) (record { in-x = range-size (a .x) (x-fine d); in-y = range-size (a .y) (y-fine c) }),
-    )
-
-returns-6 : tie.Need-returns-6
-returns-6 c =
-    let d = c .before .before .before in
-    let e = d .before .before in
-    let n = e .before .before in
-    let s = n .before .before in
-    let a = s .args in
-    judged-found 64 (a .leaves .now) (a .x) (a .y) (c .find .result)
-    (none-bad 64 (a .leaves .now) (a .x) (a .y) (n .before .if1 .left) (n .if2 .left) (rw (e .before .number-fault .ensures) at (e .if3 .left)) (x-fine d) (y-fine (c .before)))
-    (rw (widened (s .fits .x), widened (s .fits .y)) at (c .find .ensures))
+    let s = c .before .before .before .before .before in
+    rw (toZ-ofZ (s .fits .x), toZ-ofZ (s .fits .y)) at (c .judge-point .ensures)
 
 pub judge-spec : {M : Type 1} → statement M
-judge-spec =
-    tie.close
-    (tie.spec
-    returns
-    returns-2
-    number-fault-requires
-    returns-3
-    in-range-requires
-    returns-4
-    in-range-requires-2
-    returns-5
-    cast-find
-    cast-find-2
-    find-requires
-    returns-6)
+judge-spec = tie.close (tie.spec returns returns-2 number-fault-requires returns-3 judge-point-requires returns-4)

@@ -5,17 +5,17 @@ use Rattle.point_answers.proofs.Judging.{line-on, line-off, line-refuse
 use Rattle.point_answers.proofs.put_point.Statement.{statement}
 use Rattle.point_answers.proofs.put_point.Tie as tie
 
-judge-requires : tie.Need-judge-requires
-judge-requires c κs = search needs
+judge-point-requires : tie.Need-judge-point-requires
+judge-point-requires c κs = search needs
 
-enum-told : tie.Need-enum-told
-enum-told c = search needs
+enum-known-leaf : tie.Need-enum-known-leaf
+enum-known-leaf c = search needs
 
 put-on-requires : tie.Need-put-on-requires
 put-on-requires c κs = search needs
 
-enum-told-2 : tie.Need-enum-told-2
-enum-told-2 c = search needs
+enum-told : tie.Need-enum-told
+enum-told c = search needs
 
 put-off-requires : tie.Need-put-off-requires
 put-off-requires c κs = search needs
@@ -31,9 +31,9 @@ same-length c = search needs
 
 returns : tie.Need-returns
 returns c =
-    let s = c .before .before .before .before .before .before .before .before in
-    let j = c .before .before .before .before .before .before .judge in
-    let l = line-on (s .args .leaves .now) _ _ (j .result) (j .ensures) _ _ _ _ _ _ (c .before .before .before .before .enum-told .given .1) (c .before .before .put-on .ensures) in
+    let s = c .before .before .before .before .before .before .before .before .before in
+    let j = c .before .before .before .before .before .before .before .judge-point in
+    let l = line-on (s .args .leaves .now) _ _ (j .result) (j .ensures) _ _ _ _ _ _ (c .before .before .before .before .before .leaf .given .1) (c .before .before .put-on .ensures) in
     rw (toZ-ofZ (s .fits .x), toZ-ofZ (s .fits .y)) at l
 
 same-length-2 : tie.Need-same-length-2
@@ -42,8 +42,8 @@ same-length-2 c = search needs
 returns-2 : tie.Need-returns-2
 returns-2 c =
     let s = c .before .before .before .before .before .before .before .before in
-    let j = c .before .before .before .before .before .before .judge in
-    let l = line-off (s .args .leaves .now) _ _ (j .result) (j .ensures) _ _ _ _ (c .before .before .before .before .enum-told2 .given .1) (c .before .before .put-off .ensures) in
+    let j = c .before .before .before .before .before .before .judge-point in
+    let l = line-off (s .args .leaves .now) _ _ (j .result) (j .ensures) _ _ _ _ (c .before .before .before .before .enum-told .given .1) (c .before .before .put-off .ensures) in
     rw (toZ-ofZ (s .fits .x), toZ-ofZ (s .fits .y)) at l
 
 same-length-3 : tie.Need-same-length-3
@@ -52,7 +52,7 @@ same-length-3 c = search needs
 returns-3 : tie.Need-returns-3
 returns-3 c =
     let s = c .before .before .before .before .before .before .before .before .before in
-    let j = c .before .before .before .before .before .before .before .judge in
+    let j = c .before .before .before .before .before .before .before .judge-point in
     let l = line-refused (s .args .leaves .now) _ _ (j .result) (j .ensures) _ _ _ _ _ (c .before .before .before .before .before .refusal .given .1) (c .before .before .put-refused .ensures) in
     rw (toZ-ofZ (s .fits .x), toZ-ofZ (s .fits .y)) at l
 
@@ -60,10 +60,10 @@ pub put-point-spec : {M : Type 1} → statement M
 put-point-spec =
     tie.close
     (tie.spec
-    judge-requires
-    enum-told
+    judge-point-requires
+    enum-known-leaf
     put-on-requires
-    enum-told-2
+    enum-told
     put-off-requires
     enum-known-refusal
     put-refused-requires

@@ -53,8 +53,10 @@ put-point-requires : tie.Need-put-point-requires Inv-loop μ-loop
 put-point-requires c κs =
     let l = c .before .before .before .before .before .before in
     let s = c .before .before .before .before .before .before .before .before .before in
-    let a = s .args in
-    put-room (a .leaves .now) (a .text .now) (a .out .now) (a .from) (l .loop .out) (l .loop .at) (l .loop .i) (l .loop .inv) (s .pre .0) (c .before .before .before .before .before .loop-test .taken)
+    let a = s .args in (
+      put-room (a .leaves .now) (a .text .now) (a .out .now) (a .from) (l .loop .out) (l .loop .at) (l .loop .i) (l .loop .inv) (s .pre .0) (c .before .before .before .before .before .loop-test .taken),
+      s .pre .1 .passed,
+    )
 
 loop-less-3 : tie.Need-loop-less-3 Inv-loop μ-loop
 loop-less-3 c = search point-less

@@ -1,5 +1,6 @@
 -- `render::put_on` meets its contract.
 use borrow.Author.Needs.{needs}
+use Rattle.render.proofs.Answers.{on-put}
 use Rattle.render.proofs.put_on.Statement.{statement}
 use Rattle.render.proofs.put_on.Tie as tie
 
@@ -9,17 +10,14 @@ slice-aggregate-put-word c = search needs
 put-word-requires : tie.Need-put-word-requires
 put-word-requires c κs = search needs
 
+put-two-requires : tie.Need-put-two-requires
+put-two-requires c κs = search needs
+
 same-length : tie.Need-same-length
 same-length c = search needs
 
 returns : tie.Need-returns
-returns c = search needs
+returns c = search on-put
 
 pub put-on-spec : {M : Type 1} → statement M
-put-on-spec =
-    tie.close
-    (tie.spec
-    slice-aggregate-put-word
-    put-word-requires
-    same-length
-    returns)
+put-on-spec = tie.close (tie.spec slice-aggregate-put-word put-word-requires put-two-requires same-length returns)
