@@ -131,7 +131,7 @@ static void judge_points(const char *file, size_t records_length) {
             printf("refused %u %llu\n", (unsigned)judgement.refusal, (unsigned long long)judgement.spot);
         } else if (judgement.on) {
             on++;
-            printf("on\n");
+            printf("on, record %llu cover %llu\n", (unsigned long long)judgement.leaf, (unsigned long long)judgement.cover);
         } else {
             off++;
             printf("off\n");

@@ -54,9 +54,9 @@ fn inspect(outline_file: &str, points_file: &str) -> Result<(), String> {
     let (mut on, mut off, mut refused) = (0, 0, 0);
     for &[x, y] in &points {
         match judge(&records, x, y) {
-            Ok(Judgement::On { .. }) => {
+            Ok(Judgement::On { leaf, cover }) => {
                 on += 1;
-                println!("({x} {y}) on");
+                println!("({x} {y}) on, record {leaf} cover {cover}");
             }
             Ok(Judgement::Off) => {
                 off += 1;

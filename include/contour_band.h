@@ -112,8 +112,8 @@ struct contour_band_judgement {
     uint32_t refusal; /* 0 where nothing is refused, else the number of the refusal, 9 to 11 */
     uint64_t spot;    /* the refusal's spot; 0 where nothing is refused */
     uint32_t on;      /* 1 where the point is on the band, else 0 */
-    uint64_t leaf;    /* the number of the record that holds the point, from 0; 0 unless it is on */
-    uint64_t cover;   /* the cover of that record that holds it, 0 to 2; 0 unless it is on */
+    uint64_t leaf;    /* the number of the first record that holds the point, from 0; 0 unless it is on */
+    uint64_t cover;   /* the lowest cover of that record that holds it, 0 to 2; 0 unless it is on */
 };
 
 /* Judges a point against a list of leaf records, which it only reads.
@@ -124,8 +124,8 @@ struct contour_band_judgement {
  * x, y: the point, in sixteenths of a stage unit.
  *
  * A record has covers 0, 1 and 2. Cover i is every point that lies, for some fraction s from 0 to 1, in the box
- * (1 - s) * box i + s * box i + 1. The point is on where some cover of some record holds it, edges included. One such record
- * and cover are named; where there are several, which one is left open. Every call checks the whole list. */
+ * (1 - s) * box i + s * box i + 1. The point is on where some cover of some record holds it, edges included. The
+ * first record of the list that holds it is named, and in it the lowest cover that does. Every call checks the whole list. */
 struct contour_band_judgement contour_judge(const int32_t *leaves, size_t leaves_length, int32_t x, int32_t y);
 
 /* What banding and judging answer together. */

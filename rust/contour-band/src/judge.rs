@@ -13,9 +13,9 @@ pub const FARTHEST: i32 = 536_870_912;
 pub enum Judgement {
     /// The point is on the band: a cover holds it, edges included.
     On {
-        /// The number of the record that holds it, from 0.
+        /// The number of the first record of the list that holds it, from 0.
         leaf: usize,
-        /// The cover of that record that holds it, 0 to 2.
+        /// The lowest cover of that record that holds it, 0 to 2.
         cover: usize,
     },
     /// No cover of any record holds the point.
@@ -41,7 +41,7 @@ impl Judgement {
 ///
 /// A record has covers 0, 1 and 2. Cover i is every point that lies, for some fraction s from 0 to
 /// 1, in the box (1 − s) × box i + s × box i + 1. A point is on where some cover of some record
-/// holds it; one such record and cover are named, and which one is left open.
+/// holds it. The first record of the list that does is named, and in it the lowest cover.
 ///
 /// `leaves` is any list of records that passes the checks, in any order. To judge against a band,
 /// give it the records that [`band`](crate::band) wrote, without the rest of the lent list. Then

@@ -58,9 +58,10 @@ pub fn witness_of(record: &[i32], cover: usize, x: i32, y: i32) -> Option<Fracti
     witness(&record[start..start + 4], &record[start + 4..start + 8], x, y)
 }
 
-/// Whether any cover of any record of a list holds the point.
-pub fn any_holds(leaves: &[i32], x: i32, y: i32) -> bool {
-    leaves.chunks_exact(18).any(|record| (0..3).any(|cover| witness_of(record, cover, x, y).is_some()))
+/// Every record and cover of a list that hold the point, by record and then by cover.
+pub fn holders(leaves: &[i32], x: i32, y: i32) -> impl Iterator<Item = (usize, usize)> + '_ {
+    let all = (0..leaves.len() / 18).flat_map(|leaf| (0..3).map(move |cover| (leaf, cover)));
+    all.filter(move |&(leaf, cover)| witness_of(&leaves[18 * leaf..][..18], cover, x, y).is_some())
 }
 
 #[cfg(test)]

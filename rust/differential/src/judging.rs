@@ -1,7 +1,7 @@
-//! One leaf list and point to both engines, and what they answer compared. Which record and cover are
-//! named is free, so each named one is looked at by itself.
+//! One leaf list and point to both engines, and what they answer compared: on, off and refusals, the
+//! record and the cover named; and both with the first that holds the point when each is tried by itself.
 
-use crate::covers::{any_holds, witness_of};
+use crate::covers::{holders, witness_of};
 use crate::curves::{curves, parameter};
 use std::fmt;
 use std::io::Write;
@@ -25,28 +25,17 @@ pub enum Answer {
 use Answer::{Off, On, Refused};
 
 impl Answer {
-    /// Whether both say on, both say off, or both give the same refusal.
-    pub fn agrees(self, other: Answer) -> bool {
-        match (self, other) {
-            (On { .. }, On { .. }) => true,
-            _ => self == other,
-        }
-    }
-
     /// Whether the point is on.
     pub fn is_on(self) -> bool {
         matches!(self, On { .. })
     }
 
-    /// Whether the answer is right of a list that passes the checks: the cover that it names holds the
-    /// point, and off is said only where none does.
+    /// Whether the answer is right of a list that passes the checks: the record and the cover that it
+    /// names are the first that hold the point, and off is said only where none does.
     pub fn is_right(self, leaves: &[i32], x: i32, y: i32) -> bool {
         match self {
-            On { leaf, cover } => {
-                let record = leaves.chunks_exact(18).nth(leaf);
-                record.is_some_and(|r| cover < 3 && witness_of(r, cover, x, y).is_some())
-            }
-            Off => !any_holds(leaves, x, y),
+            On { leaf, cover } => holders(leaves, x, y).next() == Some((leaf, cover)),
+            Off => holders(leaves, x, y).next().is_none(),
             Refused(..) => true,
         }
     }
@@ -87,6 +76,8 @@ pub struct Tally {
     pub pairs: u64,
     /// Points that are on.
     pub on: u64,
+    /// Points that several covers hold.
+    pub shared: u64,
     /// Points that are off.
     pub off: u64,
     /// Answers that refuse 9, 10 and 11.
@@ -114,8 +105,7 @@ impl Comparison {
         self.given.extend_from_slice(leaves);
         let proved = Answer::from(contour_band::judge(&self.given, x, y));
         let plain = Answer::from(plain::judge(leaves, x, y));
-        let right = |answer: Answer| answer.is_right(leaves, x, y);
-        if !proved.agrees(plain) || !right(proved) || !right(plain) || self.given != leaves {
+        if proved != plain || !proved.is_right(leaves, x, y) || self.given != leaves {
             let (name, given) = (self.name, &self.given);
             panic!(
                 "{name}: the engines differ, an answer is wrong, or the list changed\nleaves {leaves:?}\n\
@@ -124,7 +114,10 @@ impl Comparison {
         }
         self.tally.pairs += 1;
         match proved {
-            On { .. } => self.tally.on += 1,
+            On { .. } => {
+                self.tally.on += 1;
+                self.tally.shared += u64::from(holders(leaves, x, y).nth(1).is_some());
+            }
             Off => self.tally.off += 1,
             Refused(number, _) => self.tally.refused[number as usize - 9] += 1,
         }
@@ -180,8 +173,9 @@ impl fmt::Display for Tally {
     fn fmt(&self, f: &mut fmt::Formatter<'_>) -> fmt::Result {
         write!(
             f,
-            "{} lists and points compared; on {}, off {}, refused 9 to 11 {:?}; {} equal a curve, {} on and near one",
-            self.pairs, self.on, self.off, self.refused, self.of_curves, self.near
+            "{} lists and points compared; on {}, {} of them by several covers, off {}, refused 9 to 11 {:?}; \
+             {} equal a curve, {} on and near one",
+            self.pairs, self.on, self.shared, self.off, self.refused, self.of_curves, self.near
         )
     }
 }

@@ -100,8 +100,8 @@ impl Tally {
         let mut banded = false;
         for line in answer.split(|&byte| byte == b'\n') {
             match line {
-                b"(on)" => self.on += 1,
                 b"(off)" => self.off += 1,
+                _ if line.starts_with(b"(on ") => self.on += 1,
                 _ if line.starts_with(b"(done ") => banded = true,
                 _ if line.starts_with(b"(refused ") && banded => self.refused_points += 1,
                 _ if line.starts_with(b"(refused ") => self.refused[refusal_number(line)] += 1,

@@ -19,18 +19,6 @@ pub enum Outcome {
 
 use Outcome::{Banded, Refused};
 
-impl Outcome {
-    /// Whether all but the record and cover named is the same.
-    fn agrees(self, other: Outcome) -> bool {
-        match (self, other) {
-            (Banded(report, answer), Banded(other_report, other)) => {
-                report == other_report && answer.agrees(other)
-            }
-            _ => self == other,
-        }
-    }
-}
-
 /// Compares on one outline and point after the other, and counts.
 pub struct Comparison {
     name: &'static str,
@@ -87,7 +75,7 @@ impl Comparison {
             Banded([_, leaves, _], answer) => answer.is_right(&plain[MARGIN..][..18 * leaves as usize], x, y),
             Refused(..) => one == noise,
         };
-        if !(same_lists && right && together.agrees(apart) && together.agrees(by_plain)) {
+        if !(same_lists && right && together == apart && together == by_plain) {
             panic!(
                 "{}: the outcomes differ, an answer is wrong, or a number changed\noutline {outline:?}\n\
                  tolerance {tolerance}\nlent numbers {length}\npoint ({x} {y})\ntogether {together:?}\n\

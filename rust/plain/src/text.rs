@@ -62,7 +62,7 @@ fn carry_out(job: Job) -> Result<String, Refusal> {
     lines += &done(report);
     for (x, y) in job.points {
         lines += &match judge(&records, x, y) {
-            Ok(Judgement::On { .. }) => "(on)\n".to_string(),
+            Ok(Judgement::On { leaf, cover }) => format!("(on {leaf} {cover})\n"),
             Ok(Judgement::Off) => "(off)\n".to_string(),
             Err(refusal) => refused(refusal),
         };
@@ -118,7 +118,7 @@ mod tests {
 
     #[test]
     fn the_listing() {
-        assert_eq!(printed(LISTING), format!("{LEAF}(done 1 1 1)\n(on)\n(off)\n"));
+        assert_eq!(printed(LISTING), format!("{LEAF}(done 1 1 1)\n(on 0 1)\n(off)\n"));
     }
 
     #[test]
@@ -142,7 +142,7 @@ mod tests {
     fn a_refused_point_is_followed_by_the_next() {
         let text =
             [TOLERANCE, CURVE, FAR, POINT, "(point (-536870913 536870913))", "(point (536870912 0))", POINT];
-        let judged = "(refused 11 1)\n(on)\n(refused 11 0)\n(off)\n(on)\n";
+        let judged = "(refused 11 1)\n(on 0 1)\n(refused 11 0)\n(off)\n(on 0 1)\n";
         assert_eq!(lines(&text), format!("{LEAF}(done 1 1 1)\n{judged}"));
     }
 
@@ -151,7 +151,8 @@ mod tests {
         let start = format!("{TOLERANCE}\n{CURVE}\n{}", "(point (240 363))\n".repeat(905));
         let longest = format!("{start}{}", "(point (0 0))\n".repeat(3));
         assert_eq!(longest.len(), 16_384);
-        assert_eq!(printed(&longest), format!("{LEAF}(done 1 1 1)\n{}", "(on)\n".repeat(908)));
+        let judged = "(on 0 1)\n".repeat(905) + &"(on 0 0)\n".repeat(3);
+        assert_eq!(printed(&longest), format!("{LEAF}(done 1 1 1)\n{judged}"));
         let longer = format!("{start}{}(point (10 0))\n", "(point (0 0))\n".repeat(2));
         assert_eq!(longer.len(), 16_385);
         assert_eq!(printed(&longer), "(refused 16 16385)\n");

@@ -4,6 +4,7 @@ mod bands;
 mod damaged;
 mod examples;
 mod finest;
+mod first;
 mod largest;
 mod random;
 mod small;
