@@ -4,6 +4,7 @@ use mathlib.Core.Bool.{Bool, true, false, cond}
 use mathlib.Core.List.{List, [], _∷_, _++_}
 use mathlib.Core.Option.{Option, none, some}
 use Prim.Native.Nat.{ℕ, _+_, _*_, _≤_}
+use native.Mathlib.Nat.{le-of-eq}
 use native.Mathlib.Omega.{arith}
 use lib.Dec.{ltb}
 use borrow.Author.Tests.{ltb-false}
@@ -42,8 +43,8 @@ module _ (m : Meaning) (old : List ℤ) (c l n : ℕ) (e : bandOf m (length old)
       go (means T outline points) f = done-room 64 T outline (length old) f
 
   -- the leaves written pass checks 9 and 10
-  pub leaves-fine : LeavesFine (take (recordLength * l) (recordsOf m old))
-  leaves-fine = go m e
+  pub leaves-fine : length old ≤ lent → LeavesFine (take (recordLength * l) (recordsOf m old))
+  leaves-fine short = go m e
     where
       go : (m : Meaning) → bandOf m (length old) ≡ Done c l n → LeavesFine (take (recordLength * l) (recordsOf m old))
       go (refused r) f = clash (cc)
@@ -52,7 +53,10 @@ module _ (m : Meaning) (old : List ℤ) (c l n : ℕ) (e : bandOf m (length old)
           let sound = written-sound 64 T outline old (h .1) (h .2) in
           let some = written-some 64 T outline old (h .1) (h .2) in
           let rs = take (recordLength * l) (written 64 T outline old) in
-          record { whole = length-fine (length rs) (omega (arith, sound .whole)) (omega (arith, sound .whole)); numbers = no-bad-number sound }
+          record {
+            passed = record { whole = length-fine (length rs) (omega (arith, sound .whole)) (omega (arith, sound .whole)); numbers = no-bad-number sound };
+            few = omega (arith, sound .whole, done-room 64 T outline (length old) f);
+          }
 
 -- ---- a text that is not refused is short
 pub text-short : (s : List ℕ) (room c l n : ℕ) → bandOf (meaning s) room ≡ Done c l n → length s ≤ mostBytes
@@ -114,7 +118,7 @@ module _ (s : List ℕ) (old : List ℤ) (zeros : old ≡ replicate lent (pos 0)
     done-short = text-short s (length old) c l n done-is
 
     pub done-fine : (new : List ℤ) → new ≡ recordsOf (meaning s) old → LeavesFine (take (recordLength * l) new)
-    done-fine new w = subst (λ ns. LeavesFine (take (recordLength * l) ns)) (sym w) (leaves-fine (meaning s) old c l n done-is)
+    done-fine new w = subst (λ ns. LeavesFine (take (recordLength * l) ns)) (sym w) (leaves-fine (meaning s) old c l n done-is (le-of-eq (zeros-length old zeros)))
 
     pub answer-done : (new : List ℤ) → new ≡ recordsOf (meaning s) old → (d o u : List ℕ) (j k : ℕ) → Within d 0 (231 * l + 70) (bandLines c l n new) o j
         → Within o j (2 * length s) (gather (lineAnswer (take (recordLength * l) new)) (linesOf s)) u k → Within d 0 243100 (answerOf s) u k

@@ -26,27 +26,27 @@ use Rattle.text.specs.Meaning.{numbersOf, faultFrom, meaningOf, meaning}
 use Rattle.text.proofs.Examples.{listing}
 use Rattle.digits.specs.Digits.{digits}
 use Rattle.decimals.specs.Decimals.{decimal, spaced, spacedNatural}
-use Rattle.render.specs.Answers.{doneLine, refusedLine}
+use Rattle.render.specs.Answers.{doneLine, refusedLine, onLine}
 use Rattle.box_bytes.specs.Boxes.{fourNumbers, boxBytes, boxesBytes}
 use Rattle.leaf_lines.specs.Leaves.{leafLine, leafLines}
 use Rattle.leaf_list.specs.Checks.{numberFault}
 use Rattle.held.specs.Deciding.{held}
 use Rattle.judging.specs.Judging.{judgingFault}
-use Rattle.judging.specs.OnBand.{firstHolder}
+use Rattle.judging.specs.Judgements.{firstHeld, judgement}
 use Rattle.band_lines.specs.BandLines.{bandLines}
 use Rattle.point_answers.specs.Points.{pointLine, pointLines}
 use Rattle.answer.specs.Answers.{answerTo, answerOf}
 
 -- what the examples compute through
 computing : List ℕ → List ℕ
-unfolding answerOf answerTo bandLines pointLines pointLine judgingFault numberFault firstHolder held meaning meaningOf faultFrom numbersOf linesOf linesFrom gather Forms.formAt Pairs.startsWith Forms.toleranceAt Forms.pointAt Forms.curveAt Forms.curveThird Forms.curveFourth Forms.curveEnd Pairs.spacedPairAt Pairs.pairAt Pairs.numberThen numberAt naturalAt valueFrom digitCount written allRecords Records.recordsOf recordOf banded bandCurves firstTooWide leavesOf nodesOf ends met firstFailing outlined outlineFrom faultAt firstBad curveAt descend descendIn depth nodeCurve meets boxAt high low rowSum floor ceiling leftHalf rightHalf left right triangle pow one leafLines leafLine boxesBytes boxBytes fourNumbers doneLine refusedLine spaced spacedNatural decimal digits
+unfolding answerOf answerTo bandLines pointLines pointLine judgingFault numberFault judgement firstHeld held meaning meaningOf faultFrom numbersOf linesOf linesFrom gather Forms.formAt Pairs.startsWith Forms.toleranceAt Forms.pointAt Forms.curveAt Forms.curveThird Forms.curveFourth Forms.curveEnd Pairs.spacedPairAt Pairs.pairAt Pairs.numberThen numberAt naturalAt valueFrom digitCount written allRecords Records.recordsOf recordOf banded bandCurves firstTooWide leavesOf nodesOf ends met firstFailing outlined outlineFrom faultAt firstBad curveAt descend descendIn depth nodeCurve meets boxAt high low rowSum floor ceiling leftHalf rightHalf left right triangle pow one leafLines leafLine boxesBytes boxBytes fourNumbers doneLine refusedLine onLine spaced spacedNatural decimal digits
 computing = answerOf
 
--- "(leaf 0 1 (0 0 0 38) (160 160 319 363) (320 320 319 363) (480 480 0 38))", "(done 1 1 1)", "(on)", "(off)"
+-- "(leaf 0 1 (0 0 0 38) (160 160 319 363) (320 320 319 363) (480 480 0 38))", "(done 1 1 1)", "(on 0 1)", "(off)"
 pub listing-answer : answerOf listing
     ≡ 40 ∷ 108 ∷ 101 ∷ 97 ∷ 102 ∷ 32 ∷ 48 ∷ 32 ∷ 49 ∷ 32 ∷ 40 ∷ 48 ∷ 32 ∷ 48 ∷ 32 ∷ 48 ∷ 32 ∷ 51 ∷ 56 ∷ 41 ∷ 32 ∷ 40 ∷ 49 ∷ 54 ∷ 48 ∷ 32 ∷ 49 ∷ 54 ∷ 48 ∷ 32 ∷ 51 ∷ 49 ∷ 57 ∷ 32 ∷ 51 ∷ 54 ∷ 51 ∷ 41 ∷ 32 ∷ 40 ∷ 51 ∷ 50 ∷ 48 ∷ 32 ∷ 51 ∷ 50 ∷ 48 ∷ 32 ∷ 51 ∷ 49 ∷ 57 ∷ 32 ∷ 51 ∷ 54 ∷ 51 ∷ 41 ∷ 32 ∷ 40 ∷ 52 ∷ 56 ∷ 48 ∷ 32 ∷ 52 ∷ 56 ∷ 48 ∷ 32 ∷ 48 ∷ 32 ∷ 51 ∷ 56 ∷ 41 ∷ 41 ∷ 10
     ∷ 40 ∷ 100 ∷ 111 ∷ 110 ∷ 101 ∷ 32 ∷ 49 ∷ 32 ∷ 49 ∷ 32 ∷ 49 ∷ 41 ∷ 10
-    ∷ 40 ∷ 111 ∷ 110 ∷ 41 ∷ 10 ∷ 40 ∷ 111 ∷ 102 ∷ 102 ∷ 41 ∷ 10 ∷ []
+    ∷ 40 ∷ 111 ∷ 110 ∷ 32 ∷ 48 ∷ 32 ∷ 49 ∷ 41 ∷ 10 ∷ 40 ∷ 111 ∷ 102 ∷ 102 ∷ 41 ∷ 10 ∷ []
 unfolding computing
 listing-answer = refl
 

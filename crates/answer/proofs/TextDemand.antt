@@ -1,7 +1,9 @@
 -- Demand 3 for the text program: the line of a point says what judging may answer to the leaves written, so the engine's demand 3 speaks of it.
-use mathlib.Core.Path.{_≡_, refl, sym, _∙_, ap}
+use mathlib.Core.Path.{_≡_, refl, sym, _∙_, ap, subst}
 use mathlib.Core.List.{List, [], _∷_, _++_, append-assoc}
+use mathlib.Core.Option.{none}
 use Prim.Native.Nat.{ℕ, _+_, _*_}
+use native.Mathlib.Nat.{le-of-eq}
 use native.Mathlib.Omega.{arith}
 use lib.ListN.{length, replicate, length-replicate, getD}
 use lib.IntN.{ℤ, pos}
@@ -11,14 +13,19 @@ use Rattle.banding.specs.Banding.{banded}
 use Rattle.banding.proofs.Theorems.{done-exactly, written-sound}
 use Rattle.judging.specs.declared.Judgement.{Judgement}
 use Rattle.judging.specs.declared.Judgement.the-variants.{On, Off, Refused}
+use Rattle.judging.specs.Judging.{pointFault, judgingFault, Verdict, Judged}
+use Rattle.judging.specs.Judgements.{judgement}
+use Rattle.judging.proofs.Answers.{judged-found}
+use Rattle.judging.proofs.Judgements.{is-judged}
 use Rattle.engine.specs.Demand3.{IsOn, Demand3}
 use Rattle.engine.proofs.Demand3.{demand-3}
 use Rattle.text.specs.Meaning.{means, meaning}
-use Rattle.render.specs.Answers.{refusedLine}
+use Rattle.render.specs.Answers.{refusedLine, onLine, offLine}
 use Rattle.band_lines.specs.BandLines.{bandLines}
-use Rattle.point_answers.specs.Points.{pointLine, pointLines}
-use Rattle.point_answers.proofs.Judging.{lineOf, line-said, some-answer}
+use Rattle.point_answers.specs.Points.{lineOf, pointLine, pointLines}
+use Rattle.point_answers.proofs.Judging.{line-said, fault-fine}
 use Rattle.answer.specs.Answers.{lent, lines, answerTo, answerOf}
+use Rattle.answer.proofs.Answers.{leaves-fine}
 use Rattle.answer.specs.TextDemand.{SaysOn, textRecords, textLeaves, PointAnswered, TextDemand3}
 
 -- ---- the line of one point among those of all
@@ -31,10 +38,16 @@ points-split leaves (p ∷ before) x y after =
 
 -- ---- a line that says on is that of an answer on
 says-on : (j : Judgement) → SaysOn (lineOf j) → IsOn j
-unfolding refusedLine
+unfolding onLine refusedLine
 says-on (On leaf cover) e = record { leaf = leaf; cover = cover; is = refl }
-says-on Off e = let z = ap (λ (l : List ℕ). getD l 2 0) e in absurd (omega arith)
-says-on (Refused r) e = let z = ap (λ (l : List ℕ). getD l 1 0) e in absurd (omega arith)
+says-on Off e = let z = ap (λ (l : List ℕ). getD l 2 0) (e .is) in absurd (omega arith)
+says-on (Refused r) e = let z = ap (λ (l : List ℕ). getD l 1 0) (e .is) in absurd (omega arith)
+
+says-off : (j : Judgement) → lineOf j ≡ offLine → j ≡ Off
+unfolding onLine refusedLine
+says-off Off e = refl
+says-off (On leaf cover) e = let z = ap (λ (l : List ℕ). getD l 2 0) e in absurd (omega arith)
+says-off (Refused r) e = let z = ap (λ (l : List ℕ). getD l 1 0) e in absurd (omega arith)
 
 module _ (T : ℤ) (outline : List ℤ) (a b c : ℕ) (done : banded 64 T outline lent ≡ Done a b c) where
   abbrev leaves : List ℤ
@@ -43,14 +56,15 @@ module _ (T : ℤ) (outline : List ℤ) (a b c : ℕ) (done : banded 64 T outlin
   zeros-lent : banded 64 T outline (length (replicate lent (pos 0))) ≡ Done a b c
   zeros-lent = ap (banded 64 T outline) (length-replicate lent (pos 0)) ∙ done
 
-  -- the engine's demand 3, of an answer that judging may give
-  demand : (x y : ℤ) → Demand3 64 T outline leaves x y (some-answer leaves x y .answer)
-  demand x y =
-      let j = some-answer leaves x y in
-      demand-3 64 T outline (replicate lent (pos 0)) a b c zeros-lent x y (j .answer) (j .judged)
+  -- the engine's demand 3, of the answer that judging gives
+  demand : (x y : ℤ) → Demand3 64 T outline leaves x y (judgement 64 leaves x y)
+  demand x y = demand-3 64 T outline (replicate lent (pos 0)) a b c zeros-lent x y (judgement 64 leaves x y) (is-judged 64 leaves x y)
 
-  line-is : (x y : ℤ) → pointLine leaves x y ≡ lineOf (some-answer leaves x y .answer)
-  line-is x y = let j = some-answer leaves x y in line-said leaves x y (j .answer) (j .judged)
+  -- where the point is in range nothing is refused, so what judging says of the leaves is the line
+  passes : (x y : ℤ) → pointFault x y ≡ none → judgingFault 64 leaves x y ≡ none
+  passes x y e =
+      let p = leaves-fine (means T outline []) (replicate lent (pos 0)) a b c zeros-lent (le-of-eq (length-replicate lent (pos 0))) .passed in
+      fault-fine leaves p x y ∙ e
 
   whole : length leaves ≡ recordLength * b
   whole =
@@ -68,16 +82,24 @@ module _ (s : List ℕ) (T : ℤ) (outline : List ℤ) (points : List (ℤ × �
   point-answered before x y after e =
       let rs = textLeaves T outline b in
       let band = bandLines a b c (textRecords T outline) in
-      let j = some-answer rs x y .answer in
-      let is = line-is T outline a b c done x y in
+      let j = judgement 64 rs x y in
+      let is : pointLine rs x y ≡ lineOf j = sym (line-said rs x y j (is-judged 64 rs x y)) in
       let d = demand T outline a b c done x y in
       record {
         line = pointLine rs x y;
         place =
             all-lines ∙ ap (λ (ps : List (ℤ × ℤ)). band ++ pointLines rs ps) e
             ∙ ap (λ (l : List ℕ). band ++ l) (points-split rs before x y after) ∙ sym (simp append-assoc);
-        every-point-on = λ k curve of p r some equals. is ∙ ap lineOf (d .every-point-on k curve of p r some equals .is);
-        every-on-near = λ on. d .every-on-near (says-on j (sym is ∙ on));
+        every-point-on = λ k curve of p r some equals.
+            let on = d .every-point-on k curve of p r some equals in
+            record { leaf = on .leaf; cover = on .cover; is = is ∙ ap lineOf (on .is) };
+        names-first = λ f k i h. sym (line-said rs x y (On k i) (judged-found 64 rs x y (On k i) (passes T outline a b c done x y f) h));
+        off-exactly = λ f.
+            let e = passes T outline a b c done x y f in (
+              λ l. subst (λ o. Verdict o rs x y Off) e (subst (Judged 64 rs x y) (says-off j (sym is ∙ l)) (is-judged 64 rs x y)),
+              λ v. sym (line-said rs x y Off (judged-found 64 rs x y Off e v)),
+            );
+        every-on-near = λ on. d .every-on-near (says-on j (record { leaf = on .leaf; cover = on .cover; is = sym is ∙ on .is }));
       }
 
   pub text-demand-3 : TextDemand3 s T outline a b c points

@@ -2,7 +2,9 @@
 -- tolerance T, an outline and points (`meaning`), and banding accepts the outline at T with what is lent (`banded`) and
 -- reports a curves, b leaves and c nodes. `text-demand-3` of crates/answer/proofs/TextDemand.antt proves it.
 use mathlib.Core.Path.{_≡_}
+use mathlib.Core.Logic.{_↔_}
 use mathlib.Core.List.{List, _∷_, _++_}
+use mathlib.Core.Option.{none}
 use Prim.Native.Nat.{ℕ, _+_, _*_, _<_}
 use lib.ListN.{take, replicate}
 use lib.IntN.{ℤ, pos}
@@ -12,15 +14,19 @@ use Rattle.bezier.specs.declared.Curve.{Curve}
 use Rattle.bezier.specs.Points.{Equals}
 use Rattle.banding.specs.Banding.{written}
 use Rattle.banding.specs.Outcomes.{Flat}
+use Rattle.judging.specs.declared.Judgement.the-variants.{Off}
+use Rattle.judging.specs.Judging.{pointFault, FirstHolder, Verdict}
 use Rattle.engine.specs.Demand3.{CurveOf, Somewhere, Shallow}
-use Rattle.render.specs.Answers.{onLine}
+use Rattle.render.specs.Answers.{onLine, offLine}
 use Rattle.band_lines.specs.BandLines.{bandLines}
 use Rattle.point_answers.specs.Points.{pointLines}
 use Rattle.answer.specs.Answers.{lent, answerOf}
 
--- the line of a point says that it is on
-abbrev pub SaysOn : List ℕ → Type 0
-SaysOn line = line ≡ onLine
+-- the line of a point says that it is on, with a record and a cover
+pub record SaysOn (line : List ℕ) : Type 0 where
+  pub leaf : ℕ
+  pub cover : ℕ
+  pub is : line ≡ onLine leaf cover
 
 -- the lent list as banding leaves it, and the leaves written in it
 abbrev pub textRecords : ℤ → List ℤ → List ℤ
@@ -40,6 +46,9 @@ module _ (s : List ℕ) (T : ℤ) (outline : List ℤ) (a b c : ℕ) where
     -- where the point equals one of the outline's curves at some rational parameter, its line says on
     pub every-point-on : (k : ℕ) (curve : Curve) → CurveOf 64 outline k curve → (p r : ℕ) → 0 < p + r
         → Equals curve p r x y → SaysOn line
+    -- where the point is in range, it says on with the first holder among the leaves written, and off where there is none
+    pub names-first : pointFault x y ≡ none → (k i : ℕ) → FirstHolder (textLeaves T outline b) x y k i → line ≡ onLine k i
+    pub off-exactly : pointFault x y ≡ none → (line ≡ offLine) ↔ Verdict none (textLeaves T outline b) x y Off
     -- where its line says on, there are one curve and one rational parameter at which that curve is within T
     pub every-on-near : SaysOn line → Somewhere 64 T outline x y
 

@@ -2,7 +2,7 @@
 -- alone. That it refuses no point of the outline's curves is proved, not assumed.
 use mathlib.Core.Path.{_≡_, refl, sym, _∙_, ap, subst}
 use mathlib.Core.List.{List, [], _∷_, _++_, List·Memᴰ, List·Memᴰ·head, Memᴰ·append-right}
-use mathlib.Core.Option.{Option, none, some}
+use mathlib.Core.Option.{none}
 use Prim.Native.Nat.{ℕ, suc, _+_, _*_, _^_, _≤_, _<_}
 use native.Mathlib.Nat.{le-of-eq, mul-zero}
 use native.Mathlib.Omega.{arith}
@@ -33,7 +33,8 @@ use Rattle.banding.proofs.Theorems.{done-exactly, records-written, written-some
 use Rattle.held.specs.Covers.{Holds, CoverHolds}
 use Rattle.judging.specs.declared.Judgement.{Judgement}
 use Rattle.judging.specs.declared.Judgement.the-variants.{On, Off, Refused}
-use Rattle.judging.specs.Judging.{judgingFault, Verdict, Judged}
+use Rattle.judging.specs.Judging.{Verdict, Judged}
+use Rattle.judging.proofs.Judgements.{judged-on}
 use Rattle.engine.specs.Demand3.{CurveOf, IsOn, Somewhere, Shallow, Demand3}
 use Rattle.engine.proofs.Passing.{coordinate-fine, none-refused}
 use Rattle.mixtures.proofs.Mixtures.{upP, upR, up-some}
@@ -46,11 +47,6 @@ module _ (rs : List ℤ) (x y : ℤ) where
   held-on (On leaf cover) v k i hk hi h = record { leaf = leaf; cover = cover; is = refl }
   held-on Off v k i hk hi h = absurd (v k i hk hi h)
   held-on (Refused r) v k i hk hi h = absurd v
-
-  -- where it is on, what is named holds it
-  on-held : (fault : Option Refusal) (k i : ℕ) → Verdict fault rs x y (On k i) → (recordLength * k < length rs) × (i < covers) × CoverHolds rs k i x y
-  on-held none k i v = v
-  on-held (some r) k i v = clash (cc)
 
 -- ---- the curves of an outline
 same-curves : {o : Outlined} {cs ds : List Curve} → o ≡ curves cs → o ≡ curves ds → cs ≡ ds
@@ -105,23 +101,23 @@ module _ (most : ℕ) (T : ℤ) (ns : List ℤ) (cs : List Curve) (faultless : F
 
     on-near : IsOn answer → Somewhere most T ns x y
     on-near on =
-        let v = on-held rs x y (judgingFault most rs x y) (on .leaf) (on .cover) (subst (Judged most rs x y) (on .is) judged) in
-        let w = every-record-stands T 0 cs (on .leaf) (v .0) in
+        let v = judged-on most rs x y (on .leaf) (on .cover) (subst (Judged most rs x y) (on .is) judged) in
+        let w = every-record-stands T 0 cs (on .leaf) (v .inside) in
         let c = w .curve in
         let i = member (w .before) c (w .after) (w .split) in
         let s = sized c i in
         let hn = end-facts (nodeMeets T c) deepest (w .node) (w .end) .node in
         let there = box-there c (w .node) hn (0 + length (w .before)) (w .stands) in
         let h : Holds (nodeBox c (w .node) (on .cover)) (nodeBox c (w .node) (suc (on .cover))) x y =
-        rw (← there (on .cover) (omega (arith, v .1)), ← there (suc (on .cover)) (v .1)) (v .2) in
+        rw (← there (on .cover) (omega (arith, v .cover)), ← there (suc (on .cover)) (v .cover)) (v .holds) in
         record {
           number = length (w .before);
           curve = c;
           of = record { before = w .before; after = w .after; all = faultless .outline ∙ ap curves (w .split); number = refl };
           p = upP (w .node) (on .cover) (h .a) (h .b);
           r = upR (w .node) (on .cover) (h .a) (h .b);
-          some = up-some (w .node) (on .cover) (h .a) (h .b) (v .1) (h .some);
-          near = held-near c s (w .node) hn T (meet .each c i .each (w .node) (w .end)) (on .cover) (v .1) x y h;
+          some = up-some (w .node) (on .cover) (h .a) (h .b) (v .cover) (h .some);
+          near = held-near c s (w .node) hn T (meet .each c i .each (w .node) (w .end)) (on .cover) (v .cover) x y h;
         }
 
   leaf-shallow : (i : ℕ) → recordLength * i < length rs → (k : ℕ) (c : Curve) → CurveOf most ns k c → entry rs (recordLength * i) ≡ pos k

@@ -79,7 +79,7 @@ short-point x y = go (inRange x) (inRange y)
     go true false = short-y
     go true true = omega arith
 
-fault-fine : (ns : List ℤ) → Passed 64 ns → (x y : ℤ) → judgingFault 64 ns x y ≡ pointFault x y
+pub fault-fine : (ns : List ℤ) → Passed 64 ns → (x y : ℤ) → judgingFault 64 ns x y ≡ pointFault x y
 unfolding judgingFault
 fault-fine ns f x y = rw (judgingFault, f .whole, f .numbers)
 
