@@ -1,5 +1,5 @@
 -- The starred examples hold: banding's and drawing's by computation, and judging's for every answer that its promise allows.
-use mathlib.Core.Path.{_≡_, refl, subst}
+use mathlib.Core.Path.{_≡_, refl, _∙_, subst}
 use mathlib.Core.Bool.{Bool, true, false}
 use mathlib.Core.List.{List, [], _∷_, _++_}
 use mathlib.Core.Option.{none}
@@ -12,13 +12,11 @@ use lib.IntN.{ℤ, pos, pow, one}
 use lib.Signed.{ltZ, leZ, ≤ℤ-refl}
 use Rattle.integers.specs.First.{firstBad}
 use Rattle.integers.specs.Rounding.{floor, ceiling}
-use Rattle.integers.proofs.Clash.{clash}
 use Rattle.integers.proofs.Ranges.{yes-le, no-lt}
 use Rattle.refusals.specs.declared.Refusal.the-variants.{Tolerance, Coordinate, EmptyOutline, TooWide}
 use Rattle.halves.specs.Halves.{triangle, left, right}
 use Rattle.bezier.specs.Halves.{leftHalf, rightHalf}
 use Rattle.bezier.specs.Nodes.{descendIn, descend, depth, nodeCurve}
-use Rattle.boxes.specs.Records.{boxIndex, boxAtIndex}
 use Rattle.enclosure.specs.Bounds.{rowSum, high, low}
 use Rattle.node_boxes.specs.Boxes.{boxAt, meets}
 use Rattle.outline_curves.specs.Curves.{curveAt}
@@ -35,13 +33,12 @@ use Rattle.drawing.specs.declared.Drawn.the-variants.{Vertices}
 use Rattle.drawing.specs.Drawing.{twoBoxesFault, drawn, drawnInto}
 use Rattle.boxes.specs.Ranges.{inRange}
 use Rattle.leaf_list.specs.Checks.{numberFault}
-use Rattle.held.specs.Covers.{CoverHolds}
 use Rattle.held.specs.Deciding.{held}
-use Rattle.held.proofs.Deciding.{held-exactly}
 use Rattle.judging.specs.declared.Judgement.{Judgement}
-use Rattle.judging.specs.declared.Judgement.the-variants.{On, Off, Refused}
-use Rattle.judging.specs.Judging.{judgingFault, Verdict, Judged}
-use Rattle.engine.specs.Demand3.{IsOn}
+use Rattle.judging.specs.declared.Judgement.the-variants.{On, Off}
+use Rattle.judging.specs.Judging.{judgingFault, Judged}
+use Rattle.judging.specs.Judgements.{firstHeld, judgement}
+use Rattle.judging.proofs.Judgements.{judged-is}
 use Rattle.engine.specs.Starred.{box, A, single, Starred}
 
 -- what the examples of banding compute through
@@ -54,59 +51,24 @@ drawing : Box → Box → List ℤ → List ℤ
 unfolding drawnInto drawn firstBad reached endsOf pathPoint moves verticesOf pathOf vertices numbers
 drawing a b old = drawnInto a b old
 
--- ---- the leaf of A at T 44, and a point against it
+-- ---- points against the leaf that banding wrote for A at T 44
 abbrev leaf : List ℤ
 leaf = pos 0 ∷ pos 1 ∷ box 0 0 0 38 ++ box 160 160 319 363 ++ box 320 320 319 363 ++ box 480 480 0 38
 
-abbrev checked : ℤ → ℤ → Type 0
-checked x y = judgingFault 64 leaf x y ≡ none
-
-passes-363 : checked (pos 240) (pos 363)
-unfolding judgingFault numberFault firstBad
-passes-363 = refl
-
-passes-364 : checked (pos 240) (pos 364)
-unfolding judgingFault numberFault firstBad
-passes-364 = refl
-
-cover-1 : held (boxAtIndex leaf (boxIndex 0 1)) (boxAtIndex leaf (boxIndex 0 2)) (pos 240) (pos 363) ≡ true
-unfolding held
-cover-1 = refl
-
-on : (answer : Judgement) → Verdict none leaf (pos 240) (pos 363) answer → IsOn answer
-on (On k i) v = record { leaf = k; cover = i; is = refl }
-on Off v = absurd (v 0 1 (lit< tt) (lit< tt) (held-exactly (boxAtIndex leaf (boxIndex 0 1)) (boxAtIndex leaf (boxIndex 0 2)) (pos 240) (pos 363) .0 cover-1))
-on (Refused r) v = absurd v
-
-abbrev heldAt : ℕ → Bool
-heldAt i = held (boxAtIndex leaf (boxIndex 0 i)) (boxAtIndex leaf (boxIndex 0 (suc i))) (pos 240) (pos 364)
-
-no-cover : (i : ℕ) → i < 3 → heldAt i ≡ false
-unfolding held
-no-cover zero h = refl
-no-cover (suc zero) h = refl
-no-cover (suc (suc zero)) h = refl
-no-cover (suc (suc (suc i))) h = absurd (omega arith)
-
-not-both : {b : Bool} → b ≡ false → b ≡ true → ⊥
-not-both e f = clash (cc)
-
-off : (answer : Judgement) → Verdict none leaf (pos 240) (pos 364) answer → answer ≡ Off
-off Off v = refl
-off (Refused r) v = absurd v
-off (On k i) v = absurd (first k (v .0) (v .2))
-  where
-    first : (k : ℕ) → 18 * k < 18 → CoverHolds leaf k i (pos 240) (pos 364) → ⊥
-    first zero h c = not-both (no-cover i (v .1)) (held-exactly (boxAtIndex leaf (boxIndex 0 i)) (boxAtIndex leaf (boxIndex 0 (suc i))) (pos 240) (pos 364) .1 c)
-    first (suc k) h c = omega arith
-
--- ---- judged against what banding wrote
 a-44-leaf : written 64 (pos 44) A (replicate 18 (pos 0)) ≡ leaf
 unfolding computing
 a-44-leaf = refl
 
-judged : (y : ℤ) → checked (pos 240) y → (answer : Judgement) → Judged 64 (written 64 (pos 44) A (replicate 18 (pos 0))) (pos 240) y answer → Verdict none leaf (pos 240) y answer
-judged y e answer j = subst (λ o. Verdict o leaf (pos 240) y answer) e (subst (λ rs. Judged 64 rs (pos 240) y answer) a-44-leaf j)
+on-363 : judgement 64 leaf (pos 240) (pos 363) ≡ On 0 1
+unfolding judgement judgingFault numberFault firstHeld firstBad held
+on-363 = refl
+
+off-364 : judgement 64 leaf (pos 240) (pos 364) ≡ Off
+unfolding judgement judgingFault numberFault firstHeld firstBad held
+off-364 = refl
+
+judged : (y : ℤ) (answer : Judgement) → Judged 64 (written 64 (pos 44) A (replicate 18 (pos 0))) (pos 240) y answer → answer ≡ judgement 64 leaf (pos 240) y
+judged y answer j = judged-is 64 leaf (pos 240) y answer (subst (λ rs. Judged 64 rs (pos 240) y answer) a-44-leaf j)
 
 -- ---- equal single points: nothing is less than itself, so every stretch of the path is the point, and it never moves on
 less : (z : ℤ) → ltZ z z ≡ false
@@ -168,6 +130,6 @@ starred = record {
   eight-drawn = refl;
   one-drawn = one-drawn;
   one-vertex = one-vertex;
-  point-on = λ answer j. on answer (judged (pos 363) passes-363 answer j);
-  point-off = λ answer j. off answer (judged (pos 364) passes-364 answer j);
+  point-on = λ answer j. judged (pos 363) answer j ∙ on-363;
+  point-off = λ answer j. judged (pos 364) answer j ∙ off-364;
 }

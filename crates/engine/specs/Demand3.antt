@@ -22,7 +22,7 @@ pub record CurveOf (most : ℕ) (ns : List ℤ) (k : ℕ) (c : Curve) : Type 0 w
   pub all : outlined most ns ≡ curves (before ++ c ∷ after)
   pub number : length before ≡ k
 
--- the answer is on, whichever record and cover it names
+-- the answer is on
 pub record IsOn (answer : Judgement) : Type 0 where
   pub leaf : ℕ
   pub cover : ℕ

@@ -12,13 +12,12 @@ use Rattle.banding.specs.declared.Banded.{Banded}
 use Rattle.banding.specs.declared.Banded.the-variants.{Done, Refused}
 use Rattle.banding.specs.Banding.{banded, written}
 use Rattle.judging.specs.declared.Judgement.{Judgement}
-use Rattle.judging.specs.declared.Judgement.the-variants.{Off}
+use Rattle.judging.specs.declared.Judgement.the-variants.{On, Off}
 use Rattle.judging.specs.Judging.{Judged}
 use Rattle.boxes.specs.declared.Box.{Box}
 use Rattle.boxes.specs.Ranges.{inRange}
 use Rattle.drawing.specs.declared.Drawn.the-variants.{Vertices}
 use Rattle.drawing.specs.Drawing.{drawn, drawnInto}
-use Rattle.engine.specs.Demand3.{IsOn}
 
 abbrev zeros : ℕ → List ℤ
 zeros n = replicate n (pos 0)
@@ -87,9 +86,11 @@ pub record Starred : Type 0 where
   pub empty : (room : ℕ) → RefusedWith 6 0 (banded 64 (pos 2) [] room)
   -- y 0, 1048576, 1048576, 0 as curve 0, x all 0, T 2: 7, spot 256
   pub too-wide : (room : ℕ) → RefusedWith 7 256 (banded 64 (pos 2) steep room)
-  -- (240 363) is on A's band at T 44, (240 364) off
-  pub point-on : (answer : Judgement) → Judged 64 (written 64 (pos 44) A (zeros 18)) (pos 240) (pos 363) answer → IsOn answer
-  pub point-off : (answer : Judgement) → Judged 64 (written 64 (pos 44) A (zeros 18)) (pos 240) (pos 364) answer → answer ≡ Off
+  -- (240 363) is on A's band at T 44, held first by cover 1 of record 0; (240 364) is off
+  pub point-on : (answer : Judgement) → Judged 64 (written 64 (pos 44) A (zeros 18)) (pos 240) (pos 363) answer
+      → answer ≡ On 0 1
+  pub point-off : (answer : Judgement) → Judged 64 (written 64 (pos 44) A (zeros 18)) (pos 240) (pos 364) answer
+      → answer ≡ Off
   -- 0–1 by 0–1 with 3–4 by 3–4: (0 0) (1 0) (4 3) (4 4) (3 4) (0 1)
   pub six-drawn : drawn (between 0 1) (between 3 4) 16 ≡ Vertices 6
   pub six-vertices : drawnInto (between 0 1) (between 3 4) (zeros 16) ≡ box 0 0 1 0 ++ box 4 3 4 4 ++ box 3 4 0 1 ++ zeros 4
