@@ -9,10 +9,9 @@ use lib.IntN.{ℤ}
 use Rattle.refusals.specs.declared.Refusal.{Refusal}
 use Rattle.refusals.specs.Refusals.{numberOf, spotOf}
 use Rattle.boxes.specs.Records.{recordLength}
-use Rattle.held.specs.Covers.{CoverHolds}
 use Rattle.judging.specs.declared.Judgement.{Judgement}
 use Rattle.judging.specs.declared.Judgement.the-variants.{On, Off, Refused}
-use Rattle.judging.specs.Judging.{judgingFault, Verdict}
+use Rattle.judging.specs.Judging.{judgingFault, FirstHolder, Verdict}
 use Rattle.c_answers.specs.declared.JudgingAnswer.{JudgingAnswer}
 use Rattle.c_answers.specs.Answers.{judgingAnswerOf}
 use Rattle.engine.specs.declared.Outcome.{Outcome}
@@ -22,19 +21,19 @@ use Rattle.engine.proofs.Consequences.{refused-unaltered, judged-told}
 use Rattle.contour.specs.declared.OutcomeAnswer.{OutcomeAnswer}
 use Rattle.contour.specs.Answers.{outcomeAnswerOf, JudgedInNumbers, AnsweredInNumbers}
 
--- ---- judging: where `on` is 1, the record and the cover that are named hold the point; a refusal has its number and spot
+-- ---- judging: where `on` is 1, the record and the cover that are named are the first that hold the point; a refusal has its number and spot
 module _ (ns : List ℤ) (x y : ℤ) where
   on-held : (fault : Option Refusal) (j : Judgement) → Verdict fault ns x y j → judgingAnswerOf j .on ≡ 1
-      → CoverHolds ns (judgingAnswerOf j .leaf) (judgingAnswerOf j .cover) x y
-  on-held none (On k i) v on = v .2
+      → FirstHolder ns x y (judgingAnswerOf j .leaf) (judgingAnswerOf j .cover)
+  on-held none (On k i) v on = v
   on-held none Off v on = absurd (omega arith)
   on-held none (Refused r) v on = absurd v
   on-held (some r) j v on = absurd (let o = rw v at on in omega (arith, o))
 
   module _ (n : JudgingAnswer) (judged : JudgedInNumbers ns x y n) where
-    pub judged-held : n .on ≡ 1 → CoverHolds ns (n .leaf) (n .cover) x y
+    pub judged-held : n .on ≡ 1 → FirstHolder ns x y (n .leaf) (n .cover)
     judged-held =
-        subst (λ (m : JudgingAnswer). m .on ≡ 1 → CoverHolds ns (m .leaf) (m .cover) x y) (sym (judged .are))
+        subst (λ (m : JudgingAnswer). m .on ≡ 1 → FirstHolder ns x y (m .leaf) (m .cover)) (sym (judged .are))
         (on-held (judgingFault 64 ns x y) (judged .judgement) (judged .judged))
 
     pub judged-refused : (r : Refusal) → judgingFault 64 ns x y ≡ some r → (n .refusal ≡ numberOf r) × (n .spot ≡ spotOf r)
@@ -44,7 +43,7 @@ module _ (ns : List ℤ) (x y : ℤ) where
         (ap (λ m. m .refusal) a, ap (λ m. m .spot) a)
 
 -- ---- banding and judging together: a refusal leaves the list as it was; else as many records stand in it as are reported, and where `on` is 1
--- the record and the cover that are named hold the point
+-- the record and the cover that are named are the first that hold the point
 module _ (T : ℤ) (ns : List ℤ) (x y : ℤ) (old : List ℤ) where
   unaltered : (o : Outcome) → Answered 64 T ns x y old o → (outcomeAnswerOf o .refusal ≡ 0 → ⊥) → writtenFor 64 T ns x y old ≡ old
   unaltered (Outright r) answered nonzero = refused-unaltered 64 T ns old x y r answered
@@ -53,7 +52,7 @@ module _ (T : ℤ) (ns : List ℤ) (x y : ℤ) (old : List ℤ) where
   unaltered (Judged a b c (Refused r)) answered nonzero = absurd (judged-told 64 T ns old x y a b c (Refused r) answered .judged)
 
   held : (o : Outcome) → Answered 64 T ns x y old o → outcomeAnswerOf o .on ≡ 1
-      → let n = outcomeAnswerOf o in CoverHolds (take (recordLength * n .leaves) (writtenFor 64 T ns x y old)) (n .leaf) (n .cover) x y
+      → let n = outcomeAnswerOf o in FirstHolder (take (recordLength * n .leaves) (writtenFor 64 T ns x y old)) x y (n .leaf) (n .cover)
   held (Outright r) answered on = absurd (omega arith)
   held (Judged a b c j) answered on =
       let t = judged-told 64 T ns old x y a b c j answered in
@@ -65,7 +64,7 @@ module _ (T : ℤ) (ns : List ℤ) (x y : ℤ) (old : List ℤ) where
         subst (λ (m : OutcomeAnswer). (m .refusal ≡ 0 → ⊥) → writtenFor 64 T ns x y old ≡ old) (sym (answered .are))
         (unaltered (answered .outcome) (answered .answered))
 
-    pub answered-held : n .on ≡ 1 → CoverHolds (take (recordLength * n .leaves) (writtenFor 64 T ns x y old)) (n .leaf) (n .cover) x y
+    pub answered-held : n .on ≡ 1 → FirstHolder (take (recordLength * n .leaves) (writtenFor 64 T ns x y old)) x y (n .leaf) (n .cover)
     answered-held =
-        subst (λ (m : OutcomeAnswer). m .on ≡ 1 → CoverHolds (take (recordLength * m .leaves) (writtenFor 64 T ns x y old)) (m .leaf) (m .cover) x y)
+        subst (λ (m : OutcomeAnswer). m .on ≡ 1 → FirstHolder (take (recordLength * m .leaves) (writtenFor 64 T ns x y old)) x y (m .leaf) (m .cover))
         (sym (answered .are)) (held (answered .outcome) (answered .answered))
