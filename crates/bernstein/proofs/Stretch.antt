@@ -1,15 +1,18 @@
 -- The coefficients of a polynomial over a stretch of its parameters, between any two rational parameters: p0 / w and p1 / w, where
--- w = p0 + r0 = p1 + r1. `stretch-value` says what their value is; halving at 1/2 is one case (`half-part`), and a third of a stretch another.
+-- w = p0 + r0 = p1 + r1. `stretch-value` says what their value is, `part-part` that a stretch of a stretch is a stretch of the whole. Halving at 1/2
+-- is one case (`half-part`), a third of a stretch another, and one of many stretches of one length a further one (`span`).
 use mathlib.Core.Path.{_≡_, refl, sym, _∙_, ap, ap₂, fun-ext}
 use mathlib.Core.List.{List, [], _∷_}
 use Prim.Native.Nat.{ℕ, zero, suc, _+_, _*_, _-_, _^_, _≤_, zero-le, suc-le-suc}
 use native.Mathlib.Nat.{le-of-suc-le-suc, not-suc-le-zero, mul-assoc, pow-zero, pow-suc, one-mul}
-use lib.IntN.{ℤ, pos, negsuc, natAbs, _+ℤ_, _-ℤ_, _*ℤ_, pow, one}
+use native.Mathlib.Omega.{arith}
+use lib.IntN.{ℤ, pos, negsuc, natAbs, _+ℤ_, _-ℤ_, _*ℤ_, pow, one, +ℤ-comm}
 use Rattle.integers.specs.Entry.{entry}
 use Rattle.integers.proofs.Ring.{ring, sides}
 use Rattle.integers.proofs.Order.{NonNeg, _+₀_, _×₀_}
 use Rattle.bernstein.specs.Value.{value}
-use Rattle.bernstein.proofs.Recursion.{casteljau, casteljau-ext, casteljau-mix, casteljau-nonneg, casteljau-constant, casteljau-size, mix-size, value-is, one-on}
+use Rattle.bernstein.proofs.Recursion.{casteljau, casteljau-ext, casteljau-mix, casteljau-nonneg, casteljau-constant}
+use Rattle.bernstein.proofs.Recursion.{casteljau-times, casteljau-size, mix-size, value-is, one-on}
 
 -- ---- one de Casteljau step at the weights p, r: neighbours mixed
 abbrev pub mix : ℤ → ℤ → (ℕ → ℤ) → ℕ → ℤ
@@ -39,6 +42,14 @@ module _ (p0 r0 p1 r1 : ℤ) where
   part-near (suc n) f zero h = casteljau-step p0 r0 (suc n) f
   part-near zero f (suc k) h = absurd (not-suc-le-zero h)
   part-near (suc n) f (suc k) h = part-near n (mix p1 r1 f) k (le-of-suc-le-suc h) ∙ ap (λ g. part n g k) (mix-swap p0 r0 p1 r1 f)
+
+  -- only the first n + 1 coefficients count
+  pub part-ext : (n : ℕ) (f g : ℕ → ℤ) → ((k : ℕ) → k ≤ n → f k ≡ g k) → (k : ℕ) → part n f k ≡ part n g k
+  unfolding part
+  part-ext zero f g h k = h zero zero-le
+  part-ext (suc n) f g h zero = casteljau-ext p0 r0 (suc n) f g h
+  part-ext (suc n) f g h (suc k) =
+      part-ext n (mix p1 r1 f) (mix p1 r1 g) (λ j l. ap₂ (λ x y. r1 *ℤ x +ℤ p1 *ℤ y) (h j (one-on l)) (h (suc j) (suc-le-suc l))) k
 
   -- its value at the weights b, a is the whole's at the mixed weights
   pub part-value : (a b : ℤ) (n : ℕ) (f : ℕ → ℤ) → casteljau b a n (part n f) ≡ casteljau (a *ℤ p0 +ℤ b *ℤ p1) (a *ℤ r0 +ℤ b *ℤ r1) n f
@@ -110,6 +121,87 @@ part-size p0 r0 p1 r1 w e0 e1 B zero f h k l = rw (pow-zero, one-mul) (h zero ze
 part-size p0 r0 p1 r1 w e0 e1 B (suc n) f h zero l = rw (← e0) (casteljau-size p0 r0 B (suc n) f h)
 part-size p0 r0 p1 r1 w e0 e1 B (suc n) f h (suc k) l = rw (pow-suc, mul-assoc) (part-size p0 r0 p1 r1 w e0 e1 (w * B) n (mix (pos p1) (pos r1) f)
     (λ j m. rw (← e1) (mix-size p1 r1 (f j) (f (suc j)) (h j (one-on m)) (h (suc j) (suc-le-suc m)))) k (le-of-suc-le-suc l))
+
+-- ---- a stretch of a stretch
+-- a step on neighbours that were exchanged is the step with its weights exchanged
+turned : (p r : ℤ) {x y a b : ℤ} → x ≡ b → y ≡ a → r *ℤ x +ℤ p *ℤ y ≡ p *ℤ a +ℤ r *ℤ b
+turned p r {x} {y} {a} {b} u v = ap₂ (λ x y. r *ℤ x +ℤ p *ℤ y) u v ∙ +ℤ-comm (r *ℤ b) (p *ℤ a)
+
+module _ (p0 r0 p1 r1 : ℤ) where
+  -- one step on a stretch is a step on the whole, at the mixed weights
+  mix-part : (s t : ℤ) (n : ℕ) (f : ℕ → ℤ) (k : ℕ) → k ≤ n
+      → mix s t (part p0 r0 p1 r1 (suc n) f) k ≡ part p0 r0 p1 r1 n (mix (t *ℤ p0 +ℤ s *ℤ p1) (t *ℤ r0 +ℤ s *ℤ r1) f) k
+  unfolding part
+  mix-part s t n f k l =
+      ap (λ x. t *ℤ x +ℤ s *ℤ part p0 r0 p1 r1 n (mix p1 r1 f) k) (part-near p0 r0 p1 r1 n f k l)
+      ∙ sym (part-mix p0 r0 p1 r1 t s n (mix p0 r0 f) (mix p1 r1 f) k)
+      ∙ ap (λ g. part p0 r0 p1 r1 n g k) (fun-ext (λ j. turn (f j) (f (suc j))))
+    where
+      turn : (x y : ℤ) → t *ℤ (r0 *ℤ x +ℤ p0 *ℤ y) +ℤ s *ℤ (r1 *ℤ x +ℤ p1 *ℤ y) ≡ (t *ℤ r0 +ℤ s *ℤ r1) *ℤ x +ℤ (t *ℤ p0 +ℤ s *ℤ p1) *ℤ y
+      turn x y = ring (s ∷ t ∷ p0 ∷ r0 ∷ p1 ∷ r1 ∷ x ∷ y ∷ []) (search sides depth 40 fits 9999) refl
+
+  -- it is a stretch of the whole, whose ends are the mixed weights
+  pub part-part : (s0 t0 s1 t1 : ℤ) (n : ℕ) (f : ℕ → ℤ) (k : ℕ) → k ≤ n
+      → part s0 t0 s1 t1 n (part p0 r0 p1 r1 n f) k
+      ≡ part (t0 *ℤ p0 +ℤ s0 *ℤ p1) (t0 *ℤ r0 +ℤ s0 *ℤ r1) (t1 *ℤ p0 +ℤ s1 *ℤ p1) (t1 *ℤ r0 +ℤ s1 *ℤ r1) n f k
+  unfolding part
+  part-part s0 t0 s1 t1 zero f k l = refl
+  part-part s0 t0 s1 t1 (suc n) f zero l = part-value p0 r0 p1 r1 t0 s0 (suc n) f
+  part-part s0 t0 s1 t1 (suc n) f (suc k) l =
+      let g = mix (t1 *ℤ p0 +ℤ s1 *ℤ p1) (t1 *ℤ r0 +ℤ s1 *ℤ r1) f in
+      part-ext s0 t0 s1 t1 n (mix s1 t1 (part p0 r0 p1 r1 (suc n) f)) (part p0 r0 p1 r1 n g) (mix-part s1 t1 n f) k
+      ∙ part-part s0 t0 s1 t1 n g k (le-of-suc-le-suc l)
+
+  -- weights w times as large make the coefficients w^n times as large
+  pub part-times : (w : ℤ) (n : ℕ) (f : ℕ → ℤ) (k : ℕ) → k ≤ n
+      → part (w *ℤ p0) (w *ℤ r0) (w *ℤ p1) (w *ℤ r1) n f k ≡ pow w n *ℤ part p0 r0 p1 r1 n f k
+  unfolding part pow one
+  part-times w zero f k l = ring (f 0 ∷ []) (search sides depth 20) refl
+  part-times w (suc n) f zero l = casteljau-times p0 r0 w (suc n) f
+  part-times w (suc n) f (suc k) l =
+      part-times w n (mix (w *ℤ p1) (w *ℤ r1) f) k (le-of-suc-le-suc l)
+      ∙ ap (λ z. pow w n *ℤ z)
+      (ap (λ g. part p0 r0 p1 r1 n g k) (fun-ext (λ j. turn (f j) (f (suc j)))) ∙ part-mix p0 r0 p1 r1 w (pos 0) n (mix p1 r1 f) f k)
+      ∙ last (pow w n) (part p0 r0 p1 r1 n (mix p1 r1 f) k) (part p0 r0 p1 r1 n f k)
+    where
+      turn : (x y : ℤ) → w *ℤ r1 *ℤ x +ℤ w *ℤ p1 *ℤ y ≡ w *ℤ (r1 *ℤ x +ℤ p1 *ℤ y) +ℤ pos 0 *ℤ x
+      turn x y = ring (w ∷ p1 ∷ r1 ∷ x ∷ y ∷ []) (search sides depth 20) refl
+
+      last : (u x y : ℤ) → u *ℤ (w *ℤ x +ℤ pos 0 *ℤ y) ≡ u *ℤ w *ℤ x
+      last u x y = ring (w ∷ u ∷ x ∷ y ∷ []) (search sides depth 20) refl
+
+  -- over coefficients in reverse order, the stretch is the mirrored one in reverse order
+  pub part-reversed : (n : ℕ) (f g : ℕ → ℤ) → ((j i : ℕ) → j + i ≡ n → g j ≡ f i) → (k m : ℕ) → k + m ≡ n
+      → part p0 r0 p1 r1 n g m ≡ part r1 p1 r0 p0 n f k
+  unfolding part
+  part-reversed zero f g h k m e = h 0 0 refl
+  part-reversed (suc n) f g h zero m e =
+      ap (part p0 r0 p1 r1 (suc n) g) {x = m} {y = suc n} (omega arith)
+      ∙ part-reversed n (mix r1 p1 f) (mix p1 r1 g) (λ j i l. turned p1 r1 (h j (suc i) (omega arith)) (h (suc j) i (omega arith))) 0 n (omega arith)
+      ∙ sym (part-near r1 p1 r0 p0 n f 0 zero-le)
+  part-reversed (suc n) f g h (suc k) m e =
+      part-near p0 r0 p1 r1 n g m (omega arith)
+      ∙ part-reversed n (mix r0 p0 f) (mix p0 r0 g) (λ j i l. turned p0 r0 (h j (suc i) (omega arith)) (h (suc j) i (omega arith))) k m (omega arith)
+
+-- ---- one of many stretches of one length, end to end: s come before it and e after it
+abbrev pub span : (s e : ℕ) → ℕ → (ℕ → ℤ) → ℕ → ℤ
+span s e n f k = part (pos s) (pos (suc e)) (pos (suc s)) (pos e) n f k
+
+first : (n : ℕ) (f : ℕ → ℤ) → casteljau (pos 0) (pos 1) n f ≡ f 0
+unfolding casteljau
+first zero f = refl
+first (suc n) f =
+    ap (λ x. pos 1 *ℤ x +ℤ pos 0 *ℤ casteljau (pos 0) (pos 1) n (λ k. f (suc k))) (first n f)
+    ∙ ring (f 0 ∷ casteljau (pos 0) (pos 1) n (λ k. f (suc k)) ∷ []) (search sides depth 20) refl
+
+-- the only one is the whole
+pub span-whole : (n : ℕ) (f : ℕ → ℤ) (k : ℕ) → k ≤ n → span 0 0 n f k ≡ f k
+unfolding part
+span-whole zero f zero l = refl
+span-whole zero f (suc k) l = absurd (not-suc-le-zero l)
+span-whole (suc n) f zero l = first (suc n) f
+span-whole (suc n) f (suc k) l =
+    span-whole n (mix (pos 1) (pos 0) f) k (le-of-suc-le-suc l) ∙ ring (f k ∷ f (suc k) ∷ []) (search sides depth 20) refl
 
 -- ---- over lists, which compute
 -- neighbours mixed; past the end they are 0

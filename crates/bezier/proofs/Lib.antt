@@ -4,5 +4,7 @@ pub mod Numbers
 pub mod Sizes
 pub mod Values
 pub mod Coordinates
+pub mod Spans
 pub mod Parameters
 pub mod Quarter
+pub mod Onward

@@ -29,7 +29,7 @@ pub depth-high : (n : ℕ) → 0 < n → n < 2 ^ suc (depth n)
 depth-high = node-induction (λ n. n < 2 ^ suc (depth n)) (rw depth-one (omega arith))
     (λ n b hn hb h. rw (depth-half n b hn hb) (omega (arith, pow-suc 2 (suc (depth n)))))
 
-power-order : (n j k : ℕ) → 2 ^ j ≤ n → n < 2 ^ suc k → j ≤ k
+pub power-order : (n j k : ℕ) → 2 ^ j ≤ n → n < 2 ^ suc k → j ≤ k
 power-order n j k l h = ⊎-elim (λ less. absurd (clash (pow-mono less))) (λ more. more) (lt-or-ge k j)
   where
     clash : 2 ^ suc k ≤ 2 ^ j → ⊥
@@ -121,11 +121,11 @@ after-right n =
     ∙ after-enough (2 * n) n (omega (arith, pow-suc 2 (2 * n)))
 
 -- ---- the node after a leaf as code computes it: a shift by the count of trailing zeros
-trailing-even : (k n : ℕ) → n % 2 ≡ 0 → trailingZeros (suc k) n ≡ suc (trailingZeros k (n / 2))
+pub trailing-even : (k n : ℕ) → n % 2 ≡ 0 → trailingZeros (suc k) n ≡ suc (trailingZeros k (n / 2))
 unfolding trailingZeros
 trailing-even k n e = rw e
 
-trailing-odd : (k n : ℕ) → n % 2 ≡ 1 → trailingZeros k n ≡ 0
+pub trailing-odd : (k n : ℕ) → n % 2 ≡ 1 → trailingZeros k n ≡ 0
 unfolding trailingZeros
 trailing-odd zero n e = refl
 trailing-odd (suc k) n e = rw e

@@ -1,59 +1,22 @@
 -- How large control values get: a halving makes them at most 2^d times as large, so at depth 8 they are within 2^44 where the root's are within 2^20.
 use mathlib.Core.Path.{_≡_, _∙_, ap}
 use mathlib.Core.List.{List}
-use Prim.Native.Nat.{ℕ, zero, suc, _+_, _-_, _*_, _^_, _≤_, _<_, zero-le}
-use native.Mathlib.Nat.{le-refl, le-trans, le-of-eq, add-le-add, mul-le-mul, two-pow-succ, add-mul, mul-assoc, mul-comm, mul-left-comm, mul-suc}
-use native.Mathlib.Omega.{arith}
+use Prim.Native.Nat.{ℕ, zero, suc, _*_, _^_, _≤_, _<_}
+use native.Mathlib.Nat.{le-refl, le-trans, le-of-eq, mul-le-mul, mul-comm, mul-left-comm, mul-suc}
 use lib.Pow.{pow-add, pow-mono}
-use lib.IntN.{ℤ, pos, natAbs, _*ℤ_, pow}
-use Rattle.integers.specs.Entry.{entry}
-use Rattle.integers.proofs.RingLaws.{pow-natural}
-use Rattle.integers.proofs.Size.{abs-add, abs-mul}
+use lib.IntN.{ℤ}
 use Rattle.bezier.specs.declared.Curve.{Curve}
-use Rattle.halves.specs.Halves.{listed, triangle, left, right, four}
+use Rattle.halves.specs.Halves.{left, right, four}
 use Rattle.bezier.specs.Halves.{leftHalf, rightHalf}
 use Rattle.bezier.specs.Nodes.{depth, halfOf, nodeCurve}
 use Rattle.halves.specs.Sizes.{Each}
+use Rattle.halves.proofs.Sizes.{each-four, each-left, each-right}
 use Rattle.bezier.specs.Bounds.{Sized, Halvable}
 use Rattle.bezier.proofs.Nodes.{node-induction}
 use Rattle.bezier.proofs.Numbers.{depth-one, depth-half, depth-under, node-one, node-half}
 
--- ---- lists
 pub each-wider : {B C : ℕ} {cs : List ℤ} → B ≤ C → Each B cs → Each C cs
 each-wider l h = record { under = λ k. le-trans (h .under k) l }
-
-pub listed-under : (B n : ℕ) (f : ℕ → ℤ) → ((k : ℕ) → k < n → natAbs (f k) ≤ B) → (k : ℕ) → natAbs (entry (listed n f) k) ≤ B
-listed-under B zero f h k = zero-le
-listed-under B (suc n) f h zero = h 0 (omega arith)
-listed-under B (suc n) f h (suc k) = listed-under B n (λ i. f (suc i)) (λ i l. h (suc i) (omega arith)) k
-
-pub each-four : {B : ℕ} {cs : List ℤ} → Each B cs → Each B (four cs)
-each-four {B} {cs} h = record { under = listed-under B 4 (entry cs) (λ k l. h .under k) }
-
--- ---- halves
-module _ {B : ℕ} {cs : List ℤ} (h : Each B cs) where
-  triangle-under : (j i : ℕ) → natAbs (triangle cs j i) ≤ 2 ^ j * B
-  unfolding triangle
-  triangle-under zero i = omega (arith, h .under i)
-  triangle-under (suc j) i = rw (two-pow-succ, add-mul)
-      (le-trans (abs-add (triangle cs j i) (triangle cs j (suc i))) (add-le-add (triangle-under j i) (triangle-under j (suc i))))
-
-  -- an entry of either half
-  half-under : (d m j i : ℕ) → m + j ≡ d → natAbs (pow (pos 2) m *ℤ triangle cs j i) ≤ 2 ^ d * B
-  half-under d m j i e = rw (← e, pow-add, mul-assoc)
-      (le-trans (le-of-eq (abs-mul (pow (pos 2) m) (triangle cs j i))) (mul-le-mul (le-of-eq (ap natAbs (pow-natural 2 m))) (triangle-under j i)))
-
-  pub each-left : (d : ℕ) → Each (2 ^ d * B) (left d cs)
-  unfolding left
-  each-left d = record {
-    under = listed-under (2 ^ d * B) (suc d) (λ k. pow (pos 2) (d - k) *ℤ triangle cs k 0) (λ k l. half-under d (d - k) k 0 (omega arith));
-  }
-
-  pub each-right : (d : ℕ) → Each (2 ^ d * B) (right d cs)
-  unfolding right
-  each-right d = record {
-    under = listed-under (2 ^ d * B) (suc d) (λ k. pow (pos 2) k *ℤ triangle cs (d - k) k) (λ k l. half-under d k (d - k) k (omega arith));
-  }
 
 -- ---- curves
 -- what depth k allows a coordinate of degree d, and 2^d times that at the next depth

@@ -1,5 +1,5 @@
--- Values of a curve's halves, and of a coordinate against its largest control value.
-use mathlib.Core.Path.{_≡_, refl, _∙_, ap}
+-- The halves of a curve: the mirror law, and their values; and a coordinate against its largest control value.
+use mathlib.Core.Path.{_≡_, refl, _∙_, ap, ap₂}
 use mathlib.Core.List.{List}
 use Prim.Native.Nat.{ℕ, zero, suc, _-_, _≤_, _<_}
 use lib.IntN.{ℤ, pos, negℤ, _+ℤ_, _*ℤ_}
@@ -9,9 +9,9 @@ use Rattle.integers.proofs.Size.{abs-high, abs-low}
 use Rattle.bernstein.specs.Value.{value}
 use Rattle.halves.specs.Halves.{four}
 use Rattle.halves.specs.Sizes.{Each}
-use Rattle.halves.proofs.Values.{half, half-four-value, value-within}
+use Rattle.halves.proofs.Values.{mirror-four, half, half-four-value, value-within}
 use Rattle.bezier.specs.declared.Curve.{Curve}
-use Rattle.bezier.specs.Halves.{leftHalf, rightHalf}
+use Rattle.bezier.specs.Halves.{leftHalf, rightHalf, reversedOf}
 use Rattle.bezier.specs.Nodes.{halfOf}
 use Rattle.bezier.specs.Points.{scaled}
 
@@ -20,6 +20,12 @@ pub curve-half : (b : ℕ) (c : Curve) → halfOf b c ≡ record { degree = c .d
 unfolding leftHalf rightHalf
 curve-half zero c = refl
 curve-half (suc b) c = refl
+
+-- the mirror law: the right half, its control points in reverse order, is the left half of the curve with its control points in reverse order
+pub mirror-curve : (c : Curve) → c .degree ≤ 3 → reversedOf (rightHalf c) ≡ leftHalf (reversedOf c)
+unfolding leftHalf rightHalf reversedOf
+mirror-curve c h =
+    ap₂ (λ (xs ys : List ℤ). record { degree = c .degree; x = xs; y = ys }) (mirror-four (c .degree) h (c .x)) (mirror-four (c .degree) h (c .y))
 
 module _ (p r : ℤ) (b : ℕ) (hb : b < 2) (c : Curve) (h : c .degree ≤ 3) where
   pub curve-half-x : value p r (c .degree) (halfOf b c .x) ≡ value (pos b *ℤ (p +ℤ r) +ℤ p) (pos (1 - b) *ℤ (p +ℤ r) +ℤ r) (c .degree) (c .x)

@@ -1,5 +1,7 @@
--- A curve halved, one coordinate like the other (document 01, "Halving").
-use Rattle.halves.specs.Halves.{left, right, four}
+-- A curve halved (document 01, "Halving"), turned round and carried on: one coordinate like the other.
+use Prim.Native.Nat.{ℕ}
+use Rattle.halves.specs.Halves.{left, right, reversed, four}
+use Rattle.halves.specs.Onward.{onward}
 use Rattle.bezier.specs.declared.Curve.{Curve}
 
 unfoldable pub leftHalf : Curve → Curve
@@ -7,3 +9,19 @@ leftHalf c = record { degree = c .degree; x = four (left (c .degree) (c .x)); y 
 
 unfoldable pub rightHalf : Curve → Curve
 rightHalf c = record { degree = c .degree; x = four (right (c .degree) (c .x)); y = four (right (c .degree) (c .y)) }
+
+-- the curve with its control points 0 to d in reverse order (document 02, request 02)
+unfoldable pub reversedOf : Curve → Curve
+reversedOf c = record {
+  degree = c .degree;
+  x = four (reversed (c .degree) (c .x));
+  y = four (reversed (c .degree) (c .y));
+}
+
+-- the curve carried on past its end, over a stretch of parameters 2^k times as long: only for the contract of `onward`
+unfoldable pub onwardOf : ℕ → Curve → Curve
+onwardOf k c = record {
+  degree = c .degree;
+  x = four (onward (c .degree) k (c .x));
+  y = four (onward (c .degree) k (c .y));
+}

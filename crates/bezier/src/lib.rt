@@ -1,11 +1,12 @@
-// Bézier curves of degree 1 to 3 over scaled whole numbers, their halves, and the nodes of repeated halving.
+// Bézier curves of degree 1 to 3 over scaled whole numbers, halved and carried on, and the nodes of repeated halving.
 
 ghost use mathlib.Core.Path.{_≡_};
-ghost use Prim.Native.Nat.{_^_, _<_};
+ghost use Prim.Native.Nat.{_^_, _≤_, _<_};
 ghost use Rattle.bezier.specs.Nodes.{depth, after, nodeCurve};
-ghost use Rattle.bezier.specs.Halves.{leftHalf, rightHalf};
+ghost use Rattle.bezier.specs.Halves.{leftHalf, rightHalf, onwardOf};
 ghost use Rattle.bezier.specs.Bounds.{Sized, Halvable};
 use half_values::left_values;
+use half_values::onward::onward_values;
 use half_values::right_values;
 
 // A curve (document 01): its degree and four control values a coordinate, those past the degree being zero. At depth k of halving the
@@ -40,6 +41,19 @@ impl Curve {
         let cy = self.y;
         let x = right_values(degree, cx);
         let y = right_values(degree, cy);
+        Curve { degree, x, y }
+    }
+
+    // The curve carried on past its end, over a stretch of parameters 2^k times as long.
+    pub fn onward(self, k: u32) -> Curve
+        requires { ⌜ Halvable self × (k ≤ 7) ⌝ }
+        ensures { λ r. ⌜ r ≡ onwardOf k self ⌝ }
+    {
+        let degree = self.degree;
+        let cx = self.x;
+        let cy = self.y;
+        let x = onward_values(degree, k, cx);
+        let y = onward_values(degree, k, cy);
         Curve { degree, x, y }
     }
 }

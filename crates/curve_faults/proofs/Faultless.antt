@@ -19,7 +19,7 @@ use Rattle.bezier.specs.declared.Curve.{Curve}
 use Rattle.halves.specs.Halves.{listed}
 use Rattle.halves.specs.Sizes.{Each}
 use Rattle.bezier.specs.Bounds.{Sized}
-use Rattle.bezier.proofs.Sizes.{listed-under}
+use Rattle.halves.proofs.Sizes.{listed-under}
 use Rattle.outline_curves.specs.Curves.{coordinates, degreeAt, nextAt, values, curveAt}
 use Rattle.curve_faults.specs.declared.Found.{Found}
 use Rattle.curve_faults.specs.declared.Found.the-variants.{At, Nothing as NotFound}

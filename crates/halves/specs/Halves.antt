@@ -23,6 +23,10 @@ left d cs = listed (suc d) (λ k. pow (pos 2) (d - k) *ℤ triangle cs k 0)
 unfoldable pub right : ℕ → List ℤ → List ℤ
 right d cs = listed (suc d) (λ k. pow (pos 2) k *ℤ triangle cs (d - k) k)
 
+-- the d + 1 control values in reverse order (document 02, request 02)
+abbrev pub reversed : ℕ → List ℤ → List ℤ
+reversed d cs = listed (suc d) (λ k. entry cs (d - k))
+
 -- four control values, those past the end being zero
 abbrev pub four : List ℤ → List ℤ
 four cs = listed 4 (entry cs)

@@ -4,11 +4,11 @@ ghost use Rattle.outline.specs.Checks.{outlineFrom};
 ghost use Rattle.passes.specs.Leaves.{curvesOf};
 ghost use Rattle.passes.specs.Counted.{Readable, countedOf};
 use curve_values::curve_at;
-use leaf_walk::walk;
 use outline_curves::next_at;
 use passes::Counted;
 use refusals::Refusal;
 use walk::Walked;
+use walk::walk;
 
 // The leaves of an outline without faults that has this many curves.
 pub fn count(ns: &[i32], t: i64, curves: usize) -> Counted

@@ -10,34 +10,29 @@ ghost use Rattle.passes.specs.Leaves.{curvesOf};
 ghost use Rattle.passes.specs.Writing.{Ready, Fillable};
 use bezier::Curve;
 use curve_values::curve_at;
-use leaf_walk::walk;
 use outline_curves::next_at;
 use record_writing::put_record;
+use walk::Part;
 
-// The records of a curve's leaves, from place `at` on. It returns the place after them. The path is as in `walk`.
+// The records of a curve's leaves, from place `at` on. It returns the place after them.
 pub fn write_curve(records: &mut [i32], at: usize, number: u32, curve: Curve, t: i64) -> usize
     requires { ⌜ (Ready t curve) × (number < 2 ^ 31) × (at + 18 * length (endsOf t curve) ≤ length (now records)) ⌝ }
     ensures { λ r. ⌜ (r ≡ at + 18 * length (endsOf t curve)) × (now (records .exit) ≡ sets (now (records .entry)) at (recordsOf number curve (endsOf t curve))) ⌝ }
 {
-    let mut path = [curve; 8];
-    let mut part = curve;
-    let mut node: u32 = 1;
+    let mut part = Part { node: 1, curve };
     let mut place = at;
     loop {
-        let depth = bezier::depth(node);
-        if node_test::meets(part, depth, t) {
-            put_record(records, place, number, node, part);
+        let node = part.node;
+        let own = part.curve;
+        if node_test::meets(own, bezier::depth(node), t) {
+            put_record(records, place, number, node, own);
             place += 18;
-            node = bezier::after(node);
-            if node == 1 {
+            part = part.after();
+            if part.node == 1 {
                 return place;
             }
-            let above = bezier::depth(node) - 1;
-            part = path[above as usize].right();
         } else {
-            path[depth as usize] = part;
             part = part.left();
-            node = 2 * node;
         }
     }
 }

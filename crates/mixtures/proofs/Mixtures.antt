@@ -11,10 +11,12 @@ use Rattle.integers.proofs.RingLaws.{pow-last}
 use Rattle.integers.proofs.Ring.{ring, sides}
 use Rattle.integers.proofs.Order.{gap, natural, balance, le-by, pos-lt, pow-nonneg, pow-positive, times-positive, *ℤ-cancel, _+₀_, _×₀_}
 use Rattle.bernstein.specs.Value.{value}
+use Rattle.halves.proofs.Values.{denominator}
 use Rattle.bezier.specs.Nodes.{depth, start}
 use Rattle.bezier.specs.Points.{scaled, sixteenths, Near}
 use Rattle.bezier.proofs.Coordinates.{nodeValues}
-use Rattle.bezier.proofs.Parameters.{remaining, values-up, up-sum, pAt, rAt, same-sum, values-down, denominator}
+use Rattle.bezier.proofs.Spans.{remaining}
+use Rattle.bezier.proofs.Parameters.{values-up, up-sum, pAt, rAt, same-sum, values-down}
 use Rattle.rows.specs.Rows.{Row, pieces, thirds}
 use Rattle.enclosure.specs.Bounds.{low, high}
 use Rattle.enclosure.specs.Thirds.{lowOf, highOf}

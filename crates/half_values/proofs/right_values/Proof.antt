@@ -1,37 +1,32 @@
--- One coordinate of the right half, by the degree.
-use mathlib.Core.Path.{_≡_}
-use native.Mathlib.Omega.{arith}
+-- One coordinate of the right half: by the mirror law it is the left one, mirrored before and after.
+use mathlib.Core.Path.{_∙_, ap}
 use borrow.Author.Needs.{needs}
+use Rattle.halves.specs.Halves.{left, reversed, four}
+use Rattle.halves.proofs.Values.{right-four}
+use Rattle.halves.proofs.Sizes.{each-four, each-reversed}
 use Rattle.half_values.proofs.right_values.Statement.{statement}
 use Rattle.half_values.proofs.right_values.Tie as tie
 
-right-line-requires : tie.Need-right-line-requires
-right-line-requires c κs = search needs
+reversed-requires : tie.Need-reversed-requires
+reversed-requires c κs = search needs
 
-right-quadratic-requires : tie.Need-right-quadratic-requires
-right-quadratic-requires c κs = search needs
+left-values-requires : tie.Need-left-values-requires
+left-values-requires c κs =
+    let s = c .before in
+    (s .pre .0, s .pre .1, rw (c .reversed .ensures) (each-four (each-reversed (s .pre .2) (s .args .degree))))
 
-right-cubic-requires : tie.Need-right-cubic-requires
-right-cubic-requires c κs = search needs
+reversed-requires-2 : tie.Need-reversed-requires-2
+reversed-requires-2 c κs = search needs
 
 returns : tie.Need-returns
-returns c = rw (c .before .match .keys1) (c .right-line .ensures)
-
-returns-2 : tie.Need-returns-2
-returns-2 c = rw (c .before .match .keys2) (c .right-quadratic .ensures)
-
-returns-3 : tie.Need-returns-3
-returns-3 c =
-    let e : c .before .before .args .degree ≡ 3 = omega arith in
-    rw e (c .right-cubic .ensures)
+returns c =
+    let l = c .before in
+    let s = l .before .before in
+    let d = s .args .degree in
+    c .reversed2 .ensures
+    ∙ ap (λ cs. four (reversed d cs)) (l .left-values .ensures ∙ ap (λ cs. four (left d cs)) (l .before .reversed .ensures))
+    ∙ right-four d (s .pre .1) _
 
 pub right-values-spec : {M : Type 1} → statement M
 right-values-spec =
-    tie.close
-    (tie.spec
-    right-line-requires
-    right-quadratic-requires
-    right-cubic-requires
-    returns
-    returns-2
-    returns-3)
+    tie.close (tie.spec reversed-requires left-values-requires reversed-requires-2 returns)
