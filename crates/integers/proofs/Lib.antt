@@ -10,6 +10,7 @@ pub mod Table
 pub mod Between
 pub mod Clash
 pub mod Both
+pub mod Equal
 pub mod First
 pub mod Size
 pub mod Machine

@@ -1,5 +1,6 @@
--- What a reader must believe of this crate: entries of a list, ranges, the first bad place, and division rounded down and up.
+-- What a reader must believe of this crate: entries of a list, ranges, equality, the first bad place, and division rounded down and up.
 pub mod Entry
 pub mod Between
+pub mod Equal
 pub mod First
 pub mod Rounding

@@ -2,20 +2,19 @@
 use mathlib.Core.Path.{_≡_, refl, sym, _∙_, ap, ap₂}
 use mathlib.Core.Bool.{Bool, true, false, _&&_}
 use Prim.Native.Nat.{ℕ, zero, suc}
-use borrow.Author.Tests.{eqb-true, eqb-false}
 use lib.Dec.{eqb}
 use lib.IntN.{ℤ}
-use lib.Signed.{ltZ, leZ, ≤ℤ-refl}
+use lib.Signed.{ltZ}
 use mir.Syntax.{w32}
 use mir.Val.{SFits, ofZ}
 use mir.Facts.{toZ-ofZ}
-use Rattle.integers.proofs.Ranges.{stored, equal as same-number, yes-le, le-yes}
-use Rattle.integers.proofs.Order.{≤ℤ-antisymm}
+use Rattle.integers.proofs.Ranges.{stored}
+use Rattle.integers.proofs.Equal.{bits-equal, bits-differ, bits-test}
 use Rattle.boxes.specs.declared.Box.{Box}
 use Rattle.polygon.specs.declared.Span.{Span}
 use Rattle.polygon.specs.declared.Point.{Point}
 use Rattle.polygon.specs.declared.Ends.{Ends}
-use Rattle.polygon.specs.Polygon.{lower, higher, joined, reached, endsOf, acrossOf, uprightOf, pathPoint, equal, same, verticesOf, pathOf, vertices}
+use Rattle.polygon.specs.Polygon.{lower, higher, joined, reached, endsOf, acrossOf, uprightOf, pathPoint, same, verticesOf, pathOf, vertices}
 
 module _ {a b : ℤ} (fa : SFits w32 a) (fb : SFits w32 b) where
   pub less : (t : Bool) → ltZ (stored w32 a) (stored w32 b) ≡ t → ltZ a b ≡ t
@@ -82,26 +81,7 @@ module _ (u v : Ends) where
   path-rest (suc (suc (suc (suc (suc (suc (suc zero))))))) a b c d e f g = absurd (g refl)
   path-rest (suc (suc (suc (suc (suc (suc (suc (suc k)))))))) a b c d e f g = refl
 
--- bits are equal exactly where the numbers are
-module _ {a b : ℤ} (fa : SFits w32 a) (fb : SFits w32 b) where
-  pub bits-equal : ofZ w32 a ≡ ofZ w32 b → equal a b ≡ true
-  bits-equal e = let f = same-number fa fb e in rw f (rw (yes-le (≤ℤ-refl b)))
-
-  pub bits-differ : (ofZ w32 a ≡ ofZ w32 b → ⊥) → equal a b ≡ false
-  bits-differ f = go (leZ a b) refl (leZ b a) refl
-    where
-      go : (s : Bool) → leZ a b ≡ s → (t : Bool) → leZ b a ≡ t → (s && t) ≡ false
-      go true d true e = absurd (f (ap (ofZ w32) (≤ℤ-antisymm {a = a} {b = b} (le-yes d) (le-yes e))))
-      go true d false e = refl
-      go false d t e = refl
-
-  pub bits-test : eqb (ofZ w32 a) (ofZ w32 b) ≡ equal a b
-  bits-test = go (eqb (ofZ w32 a) (ofZ w32 b)) refl
-    where
-      go : (t : Bool) → eqb (ofZ w32 a) (ofZ w32 b) ≡ t → t ≡ equal a b
-      go true e = sym (bits-equal (eqb-true (ofZ w32 a) (ofZ w32 b) e))
-      go false e = sym (bits-differ (eqb-false (ofZ w32 a) (ofZ w32 b) e))
-
+-- two points by their bits
 pub same-by-y : (p q : Point) → SFits w32 (p .x) → SFits w32 (q .x) → SFits w32 (p .y) → SFits w32 (q .y)
     → ofZ w32 (p .x) ≡ ofZ w32 (q .x) → eqb (ofZ w32 (p .y)) (ofZ w32 (q .y)) ≡ same p q
 same-by-y p q px qx py qy e = bits-test py qy ∙ rw (bits-equal px qx e)

@@ -8,14 +8,14 @@ use Prim.Native.Nat.{ℕ, zero, suc, _≤_, _<_}
 use native.Mathlib.Omega.{arith}
 use lib.ListN.{length, getD, length-append, List·getD-append}
 use lib.Seq.{getD-append-seam}
-use lib.IntN.{ℤ, pos}
-use lib.Signed.{leZ, ≤ℤ-refl}
+use lib.IntN.{pos}
+use Rattle.integers.specs.Equal.{equal}
 use Rattle.integers.proofs.Clash.{clash}
-use Rattle.integers.proofs.Order.{≤ℤ-antisymm, lt-or-ge}
-use Rattle.integers.proofs.Ranges.{le-yes, yes-le}
+use Rattle.integers.proofs.Equal.{equal-≡, ≡-equal}
+use Rattle.integers.proofs.Order.{lt-or-ge}
 use Rattle.integers.proofs.Both.{both-true}
 use Rattle.polygon.specs.declared.Point.{Point}
-use Rattle.polygon.specs.Polygon.{equal, same, unless, moves}
+use Rattle.polygon.specs.Polygon.{same, unless, moves}
 use Rattle.polygon.proofs.Edges.{point-≡}
 use Rattle.polygon.proofs.Vertices.{unless-none, unless-one}
 
@@ -23,14 +23,11 @@ abbrev pub origin : Point
 origin = record { x = pos 0; y = pos 0 }
 
 -- ---- two points are one, or not
-equal-≡ : {a b : ℤ} → equal a b ≡ true → a ≡ b
-equal-≡ {a} {b} e = let h = both-true (leZ a b) (leZ b a) e in ≤ℤ-antisymm (le-yes (h .0)) (le-yes (h .1))
-
 same-≡ : (p q : Point) → same p q ≡ true → p ≡ q
 same-≡ p q e = let h = both-true (equal (p .x) (q .x)) (equal (p .y) (q .y)) e in point-≡ (equal-≡ (h .0)) (equal-≡ (h .1))
 
 same-refl : (q : Point) → same q q ≡ true
-same-refl q = rw (yes-le (≤ℤ-refl (q .x)), yes-le (≤ℤ-refl (q .y)))
+same-refl q = rw (≡-equal {a = q .x} refl, ≡-equal {a = q .y} refl)
 
 pub decide : (p q : Point) → ((p ≡ q) × (unless p q ≡ [])) ⊎ ((p ≡ q → ⊥) × (unless p q ≡ p ∷ []))
 decide p q = go (same p q) refl

@@ -5,7 +5,8 @@ use mathlib.Core.List.{List, [], _∷_, _++_}
 use Prim.Native.Nat.{ℕ, zero, suc}
 use lib.ListN.{getD}
 use lib.IntN.{ℤ}
-use lib.Signed.{ltZ, leZ}
+use lib.Signed.{ltZ}
+use Rattle.integers.specs.Equal.{equal}
 use Rattle.boxes.specs.declared.Box.{Box}
 use Rattle.polygon.specs.declared.Span.{Span}
 use Rattle.polygon.specs.declared.Point.{Point}
@@ -56,9 +57,7 @@ pathPoint v h k =
     ) k start
 
 -- ---- its vertices: the points from which it moves on, or its first where it never does
-abbrev pub equal : ℤ → ℤ → Bool
-equal a b = leZ a b && leZ b a
-
+-- the two points are one
 abbrev pub same : Point → Point → Bool
 same p q = equal (p .x) (q .x) && equal (p .y) (q .y)
 

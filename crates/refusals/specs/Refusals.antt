@@ -1,7 +1,26 @@
--- The number and the spot of each refusal (document 01, "Place of each check").
+-- The number and the spot of each refusal (document 01, "Place of each check"; 17 is request 03's).
 use Prim.Native.Nat.{ℕ, _+_, _*_}
 use Rattle.refusals.specs.declared.Refusal.{Refusal}
-use Rattle.refusals.specs.declared.Refusal.the-variants.{Tolerance, Degree, CutShort, Coordinate, TooManyCurves, EmptyOutline, TooWide, TooFewRecords, LeafListLength, LeafListNumber, PointX, PointY, BoxNumber, TooFewVertices, NotAForm, OutOfOrder, TextTooLong}
+use Rattle.refusals.specs.declared.Refusal.the-variants.{
+  Tolerance,
+  Degree,
+  CutShort,
+  Coordinate,
+  TooManyCurves,
+  EmptyOutline,
+  TooWide,
+  TooFewRecords,
+  LeafListLength,
+  LeafListNumber,
+  PointX,
+  PointY,
+  BoxNumber,
+  TooFewVertices,
+  NotAForm,
+  OutOfOrder,
+  TextTooLong,
+  Gap,
+}
 
 abbrev pub numberOf : Refusal → ℕ
 numberOf Tolerance = 1
@@ -21,6 +40,7 @@ numberOf (TooFewVertices length) = 13
 numberOf (NotAForm line) = 14
 numberOf (OutOfOrder line) = 15
 numberOf (TextTooLong first) = 16
+numberOf (Gap index) = 17
 
 -- a curve and a node of it as one number
 abbrev pub nodeSpot : ℕ → ℕ → ℕ
@@ -44,3 +64,4 @@ spotOf (TooFewVertices length) = length
 spotOf (NotAForm line) = line
 spotOf (OutOfOrder line) = line
 spotOf (TextTooLong first) = first
+spotOf (Gap index) = index

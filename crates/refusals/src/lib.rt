@@ -37,10 +37,12 @@ pub enum Refusal {
     OutOfOrder(usize),
     // 16: the text is too long; the first byte too many.
     TextTooLong(usize),
+    // 17: a curve does not begin where the one before it ends, its degree at this index.
+    Gap(usize),
 }
 
 impl Refusal {
-    // The number of document 01's table.
+    // The number of document 01's table, with those that requests add.
     pub fn number(self) -> u32
         ensures { λ n. ⌜ n ≡ numberOf self ⌝ }
     {
@@ -62,6 +64,7 @@ impl Refusal {
             Refusal::NotAForm(_) => 14,
             Refusal::OutOfOrder(_) => 15,
             Refusal::TextTooLong(_) => 16,
+            Refusal::Gap(_) => 17,
         }
     }
 
@@ -87,6 +90,7 @@ impl Refusal {
             Refusal::NotAForm(line) => line,
             Refusal::OutOfOrder(line) => line,
             Refusal::TextTooLong(first) => first,
+            Refusal::Gap(index) => index,
         }
     }
 }
