@@ -1,8 +1,8 @@
-// Checks 2, 3 and 4 of one curve of an outline.
+// Checks 2, 3, 4 and 17 of one curve of an outline.
 ghost use mathlib.Core.Path.{_≡_};
-ghost use Prim.Native.Nat.{_-_, _≤_, _<_};
+ghost use Prim.Native.Nat.{_+_, _-_, _≤_, _<_};
 ghost use lib.ListN.{length};
-ghost use Rattle.curve_faults.specs.Faults.{firstBeyond, faultAt, foundOf, faultOf};
+ghost use Rattle.curve_faults.specs.Faults.{firstBeyond, meetsBefore, faultAt, foundOf, faultOf};
 use curve_faults::Fault;
 use curve_faults::Found;
 use outline_curves::next_at;
@@ -27,7 +27,26 @@ fn first_beyond(ns: &[i32], from: usize, end: usize) -> Found
     Found::Nothing
 }
 
-// Checks 2, 3 and 4 of the curve whose degree stands at index `at`.
+// Check 17: whether the curve whose degree stands at index `at` begins where the curve before it ends, which is the point
+// in the two numbers before `at`. The first curve has none before it.
+fn meets_before(ns: &[i32], at: usize) -> bool
+    requires { ⌜ at + 2 < length (now ns) ⌝ }
+    ensures { λ r. ⌜ r ≡ meetsBefore (now (ns .entry)) at ⌝ }
+{
+    if at < 2 {
+        return true;
+    }
+    let last_x = ns[at - 2];
+    let first_x = ns[at + 1];
+    if last_x == first_x {
+        let last_y = ns[at - 1];
+        let first_y = ns[at + 2];
+        return last_y == first_y;
+    }
+    false
+}
+
+// Checks 2, 3, 4 and 17 of the curve whose degree stands at index `at`.
 pub fn fault_at(ns: &[i32], at: usize) -> Fault
     requires { ⌜ at < length (now ns) ⌝ }
     ensures { λ r. ⌜ r ≡ faultOf (faultAt (now (ns .entry)) at) ⌝ }
@@ -45,6 +64,11 @@ pub fn fault_at(ns: &[i32], at: usize) -> Fault
     }
     match first_beyond(ns, at + 1, next) {
         Found::At(i) => Fault::Is(Refusal::Coordinate(i)),
-        Found::Nothing => Fault::Nothing,
+        Found::Nothing => {
+            if meets_before(ns, at) {
+                return Fault::Nothing;
+            }
+            Fault::Is(Refusal::Gap(at))
+        }
     }
 }

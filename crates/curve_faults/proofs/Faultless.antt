@@ -1,5 +1,5 @@
--- The faults of one curve, check by check, and what a curve without a fault has: a degree from 1 to 3, all of its coordinates, and each of these
--- within 2^20.
+-- The faults of one curve, check by check, and what a curve without a fault has: a degree from 1 to 3, all of its coordinates, each of these within
+-- 2^20, and the last point of the curve before as its first.
 use mathlib.Core.Path.{_≡_, refl}
 use mathlib.Core.Bool.{Bool, true, false, cond}
 use mathlib.Core.List.{List}
@@ -14,7 +14,7 @@ use lib.IntN.{ℤ, pos, negℤ, natAbs}
 use Rattle.integers.specs.Entry.{entry}
 use Rattle.integers.proofs.Size.{abs-within}
 use Rattle.refusals.specs.declared.Refusal.{Refusal}
-use Rattle.refusals.specs.declared.Refusal.the-variants.{Degree, CutShort, Coordinate}
+use Rattle.refusals.specs.declared.Refusal.the-variants.{Degree, CutShort, Coordinate, Gap}
 use Rattle.bezier.specs.declared.Curve.{Curve}
 use Rattle.halves.specs.Halves.{listed}
 use Rattle.halves.specs.Sizes.{Each}
@@ -26,16 +26,17 @@ use Rattle.curve_faults.specs.declared.Found.the-variants.{At, Nothing a
 use Rattle.curve_faults.specs.declared.Fault.{Fault}
 use Rattle.curve_faults.specs.declared.Fault.the-variants.{Is, Nothing as NoFault}
 use Rattle.integers.specs.Between.{between}
-use Rattle.curve_faults.specs.Faults.{coordinateFine, firstBeyond, faultAt, foundOf, faultOf}
+use Rattle.curve_faults.specs.Faults.{coordinateFine, firstBeyond, meetsBefore, faultAt, foundOf, faultOf}
 use Rattle.integers.proofs.Clash.{clash}
 use Rattle.integers.proofs.Between.{between-low, between-high}
 use Rattle.integers.proofs.First.{none-bad}
 use Rattle.outline_curves.proofs.Degrees.{degree-least, degree-most}
 
--- ---- the checks one after the other; the last as the code has its answer
-abbrev pub coordinateFault : Found → Fault
-coordinateFault (At i) = Is (Coordinate i)
-coordinateFault NotFound = NoFault
+-- ---- the checks one after the other; the last two as the code has their answers
+abbrev pub lastFault : ℕ → Bool → Found → Fault
+lastFault at meet (At i) = Is (Coordinate i)
+lastFault at true NotFound = NoFault
+lastFault at false NotFound = Is (Gap at)
 
 module _ (ns : List ℤ) (at : ℕ) where
   pub fault-degree : between (pos 1) (pos 3) (entry ns at) ≡ false → faultAt ns at ≡ some (Degree at)
@@ -46,40 +47,54 @@ module _ (ns : List ℤ) (at : ℕ) where
   unfolding faultAt
   fault-cut-short e h = rw (faultAt, e, lt-ltb (length ns) (nextAt ns at) h)
 
-  pub fault-coordinate : between (pos 1) (pos 3) (entry ns at) ≡ true → nextAt ns at ≤ length ns
-      → faultOf (faultAt ns at) ≡ coordinateFault (foundOf (firstBeyond ns (nextAt ns at - (at + 1)) (at + 1)))
+  pub fault-last : between (pos 1) (pos 3) (entry ns at) ≡ true → nextAt ns at ≤ length ns
+      → faultOf (faultAt ns at) ≡ lastFault at (meetsBefore ns at) (foundOf (firstBeyond ns (nextAt ns at - (at + 1)) (at + 1)))
   unfolding faultAt
-  fault-coordinate e h =
+  fault-last e h =
       let n : nextAt ns at - (at + 1) ≡ coordinates (degreeAt ns at) = omega arith in
-      rw (n, faultAt, e, le-ltb (length ns) (nextAt ns at) h) (answered (firstBeyond ns (coordinates (degreeAt ns at)) (at + 1)))
+      rw (n, faultAt, e, le-ltb (length ns) (nextAt ns at) h) (answered (firstBeyond ns (coordinates (degreeAt ns at)) (at + 1)) (meetsBefore ns at))
     where
-      answered : (o : Option ℕ) → faultOf (elim o [ some i ↦ some (Coordinate i) | none ↦ none ]) ≡ coordinateFault (foundOf o)
-      answered none = refl
-      answered (some i) = refl
+      answered : (o : Option ℕ) (m : Bool)
+          → faultOf (elim o [ some i ↦ some (Coordinate i) | none ↦ elim m [ true ↦ none | false ↦ some (Gap at) ] ]) ≡ lastFault at m (foundOf o)
+      answered none true = refl
+      answered none false = refl
+      answered (some i) m = refl
 
--- ---- no fault: the three checks passed
+-- ---- no fault: the four checks passed
 pub record Faultless (ns : List ℤ) (at : ℕ) : Type 0 where
   pub degree : between (pos 1) (pos 3) (entry ns at) ≡ true
   pub ends : nextAt ns at ≤ length ns
   pub fine : (k : ℕ) → k < coordinates (degreeAt ns at) → coordinateFine (entry ns (at + 1 + k)) ≡ true
+  pub meets : meetsBefore ns at ≡ true
 
-clear : (b l : Bool) (o : Option ℕ) (i n : ℕ)
+clear : (b l : Bool) (o : Option ℕ) (m : Bool) (i n : ℕ)
     → _≡_ {A = Option Refusal} (elim b [
       | false ↦ some (Degree i)
-      | true ↦ elim l [ true ↦ some (CutShort n) | false ↦ elim o [ some j ↦ some (Coordinate j) | none ↦ none ] ]
+      | true ↦
+          elim l [
+            | true ↦ some (CutShort n)
+            | false ↦ elim o [ some j ↦ some (Coordinate j) | none ↦ elim m [ true ↦ none | false ↦ some (Gap i) ] ]
+          ]
     ]) none
-    → (b ≡ true) × (l ≡ false) × (o ≡ none)
-clear true false none i n e = (refl, refl, refl)
-clear true false (some j) i n e = clash (cc)
-clear true true o i n e = clash (cc)
-clear false l o i n e = clash (cc)
+    → (b ≡ true) × (l ≡ false) × (o ≡ none) × (m ≡ true)
+clear true false none true i n e = (refl, refl, refl, refl)
+clear true false none false i n e = clash (cc)
+clear true false (some j) m i n e = clash (cc)
+clear true true o m i n e = clash (cc)
+clear false l o m i n e = clash (cc)
 
 pub faultless : (ns : List ℤ) (at : ℕ) → faultAt ns at ≡ none → Faultless ns at
 unfolding faultAt
 faultless ns at e =
     let d = degreeAt ns at in
-    let s = clear (between (pos 1) (pos 3) (entry ns at)) (ltb (length ns) (nextAt ns at)) (firstBeyond ns (coordinates d) (at + 1)) at (length ns) e in
-    record { degree = s .0; ends = ltb-false (length ns) (nextAt ns at) (s .1); fine = none-bad (λ k. coordinateFine (entry ns k)) (coordinates d) (at + 1) (s .2) }
+    let beyond = firstBeyond ns (coordinates d) (at + 1) in
+    let s = clear (between (pos 1) (pos 3) (entry ns at)) (ltb (length ns) (nextAt ns at)) beyond (meetsBefore ns at) at (length ns) e in
+    record {
+      degree = s .0;
+      ends = ltb-false (length ns) (nextAt ns at) (s .1);
+      fine = none-bad (λ k. coordinateFine (entry ns k)) (coordinates d) (at + 1) (s .2);
+      meets = s .3;
+    }
 
 -- ---- its control values
 -- number k of a coordinate, as `values` lists it

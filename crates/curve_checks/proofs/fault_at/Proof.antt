@@ -1,13 +1,16 @@
--- `curve_checks::fault_at` meets its contract: each return is one of the checks 2, 3 and 4.
-use mathlib.Core.Path.{_≡_, sym, _∙_, ap}
-use mathlib.Core.Bool.{true}
-use lib.IntN.{pos}
+-- `curve_checks::fault_at` meets its contract: each return is one of the checks 2, 3, 4 and 17.
+use mathlib.Core.Path.{_≡_, sym, _∙_, ap, ap₂}
+use mathlib.Core.Bool.{Bool, true, false}
+use mathlib.Core.List.{List}
+use Prim.Native.Nat.{ℕ}
+use lib.IntN.{ℤ, pos}
 use borrow.Author.Needs.{needs}
 use Rattle.integers.specs.Entry.{entry}
 use Rattle.integers.specs.Between.{between}
-use Rattle.curve_faults.specs.Faults.{faultAt, faultOf}
+use Rattle.curve_faults.specs.declared.Found.the-variants.{Nothing}
+use Rattle.curve_faults.specs.Faults.{meetsBefore, faultAt, faultOf}
 use Rattle.integers.proofs.Between.{element-fits, found-below, found-above, found-within}
-use Rattle.curve_faults.proofs.Faultless.{fault-degree, fault-cut-short, fault-coordinate, coordinateFault}
+use Rattle.curve_faults.proofs.Faultless.{fault-degree, fault-cut-short, fault-last, lastFault}
 use Rattle.curve_checks.proofs.fault_at.Statement.{statement}
 use Rattle.curve_checks.proofs.fault_at.Tie as tie
 
@@ -57,22 +60,40 @@ enum-known-i c = search needs
 enum-told : tie.Need-enum-told
 enum-told c = search needs
 
--- past the second: what the search for a coordinate found decides
+meets-before-requires : tie.Need-meets-before-requires
+meets-before-requires c κs = search needs
+
+-- past the second: what the search for a coordinate found decides, or whether the curve meets the one before
+abbrev numbers : tie.After-first-beyond → List ℤ
+numbers c = c .before .before .before .before .before .before .args .ns .now
+
+abbrev place : tie.After-first-beyond → ℕ
+place c = c .before .before .before .before .before .before .args .at
+
 last-check : (c : tie.After-first-beyond)
-    → faultOf (faultAt (c .before .before .before .before .before .before .args .ns .now) (c .before .before .before .before .before .before .args .at))
-    ≡ coordinateFault (c .first-beyond .result)
+    → faultOf (faultAt (numbers c) (place c)) ≡ lastFault (place c) (meetsBefore (numbers c) (place c)) (c .first-beyond .result)
 last-check c =
-    let ns = c .before .before .before .before .before .before .args .ns .now in
-    let at = c .before .before .before .before .before .before .args .at in
     let next = c .before .before .next-at .ensures in
-    fault-coordinate ns at (degree-fine (c .before .before .before)) (rw next at (c .before .if3 .left))
-    ∙ ap coordinateFault (sym (rw next at (c .first-beyond .ensures)))
+    fault-last (numbers c) (place c) (degree-fine (c .before .before .before)) (rw next at (c .before .if3 .left))
+    ∙ ap (lastFault (place c) (meetsBefore (numbers c) (place c))) (sym (rw next at (c .first-beyond .ensures)))
+
+-- past the third: whether the curve meets the one before
+meeting : (c : tie.After-meets-before) (b : Bool) → c .meets-before .result ≡ b
+    → faultOf (faultAt (numbers (c .before .before .before)) (place (c .before .before .before))) ≡ lastFault (place (c .before .before .before)) b Nothing
+meeting c b e =
+    let found = c .before .before .before in
+    last-check found ∙ ap₂ (lastFault (place found)) (sym (c .meets-before .ensures) ∙ e) (c .before .enum-told .given .1)
 
 returns-4 : tie.Need-returns-4
-returns-4 c = sym (last-check (c .before .before .before) ∙ ap coordinateFault (c .before .i .given .1))
+returns-4 c = sym (meeting (c .before) true (c .if4 .taken))
 
 returns-5 : tie.Need-returns-5
-returns-5 c = sym (last-check (c .before .before) ∙ ap coordinateFault (c .enum-told .given .1))
+returns-5 c =
+    let found = c .before .before .before in
+    sym (last-check found ∙ ap (lastFault (place found) (meetsBefore (numbers found) (place found))) (c .before .i .given .1))
+
+returns-6 : tie.Need-returns-6
+returns-6 c = sym (meeting (c .before) false (c .if4 .left))
 
 pub fault-at-spec : {M : Type 1} → statement M
 fault-at-spec =
@@ -88,5 +109,7 @@ fault-at-spec =
     first-beyond-requires
     enum-known-i
     enum-told
+    meets-before-requires
     returns-4
-    returns-5)
+    returns-5
+    returns-6)

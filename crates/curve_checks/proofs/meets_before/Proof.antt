@@ -1,0 +1,81 @@
+-- `curve_checks::meets_before` meets its contract: with no two numbers before the degree there is no curve before it; else x decides, or y where x is equal.
+use mathlib.Core.Path.{_∙_}
+use Prim.Native.Nat.{_+_, _-_}
+use borrow.Author.Needs.{needs}
+use borrow.Author.Tests.{lt-ltb, le-ltb}
+use Rattle.integers.proofs.Between.{element-fits}
+use Rattle.integers.proofs.Equal.{bits-equal, bits-differ, bits-test}
+use Rattle.curve_checks.proofs.meets_before.Statement.{statement}
+use Rattle.curve_checks.proofs.meets_before.Tie as tie
+
+returns : tie.Need-returns
+returns c = rw (lt-ltb (c .before .args .at) 2 (c .if1 .taken))
+
+mul-last-x : tie.Need-mul-last-x
+mul-last-x c = search needs
+
+shared-slice-copy-out-last-x : tie.Need-shared-slice-copy-out-last-x
+shared-slice-copy-out-last-x c = search needs
+
+add-first-x : tie.Need-add-first-x
+add-first-x c = search needs
+
+mul-first-x : tie.Need-mul-first-x
+mul-first-x c = search needs
+
+shared-slice-copy-out-first-x : tie.Need-shared-slice-copy-out-first-x
+shared-slice-copy-out-first-x c = search needs
+
+sub-last-y : tie.Need-sub-last-y
+sub-last-y c = search needs
+
+mul-last-y : tie.Need-mul-last-y
+mul-last-y c = search needs
+
+shared-slice-copy-out-last-y : tie.Need-shared-slice-copy-out-last-y
+shared-slice-copy-out-last-y c = search needs
+
+add-first-y : tie.Need-add-first-y
+add-first-y c = search needs
+
+mul-first-y : tie.Need-mul-first-y
+mul-first-y c = search needs
+
+shared-slice-copy-out-first-y : tie.Need-shared-slice-copy-out-first-y
+shared-slice-copy-out-first-y c = search needs
+
+returns-2 : tie.Need-returns-2
+returns-2 c =
+    let x = c .before .before .before in
+    let ns = x .before .before .before .args .ns .now in
+    let at = x .before .before .before .args .at in
+    let same-x = bits-equal (element-fits ns (at - 2) (x .before .last-x .given)) (element-fits ns (at + 1) (x .first-x .given)) (c .before .before .if2 .taken) in
+    bits-test (element-fits ns (at - 1) (c .before .last-y .given)) (element-fits ns (at + 2) (c .first-y .given))
+    ∙ rw (le-ltb at 2 (x .before .before .if1 .left), same-x)
+
+returns-3 : tie.Need-returns-3
+returns-3 c =
+    let x = c .before in
+    let ns = x .before .before .before .args .ns .now in
+    let at = x .before .before .before .args .at in
+    let other-x = bits-differ (element-fits ns (at - 2) (x .before .last-x .given)) (element-fits ns (at + 1) (x .first-x .given)) (c .if2 .left) in
+    rw (le-ltb at 2 (x .before .before .if1 .left), other-x)
+
+pub meets-before-spec : {M : Type 1} → statement M
+meets-before-spec =
+    tie.close
+    (tie.spec
+    returns
+    mul-last-x
+    shared-slice-copy-out-last-x
+    add-first-x
+    mul-first-x
+    shared-slice-copy-out-first-x
+    sub-last-y
+    mul-last-y
+    shared-slice-copy-out-last-y
+    add-first-y
+    mul-first-y
+    shared-slice-copy-out-first-y
+    returns-2
+    returns-3)
