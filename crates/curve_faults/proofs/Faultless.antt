@@ -27,7 +27,6 @@ use Rattle.curve_faults.specs.declared.Fault.{Fault}
 use Rattle.curve_faults.specs.declared.Fault.the-variants.{Is, Nothing as NoFault}
 use Rattle.integers.specs.Between.{between}
 use Rattle.curve_faults.specs.Faults.{coordinateFine, firstBeyond, meetsBefore, faultAt, foundOf, faultOf}
-use Rattle.integers.proofs.Clash.{clash}
 use Rattle.integers.proofs.Between.{between-low, between-high}
 use Rattle.integers.proofs.First.{none-bad}
 use Rattle.outline_curves.proofs.Degrees.{degree-least, degree-most}
@@ -67,34 +66,53 @@ pub record Faultless (ns : List ℤ) (at : ℕ) : Type 0 where
   pub fine : (k : ℕ) → k < coordinates (degreeAt ns at) → coordinateFine (entry ns (at + 1 + k)) ≡ true
   pub meets : meetsBefore ns at ≡ true
 
-clear : (b l : Bool) (o : Option ℕ) (m : Bool) (i n : ℕ)
-    → _≡_ {A = Option Refusal} (elim b [
-      | false ↦ some (Degree i)
-      | true ↦
-          elim l [
-            | true ↦ some (CutShort n)
-            | false ↦ elim o [ some j ↦ some (Coordinate j) | none ↦ elim m [ true ↦ none | false ↦ some (Gap i) ] ]
-          ]
-    ]) none
-    → (b ≡ true) × (l ≡ false) × (o ≡ none) × (m ≡ true)
-clear true false none true i n e = (refl, refl, refl, refl)
-clear true false none false i n e = clash (cc)
-clear true false (some j) m i n e = clash (cc)
-clear true true o m i n e = clash (cc)
-clear false l o m i n e = clash (cc)
+-- ---- what the checks find, case by case
+pub data Finding (ns : List ℤ) (at : ℕ) : Option Refusal → Type 0 where
+  no-degree : Finding ns at (some (Degree at))
+  cut-short : Finding ns at (some (CutShort (length ns)))
+  beyond : (i : ℕ) → Finding ns at (some (Coordinate i))
+  gap : meetsBefore ns at ≡ false → Finding ns at (some (Gap at))
+  none-found : Faultless ns at → Finding ns at none
+
+pub finding : (ns : List ℤ) (at : ℕ) → Finding ns at (faultAt ns at)
+unfolding faultAt
+finding ns at =
+    go (between (pos 1) (pos 3) (entry ns at)) refl (ltb (length ns) (nextAt ns at)) refl
+    (firstBeyond ns (coordinates (degreeAt ns at)) (at + 1)) refl (meetsBefore ns at) refl
+  where
+    go : (b : Bool) → between (pos 1) (pos 3) (entry ns at) ≡ b → (l : Bool) → ltb (length ns) (nextAt ns at) ≡ l
+        → (o : Option ℕ) → firstBeyond ns (coordinates (degreeAt ns at)) (at + 1) ≡ o → (m : Bool) → meetsBefore ns at ≡ m
+        → Finding ns at (elim b [
+          | false ↦ some (Degree at)
+          | true ↦
+              elim l [
+                | true ↦ some (CutShort (length ns))
+                | false ↦ elim o [ some i ↦ some (Coordinate i) | none ↦ elim m [ true ↦ none | false ↦ some (Gap at) ] ]
+              ]
+        ])
+    go false b l f o g m h = no-degree
+    go true b true f o g m h = cut-short
+    go true b false f (some i) g m h = beyond i
+    go true b false f none g false h = gap h
+    go true b false f none g true h = none-found (record {
+      degree = b;
+      ends = ltb-false (length ns) (nextAt ns at) f;
+      fine = none-bad (λ k. coordinateFine (entry ns k)) (coordinates (degreeAt ns at)) (at + 1) g;
+      meets = h;
+    })
 
 pub faultless : (ns : List ℤ) (at : ℕ) → faultAt ns at ≡ none → Faultless ns at
-unfolding faultAt
-faultless ns at e =
-    let d = degreeAt ns at in
-    let beyond = firstBeyond ns (coordinates d) (at + 1) in
-    let s = clear (between (pos 1) (pos 3) (entry ns at)) (ltb (length ns) (nextAt ns at)) beyond (meetsBefore ns at) at (length ns) e in
-    record {
-      degree = s .0;
-      ends = ltb-false (length ns) (nextAt ns at) (s .1);
-      fine = none-bad (λ k. coordinateFine (entry ns k)) (coordinates d) (at + 1) (s .2);
-      meets = s .3;
-    }
+faultless ns at e = go (rw e at (finding ns at))
+  where
+    go : Finding ns at none → Faultless ns at
+    go (none-found f) = f
+
+-- 17 is said of this curve alone, and only where it does not meet the one before
+pub gap-found : (ns : List ℤ) (at i : ℕ) → faultAt ns at ≡ some (Gap i) → (at ≡ i) × (meetsBefore ns at ≡ false)
+gap-found ns at i e = go i (rw e at (finding ns at))
+  where
+    go : (j : ℕ) → Finding ns at (some (Gap j)) → (at ≡ j) × (meetsBefore ns at ≡ false)
+    go _ (gap h) = (refl, h)
 
 -- ---- its control values
 -- number k of a coordinate, as `values` lists it

@@ -1,0 +1,82 @@
+-- Neighbours of an accepted outline meet; and where an outline is refused with 17, the curve named does not meet the one before it.
+use mathlib.Core.Path.{_≡_, refl, sym, _∙_, ap, subst}
+use mathlib.Core.Bool.{Bool, true, false}
+use mathlib.Core.List.{List, [], _∷_, _++_}
+use mathlib.Core.Option.{Option, none, some}
+use Prim.Native.Nat.{ℕ, zero, suc, _-_}
+use lib.Dec.{ltb}
+use lib.ListN.{length}
+use lib.IntN.{ℤ}
+use Rattle.integers.proofs.Clash.{clash}
+use Rattle.refusals.specs.declared.Refusal.{Refusal}
+use Rattle.refusals.specs.declared.Refusal.the-variants.{TooManyCurves, Gap}
+use Rattle.bezier.specs.declared.Curve.{Curve}
+use Rattle.outline_curves.specs.Curves.{nextAt, curveAt}
+use Rattle.outline_curves.specs.Meeting.{CurvesMeet}
+use Rattle.curve_faults.specs.Faults.{meetsBefore, faultAt}
+use Rattle.curve_faults.proofs.Faultless.{faultless, gap-found}
+use Rattle.curve_faults.proofs.Meeting.{meets-exactly}
+use Rattle.outline.specs.Checks.{Outlined, curves, faulty, withCurve, outlineFrom, outlined}
+use Rattle.outline.proofs.Steps.{outline-begins}
+use Rattle.outline.proofs.Accepted.{outlined-from}
+
+-- ---- accepted: the end of each curve is the start of the next
+meet-from : (left : ℕ) (ns : List ℤ) (at : ℕ) (front : List Curve) (c d : Curve) (rest : List Curve)
+    → outlineFrom left ns at ≡ curves (front ++ c ∷ d ∷ rest) → CurvesMeet c d
+meet-from left ns at [] c d rest e =
+    let b = outline-begins left ns at c (d ∷ rest) e in
+    let n = outline-begins (left - 1) ns (nextAt ns at) d rest (b .rest) in
+    rw (b .is, n .is) (meets-exactly ns at (faultless ns at (b .no-fault) .degree) .0 (faultless ns (nextAt ns at) (n .no-fault) .meets))
+meet-from left ns at (b ∷ front) c d rest e =
+    meet-from (left - 1) ns (nextAt ns at) front c d rest (outline-begins left ns at b (front ++ c ∷ d ∷ rest) e .rest)
+
+pub curves-meet : (most : ℕ) (ns : List ℤ) (front : List Curve) (c d : Curve) (rest : List Curve)
+    → outlined most ns ≡ curves (front ++ c ∷ d ∷ rest) → CurvesMeet c d
+curves-meet most ns front c d rest e = meet-from most ns 0 front c d rest (outlined-from most ns (front ++ c ∷ d ∷ rest) e)
+
+faulty-is : {q r : Refusal} → faulty q ≡ faulty r → q ≡ r
+faulty-is e = cc
+
+-- ---- refused with 17: the curve named does not begin where the curve before it ends
+pub record Apart (ns : List ℤ) (i : ℕ) : Type 0 where
+  pub before : ℕ
+  pub no-fault : faultAt ns before ≡ none
+  pub next : nextAt ns before ≡ i
+  pub apart : CurvesMeet (curveAt ns before) (curveAt ns i) → ⊥
+
+-- a curve without a fault stands before index `at`, or none does
+data Preceded (ns : List ℤ) : ℕ → Type 0 where
+  first : Preceded ns 0
+  after : (before : ℕ) → faultAt ns before ≡ none → Preceded ns (nextAt ns before)
+
+found-apart : (ns : List ℤ) (at : ℕ) → Preceded ns at → meetsBefore ns at ≡ false → Apart ns at
+found-apart ns _ first e = clash (cc)
+found-apart ns _ (after before f) e = record {
+  before = before;
+  no-fault = f;
+  next = refl;
+  apart = λ m. let z = meets-exactly ns before (faultless ns before f .degree) .1 m in clash (cc);
+}
+
+gap-from : (left : ℕ) (ns : List ℤ) (at : ℕ) → Preceded ns at → (i : ℕ) → outlineFrom left ns at ≡ faulty (Gap i) → Apart ns i
+unfolding outlineFrom
+gap-from zero ns at p i e = go (ltb at (length ns)) e
+  where
+    go : (b : Bool) → _≡_ {A = Outlined} (elim b [ true ↦ faulty (TooManyCurves at) | false ↦ curves [] ]) (faulty (Gap i)) → Apart ns i
+    go true e = clash (cc)
+    go false e = clash (cc)
+gap-from (suc left) ns at p i e = go (ltb at (length ns)) (faultAt ns at) refl (outlineFrom left ns (nextAt ns at)) (λ f. gap-from left ns (nextAt ns at) (after at f) i) e
+  where
+    go : (b : Bool) (o : Option Refusal) → faultAt ns at ≡ o → (rest : Outlined) → (faultAt ns at ≡ none → rest ≡ faulty (Gap i) → Apart ns i)
+        → _≡_ {A = Outlined} (elim b [ false ↦ curves [] | true ↦ elim o [ some r ↦ faulty r | none ↦ withCurve (curveAt ns at) rest ] ]) (faulty (Gap i)) → Apart ns i
+    go true none f (curves cs) again e = clash (cc)
+    go true none f (faulty r) again e = again f e
+    go true (some r) f rest again e =
+        let g = gap-found ns at i (f ∙ ap some (faulty-is e)) in
+        subst (Apart ns) (g .0) (found-apart ns at p (g .1))
+    go false o f rest again e = clash (cc)
+
+pub gap-said : (most : ℕ) (ns : List ℤ) (i : ℕ) → outlined most ns ≡ faulty (Gap i) → Apart ns i
+unfolding outlined
+gap-said most [] i e = clash (cc)
+gap-said most (z ∷ ns) i e = gap-from most (z ∷ ns) 0 first i e
