@@ -58,17 +58,22 @@ pub a-44-record : lent (pos 44) A (replicate 20 (pos 7))
 unfolding computing
 a-44-record = refl
 
--- ---- y 0, 18, 0 and the line 0, 1, as the second and the first curve of one outline
-pub two-curves : lent (pos 17) (line ++ (pos 2 ∷ pos 0 ∷ pos 0 ∷ pos 0 ∷ pos 18 ∷ pos 0 ∷ pos 0 ∷ [])) (replicate 36 (pos 7))
-    ≡ pos 0 ∷ pos 1 ∷ box 0 0 0 0 ++ box 0 0 5 6 ++ box 0 0 10 11 ++ box 0 0 16 16
-    ++ (pos 1 ∷ pos 1 ∷ box 0 0 0 17 ++ box 0 0 127 144 ++ box 0 0 127 144 ++ box 0 0 0 17)
+-- ---- y 0, 18, 0 and the line 0, 1, as the first and the second curve of one outline
+pub two-curves : lent (pos 17) (pos 2 ∷ pos 0 ∷ pos 0 ∷ pos 0 ∷ pos 18 ∷ pos 0 ∷ pos 0 ∷ line) (replicate 36 (pos 7))
+    ≡ pos 0 ∷ pos 1 ∷ box 0 0 0 17 ++ box 0 0 127 144 ++ box 0 0 127 144 ++ box 0 0 0 17
+    ++ (pos 1 ∷ pos 1 ∷ box 0 0 0 0 ++ box 0 0 5 6 ++ box 0 0 10 11 ++ box 0 0 16 16)
 unfolding computing
 two-curves = refl
 
 -- ---- 7 of curve 1, before 8: its spot is 512 more
-pub second-too-wide : refusal (answer (pos 2) (line ++ tall) 0) ≡ (7, 768)
+pub second-too-wide : refusal (answer (pos 2) (pos 1 ∷ pos 0 ∷ pos 1 ∷ pos 0 ∷ pos 0 ∷ tall) 0) ≡ (7, 768)
 unfolding computing
 second-too-wide = refl
+
+-- ---- 17: a curve that does not begin where the line ends, before 7
+pub gap : refusal (answer (pos 2) (line ++ tall) 0) ≡ (17, 5)
+unfolding computing
+gap = refl
 
 -- ---- 8: one number short; its spot is the number of leaves, and the lent list stays as it was
 pub too-few : refusal (answer (pos 43) A 35) ≡ (8, 2)

@@ -1,48 +1,46 @@
--- Checks 1 to 6 refuse with their own numbers: so the answer of banding shows whether an outline passed them.
-use mathlib.Core.Path.{_≡_, refl, ap}
+-- The checks before the walk, 1 to 6 and 17, refuse with their own numbers: so the answer of banding shows whether an outline passed them.
+use mathlib.Core.Path.{_≡_, refl, ap, subst}
 use mathlib.Core.Bool.{Bool, true, false}
 use mathlib.Core.Logic.{_⊎_, inl, inr, ⊎-elim}
 use mathlib.Core.List.{List, [], _∷_}
-use mathlib.Core.Option.{Option, none, some, Option·some-injective, Option·none-ne-some}
-use Prim.Native.Nat.{ℕ, zero, suc, _+_, _≤_}
+use mathlib.Core.Option.{Option, none, some}
+use Prim.Native.Nat.{ℕ, zero, suc, _≤_}
 use native.Mathlib.Omega.{arith}
 use lib.Dec.{ltb, lit≤}
 use lib.ListN.{length}
-use lib.IntN.{ℤ, pos}
-use Rattle.integers.specs.Entry.{entry}
+use lib.IntN.{ℤ}
 use Rattle.refusals.specs.declared.Refusal.{Refusal}
-use Rattle.refusals.specs.declared.Refusal.the-variants.{Tolerance, Degree, CutShort, Coordinate, TooManyCurves}
+use Rattle.refusals.specs.declared.Refusal.the-variants.{Tolerance, Degree, CutShort, Coordinate, TooManyCurves, EmptyOutline, Gap}
 use Rattle.refusals.specs.Refusals.{numberOf}
 use Rattle.bezier.specs.declared.Curve.{Curve}
-use Rattle.outline_curves.specs.Curves.{coordinates, degreeAt, nextAt, curveAt}
-use Rattle.integers.specs.Between.{between}
-use Rattle.curve_faults.specs.Faults.{firstBeyond, faultAt}
+use Rattle.outline_curves.specs.Curves.{nextAt, curveAt}
+use Rattle.curve_faults.specs.Faults.{faultAt}
+use Rattle.curve_faults.proofs.Faultless.{Finding, no-degree, cut-short, beyond, gap, none-found, finding}
 use Rattle.outline.specs.Checks.{Outlined, curves, faulty, toleranceFine, withCurve, outlineFrom, outlined}
 use Rattle.banding.specs.declared.Banded.the-variants.{Refused}
 use Rattle.banding.specs.Banding.{bandCurves, banded}
 use Rattle.banding.specs.Outcomes.{Faultless}
 use Rattle.tree.proofs.Tree.{either}
 
--- a refusal of one of them
-record Early (r : Refusal) : Type 0 where
-  number : numberOf r ≤ 6
+-- a refusal of one of them: none of the walk and none of the lent records
+pub record Early (r : Refusal) : Type 0 where
+  pub not-wide : numberOf r ≡ 7 → ⊥
+  pub not-few : numberOf r ≡ 8 → ⊥
 
-early : {q r : Refusal} → some q ≡ some r → numberOf q ≤ 6 → Early r
-early {q} {r} e l = record { number = rw (Option·some-injective q r e) at l }
+early-at-most : (r : Refusal) → numberOf r ≤ 6 → Early r
+early-at-most r h = record { not-wide = λ e. omega arith; not-few = λ e. omega arith }
+
+early-gap : (i : ℕ) → Early (Gap i)
+early-gap i = record { not-wide = λ e. omega arith; not-few = λ e. omega arith }
 
 fault-early : (ns : List ℤ) (at : ℕ) (r : Refusal) → faultAt ns at ≡ some r → Early r
-unfolding faultAt
-fault-early ns at r = go (between (pos 1) (pos 3) (entry ns at)) (ltb (length ns) (nextAt ns at)) (firstBeyond ns (coordinates (degreeAt ns at)) (at + 1))
+fault-early ns at r e = go r (rw e at (finding ns at))
   where
-    go : (degree short : Bool) (beyond : Option ℕ)
-        → elim degree [
-          | false ↦ some (Degree at)
-          | true ↦ elim short [ true ↦ some (CutShort (length ns)) | false ↦ elim beyond [ some i ↦ some (Coordinate i) | none ↦ none ] ]
-        ] ≡ some r → Early r
-    go false short beyond e = early e (lit≤ tt)
-    go true true beyond e = early e (lit≤ tt)
-    go true false (some i) e = early e (lit≤ tt)
-    go true false none e = absurd (Option·none-ne-some r e)
+    go : (q : Refusal) → Finding ns at (some q) → Early q
+    go _ no-degree = early-at-most (Degree at) (lit≤ tt)
+    go _ cut-short = early-at-most (CutShort (length ns)) (lit≤ tt)
+    go _ (beyond i) = early-at-most (Coordinate i) (lit≤ tt)
+    go _ (gap h) = early-gap at
 
 -- ---- an outline's fault
 faulty-is : {q r : Refusal} → faulty q ≡ faulty r → q ≡ r
@@ -56,7 +54,7 @@ unfolding outlineFrom
 outline-early zero ns at r = go (ltb at (length ns))
   where
     go : (more : Bool) → elim more [ true ↦ faulty (TooManyCurves at) | false ↦ curves [] ] ≡ faulty r → Early r
-    go true e = early (ap some (faulty-is e)) (lit≤ tt)
+    go true e = subst Early (faulty-is e) (early-at-most (TooManyCurves at) (lit≤ tt))
     go false e = absurd (not-curves e)
 outline-early (suc left) ns at r = go (ltb at (length ns)) (faultAt ns at) (outlineFrom left ns (nextAt ns at)) (fault-early ns at) (outline-early left ns (nextAt ns at) r)
   where
@@ -67,10 +65,10 @@ outline-early (suc left) ns at r = go (ltb at (length ns)) (faultAt ns at) (outl
     go true none (curves cs) f h e = absurd (not-curves e)
     go true none (faulty q) f h e = h e
 
-pub outlined-early : (most : ℕ) (ns : List ℤ) (r : Refusal) → outlined most ns ≡ faulty r → numberOf r ≤ 6
+pub outlined-early : (most : ℕ) (ns : List ℤ) (r : Refusal) → outlined most ns ≡ faulty r → Early r
 unfolding outlined
-outlined-early most [] r e = early (ap some (faulty-is e)) (lit≤ tt) .number
-outlined-early most (z ∷ ns) r e = outline-early most (z ∷ ns) 0 r e .number
+outlined-early most [] r e = subst Early (faulty-is e) (early-at-most EmptyOutline (lit≤ tt))
+outlined-early most (z ∷ ns) r e = outline-early most (z ∷ ns) 0 r e
 
 -- ---- what banding says of the checks
 module _ (most : ℕ) (T : ℤ) (ns : List ℤ) (room : ℕ) where
@@ -78,14 +76,14 @@ module _ (most : ℕ) (T : ℤ) (ns : List ℤ) (room : ℕ) where
   unfolding banded
   banded-curves cs f = rw (f .tolerance, f .outline, banded)
 
-  pub faultless-or : ((cs : List Curve) × Faultless most T ns cs) ⊎ ((r : Refusal) × (banded most T ns room ≡ Refused r) × (numberOf r ≤ 6))
+  pub faultless-or : ((cs : List Curve) × Faultless most T ns cs) ⊎ ((r : Refusal) × (banded most T ns room ≡ Refused r) × Early r)
   unfolding banded
   faultless-or = ⊎-elim
       (λ fine. go fine (outlined most ns) refl)
-      (λ (e : toleranceFine T ≡ false). inr (Tolerance, rw (e, banded), lit≤ tt))
+      (λ (e : toleranceFine T ≡ false). inr (Tolerance, rw (e, banded), early-at-most Tolerance (lit≤ tt)))
       (either (toleranceFine T))
     where
       go : toleranceFine T ≡ true → (o : Outlined) → outlined most ns ≡ o
-          → ((cs : List Curve) × Faultless most T ns cs) ⊎ ((r : Refusal) × (banded most T ns room ≡ Refused r) × (numberOf r ≤ 6))
+          → ((cs : List Curve) × Faultless most T ns cs) ⊎ ((r : Refusal) × (banded most T ns room ≡ Refused r) × Early r)
       go fine (curves cs) e = inl (cs, record { tolerance = fine; outline = e })
       go fine (faulty r) e = inr (r, rw (fine, e, banded), outlined-early most ns r e)

@@ -32,14 +32,14 @@ use Rattle.banding.proofs.Depths.{end-depth, none-too-wide}
 use Rattle.tree.proofs.Failing.{none-passing}
 use Rattle.passes.proofs.Wide.{none-wide}
 use Rattle.banding.proofs.Sound.{some-leaves, records-sound}
-use Rattle.banding.proofs.Faults.{banded-curves, faultless-or}
+use Rattle.banding.proofs.Faults.{Early, banded-curves, faultless-or}
 use Rattle.banding.proofs.Answers.{written-refused}
 use Rattle.banding.proofs.Cases.{wide-said, few-said, done-said, said-wide, said-few, said-done}
 
--- ---- the answer of banding, behind checks 1 to 6
+-- ---- the answer of banding, behind the checks before the walk: 1 to 6 and 17
 module _ (most : ℕ) (T : ℤ) (ns : List ℤ) (room : ℕ) where
-  -- an answer that is no refusal of checks 1 to 6 is the answer for the outline's curves
-  of-curves : {v : Banded} → ((r : Refusal) → numberOf r ≤ 6 → Refused r ≡ v → ⊥) → banded most T ns room ≡ v
+  -- an answer that is no refusal of these is the answer for the outline's curves
+  of-curves : {v : Banded} → ((r : Refusal) → Early r → Refused r ≡ v → ⊥) → banded most T ns room ≡ v
       → (cs : List Curve) × Faultless most T ns cs × (bandCurves T cs room ≡ v)
   of-curves late e = ⊎-elim
       (λ f. (f .0, f .1, sym (banded-curves most T ns room (f .0) (f .1)) ∙ e))
@@ -54,13 +54,13 @@ module _ (most : ℕ) (T : ℤ) (ns : List ℤ) (room : ℕ) where
 
   pub wide-exactly : (k n : ℕ) → (banded most T ns room ≡ Refused (TooWide k n)) ↔ ((cs : List Curve) × Faultless most T ns cs × FirstWide T 0 cs k n)
   wide-exactly k n = (
-    λ e. let h = of-curves (λ q l f. omega (arith, refused-is f)) e in (h .0, h .1, said-wide T (h .0) room k n (h .2)),
+    λ e. let h = of-curves (λ q l f. l .not-wide (refused-is f)) e in (h .0, h .1, said-wide T (h .0) room k n (h .2)),
     λ h. banded-curves most T ns room (h .0) (h .1) ∙ wide-said T (h .0) room (h .2),
   )
 
   pub few-exactly : (l : ℕ) → (banded most T ns room ≡ Refused (TooFewRecords l)) ↔ ((cs : List Curve) × Faultless most T ns cs × Few T cs room l)
   few-exactly l = (
-    λ e. let h = of-curves (λ q m f. omega (arith, refused-is f)) e in (h .0, h .1, said-few T (h .0) room l (h .2)),
+    λ e. let h = of-curves (λ q m f. m .not-few (refused-is f)) e in (h .0, h .1, said-few T (h .0) room l (h .2)),
     λ h. banded-curves most T ns room (h .0) (h .1) ∙ few-said T (h .0) room (h .2),
   )
 

@@ -15,7 +15,7 @@ use Rattle.passes.specs.Leaves.{leavesOf, nodesOf}
 use Rattle.passes.specs.Meeting.{AllMeet}
 
 -- ---- outlines
--- checks 1 to 6 find no fault, and the outline's curves are cs
+-- the checks before the walk, 1 to 6 and 17, find no fault, and the outline's curves are cs
 pub record Faultless (most : ℕ) (T : ℤ) (ns : List ℤ) (cs : List Curve) : Type 0 where
   pub tolerance : toleranceFine T ≡ true
   pub outline : outlined most ns ≡ curves cs

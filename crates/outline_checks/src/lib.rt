@@ -1,4 +1,4 @@
-// Checks 1 to 6 of a tolerance and an outline, in their order.
+// Checks 1 to 6 and 17 of a tolerance and an outline, in their order.
 ghost use mathlib.Core.Path.{_≡_};
 ghost use Rattle.outline.specs.Checks.{toleranceFine, outlined, checkedOf};
 use curve_checks::fault_at;
@@ -17,7 +17,8 @@ pub fn tolerance_fine(t: i32) -> bool
     t <= 1048576
 }
 
-// Checks 2 to 6 of an outline that may have `most` curves, in document 01's order. Every list and every `most` may be asked about.
+// Checks 2 to 6 and 17 of an outline that may have `most` curves, in their order. Every list and every `most` may be asked
+// about.
 pub fn check_outline(ns: &[i32], most: usize) -> Checked
     ensures { λ r. ⌜ r ≡ checkedOf (outlined most (now (ns .entry))) ⌝ }
 {

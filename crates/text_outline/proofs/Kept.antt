@@ -1,6 +1,6 @@
 -- What is kept of the outline of a text is enough: the checks of an outline of at most so many curves find the same in it as in the whole.
 use mathlib.Core.Path.{_≡_, refl, sym, ap, ap₂, _∙_, subst}
-use mathlib.Core.Bool.{Bool, true, false, cond}
+use mathlib.Core.Bool.{Bool, true, false, _&&_, _||_, cond}
 use mathlib.Core.List.{List, [], _∷_, _++_, append-assoc}
 use mathlib.Core.Option.{Option, none, some}
 use Prim.Native.Nat.{ℕ, zero, suc, _+_, _-_, _*_, _≤_, _<_}
@@ -17,10 +17,11 @@ use Rattle.refusals.specs.declared.Refusal.the-variants.{TooManyCurves}
 use Rattle.halves.proofs.Values.{listed-ext}
 use Rattle.outline_curves.specs.Curves.{coordinates, degreeAt, nextAt, values, curveAt}
 use Rattle.integers.specs.Between.{between}
+use Rattle.integers.specs.Equal.{equal}
 use Rattle.integers.specs.First.{firstBad}
-use Rattle.curve_faults.specs.Faults.{coordinateFine, firstBeyond, faultAt, foundOf, faultOf}
+use Rattle.curve_faults.specs.Faults.{coordinateFine, firstBeyond, meetsBefore, faultAt, foundOf, faultOf}
 use Rattle.outline.specs.Checks.{faulty, withCurve, outlineFrom, outlined}
-use Rattle.curve_faults.proofs.Faultless.{coordinateFault, fault-degree, fault-coordinate}
+use Rattle.curve_faults.proofs.Faultless.{lastFault, fault-degree, fault-last}
 use Rattle.outline.proofs.Steps.{outline-full, outline-faulty, outline-step}
 use Rattle.forms.specs.declared.Points.{Points}
 use Rattle.forms.specs.declared.Form.{Form}
@@ -60,6 +61,12 @@ module _ {ns ms : List ℤ} {e : ℕ} (a : Agree ns ms e) where
     next-same : nextAt ns at ≡ nextAt ms at
     next-same = ap (λ (z : ℤ). at + 1 + coordinates (natAbs z)) degree-same
 
+    meets-same : meetsBefore ns at ≡ meetsBefore ms at
+    meets-same =
+        ap₂ (λ (x y : Bool). ltb at 2 || (x && y))
+        (ap₂ equal (a .same (at - 2) (omega arith)) (a .same (at + 1) (omega arith)))
+        (ap₂ equal (a .same (at - 1) (omega arith)) (a .same (at + 2) (omega arith)))
+
     fault-same : faultAt ns at ≡ faultAt ms at
     fault-same = either (between (pos 1) (pos 3) (entry ns at)) refl
       where
@@ -67,10 +74,10 @@ module _ {ns ms : List ℤ} {e : ℕ} (a : Agree ns ms e) where
         either false f = fault-degree ns at f ∙ sym (fault-degree ms at (ap (between (pos 1) (pos 3)) (sym degree-same) ∙ f))
         either true f =
             fault-of (faultAt ns at) (faultAt ms at)
-            (fault-coordinate ns at f (omega (arith, a .first))
-            ∙ ap (λ (o : Option ℕ). coordinateFault (foundOf o))
+            (fault-last ns at f (omega (arith, a .first))
+            ∙ ap₂ (λ (m : Bool) (o : Option ℕ). lastFault at m (foundOf o)) meets-same
             (beyond-same (nextAt ns at - (at + 1)) (at + 1) (omega arith) ∙ ap (λ (n : ℕ). firstBeyond ms (n - (at + 1)) (at + 1)) next-same)
-            ∙ sym (fault-coordinate ms at (ap (between (pos 1) (pos 3)) (sym degree-same) ∙ f) (omega (arith, a .second, next-same))))
+            ∙ sym (fault-last ms at (ap (between (pos 1) (pos 3)) (sym degree-same) ∙ f) (omega (arith, a .second, next-same))))
 
     -- i is 1 for x and 2 for y
     values-same : (i : ℕ) → i ≤ 2 → values ns (degreeAt ns at) (at + i) ≡ values ms (degreeAt ns at) (at + i)
