@@ -2,3 +2,4 @@
 pub mod Recursion
 pub mod Stretch
 pub mod Nonnegative
+pub mod Ends

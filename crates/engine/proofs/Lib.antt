@@ -2,6 +2,7 @@
 pub mod Passing
 pub mod Covers
 pub mod Demand3
+pub mod Meeting
 pub mod Outcomes
 pub mod Consequences
 pub mod Starred

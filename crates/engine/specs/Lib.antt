@@ -1,5 +1,6 @@
--- What a reader must believe of the engine: demand 3 as one claim, what banding and then judging answers and leaves in
--- the list, and the starred examples.
+-- What a reader must believe of the engine: demand 3 as one claim, the point between two curves, what banding and then
+-- judging answers and leaves in the list, and the starred examples.
 pub mod Demand3
+pub mod Meeting
 pub mod Outcomes
 pub mod Starred

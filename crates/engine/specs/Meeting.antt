@@ -1,0 +1,38 @@
+-- The point between two curves of an accepted outline (document 02, request 03): what the leaves and judging say of it.
+use mathlib.Core.Path.{_≡_}
+use mathlib.Core.List.{List}
+use Prim.Native.Nat.{ℕ, suc, _+_, _*_, _<_}
+use lib.ListN.{length}
+use lib.IntN.{ℤ, pos, _*ℤ_}
+use Rattle.integers.specs.Entry.{entry}
+use Rattle.bezier.specs.declared.Curve.{Curve}
+use Rattle.boxes.specs.Records.{covers, recordLength}
+use Rattle.tree.specs.Leaves.{Covers}
+use Rattle.held.specs.Covers.{CoverHolds}
+use Rattle.judging.specs.declared.Judgement.{Judgement}
+use Rattle.engine.specs.Demand3.{IsOn}
+
+-- (x, y) is the last control point of the curve, in sixteenths
+pub record EndsAt (c : Curve) (x y : ℤ) : Type 0 where
+  pub in-x : x ≡ pos 16 *ℤ entry (c .x) (c .degree)
+  pub in-y : y ≡ pos 16 *ℤ entry (c .y) (c .degree)
+
+-- The list has a record of curve number k whose node has the parameter p / (p + r) in its stretch, and a cover of this record
+-- holds the point (x, y).
+pub record HeldAt (rs : List ℤ) (k p r : ℕ) (x y : ℤ) : Type 0 where
+  pub place : ℕ
+  pub inside : recordLength * place < length rs
+  pub curve-is : entry rs (recordLength * place) ≡ pos k
+  pub node : ℕ
+  pub node-is : entry rs (recordLength * place + 1) ≡ pos node
+  pub parameter : Covers node p r
+  pub cover : ℕ
+  pub one-of : cover < covers
+  pub holds : CoverHolds rs place cover x y
+
+-- The point (x, y) where curve k ends and curve k + 1 begins is on. The leaves cover it twice: the last leaf of curve k, at its
+-- parameter 1, and the first leaf of curve k + 1, at its parameter 0.
+pub record CoveredTwice (rs : List ℤ) (k : ℕ) (x y : ℤ) (answer : Judgement) : Type 0 where
+  pub on : IsOn answer
+  pub last-leaf : HeldAt rs k 1 0 x y
+  pub first-leaf : HeldAt rs (suc k) 0 1 x y
