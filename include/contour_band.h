@@ -64,8 +64,8 @@ extern "C" {
 #define CONTOUR_BAND_VERTEX_ROOM 16
 
 /* The refusals, each with its condition and its spot. They stand in the order in which an operation tries them: banding 1 to
- * 8 (5, 2, 3 and 4 curve by curve), judging 9 to 11, banding and judging together 1 to 8 and then 11, drawing 12 and 13. A
- * refusal leaves every lent list as it was. */
+ * 8 and 17 (5, 2, 3, 4 and 17 curve by curve), judging 9 to 11, banding and judging together those of banding and then 11,
+ * drawing 12 and 13. A refusal leaves every lent list as it was. */
 enum contour_band_refusal {
     CONTOUR_BAND_ACCEPTED = 0,         /* nothing is refused; 0 */
     CONTOUR_BAND_TOLERANCE = 1,        /* the tolerance is outside its range; 0 */
@@ -74,6 +74,7 @@ enum contour_band_refusal {
     CONTOUR_BAND_DEGREE = 2,           /* a degree is not 1, 2 or 3; its index */
     CONTOUR_BAND_CUT_SHORT = 3,        /* the outline ends inside a curve; the outline's length */
     CONTOUR_BAND_COORDINATE = 4,       /* a coordinate is outside its range; the index of the curve's first such */
+    CONTOUR_BAND_GAP = 17,             /* a curve does not begin where the one before it ends; the index of its degree */
     CONTOUR_BAND_TOO_WIDE = 7,         /* a node at depth 8 is wider than the tolerance; 512 * curve + node, for the first */
     CONTOUR_BAND_TOO_FEW_RECORDS = 8,  /* records_length is less than 18 * leaves; the number of leaves */
     CONTOUR_BAND_LEAVES_LENGTH = 9,    /* leaves_length is 0 or no multiple of 18; leaves_length */
@@ -95,7 +96,7 @@ struct contour_band_answer {
 /* Puts a band round an outline.
  *
  * outline: for each curve its degree d, which is 1, 2 or 3, then x and y of its d + 1 control points, in stage units.
- *     Curves are numbered from 0 and need not meet.
+ *     Curves are numbered from 0. Each begins where the one before it ends; the outline may stay open at its ends.
  * tolerance: the greatest width of a box in x and in y, in sixteenths of a stage unit.
  * records: where the leaves are written. A record is 18 numbers: the curve, the node (1 to 511), then for each of the
  *     break points 0, 1, 2, 3 its x low, x high, y low, y high, in sixteenths of a stage unit. Records stand by curve, then
@@ -130,7 +131,7 @@ struct contour_band_judgement contour_judge(const int32_t *leaves, size_t leaves
 
 /* What banding and judging answer together. */
 struct contour_band_outcome {
-    uint32_t refusal; /* 0 where nothing is refused, else the number of the refusal: 1 to 8 of banding, or 11 */
+    uint32_t refusal; /* 0 where nothing is refused, else the number of the refusal: one of banding, or 11 */
     uint64_t spot;    /* the refusal's spot; 0 where nothing is refused */
     uint64_t curves;  /* the report of banding, as in contour_band_answer; 0 where anything is refused */
     uint64_t leaves;

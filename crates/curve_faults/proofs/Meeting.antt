@@ -1,6 +1,6 @@
 -- Check 17 in terms of curves: the two numbers before a curve's degree are the last point of the curve before it, so the two curves meet exactly where
 -- the check passes.
-use mathlib.Core.Path.{_≡_, sym, _∙_, ap}
+use mathlib.Core.Path.{_≡_, refl, sym, _∙_, ap}
 use mathlib.Core.Bool.{true, _&&_}
 use mathlib.Core.List.{List}
 use mathlib.Core.Logic.{_↔_}
@@ -15,7 +15,7 @@ use Rattle.integers.proofs.Both.{both-true}
 use Rattle.integers.proofs.Equal.{equal-≡, ≡-equal}
 use Rattle.halves.proofs.Values.{listed-entry}
 use Rattle.outline_curves.specs.Curves.{degreeAt, nextAt, values, curveAt}
-use Rattle.outline_curves.specs.Meeting.{CurvesMeet}
+use Rattle.curve_faults.specs.Meeting.{CurvesMeet}
 use Rattle.outline_curves.proofs.Degrees.{degree-most}
 use Rattle.curve_faults.specs.Faults.{meetsBefore}
 use Rattle.curve_faults.proofs.Faultless.{valueAt}
@@ -32,6 +32,10 @@ module _ (ns : List ℤ) (at : ℕ) where
   first-y : entry (curveAt ns at .y) 0 ≡ entry ns (at + 2)
   unfolding curveAt
   first-y = value-there ns (degreeAt ns at) (at + 2) 0 (at + 2) zero-le (omega arith) (omega arith)
+
+-- the first curve has none before it, so it meets; nothing is asked of the end of the list
+pub first-meets : (ns : List ℤ) → meetsBefore ns 0 ≡ true
+first-meets ns = refl
 
 module _ (ns : List ℤ) (at : ℕ) (degree : between (pos 1) (pos 3) (entry ns at) ≡ true) where
   abbrev next : ℕ

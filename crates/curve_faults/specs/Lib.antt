@@ -1,2 +1,3 @@
--- What a reader must believe of the faults of one curve of an outline, in document 01's order.
+-- What a reader must believe of the faults of one curve of an outline, in document 01's order, and of two curves that meet.
 pub mod Faults
+pub mod Meeting

@@ -11,7 +11,7 @@ use Rattle.bezier.specs.declared.Curve.{Curve}
 use Rattle.bezier.specs.Points.{scaled, sixteenths, Equals}
 use Rattle.bernstein.proofs.Ends.{value-start, value-end, one-powers}
 use Rattle.boxes.specs.Records.{recordLength}
-use Rattle.outline_curves.specs.Meeting.{CurvesMeet}
+use Rattle.curve_faults.specs.Meeting.{CurvesMeet}
 use Rattle.outline.specs.Checks.{Outlined, curves}
 use Rattle.outline.proofs.Accepted.{outlined-from, accepted-all}
 use Rattle.outline.proofs.Meeting.{curves-meet}

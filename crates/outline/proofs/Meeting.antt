@@ -12,10 +12,10 @@ use Rattle.refusals.specs.declared.Refusal.{Refusal}
 use Rattle.refusals.specs.declared.Refusal.the-variants.{TooManyCurves, Gap}
 use Rattle.bezier.specs.declared.Curve.{Curve}
 use Rattle.outline_curves.specs.Curves.{nextAt, curveAt}
-use Rattle.outline_curves.specs.Meeting.{CurvesMeet}
+use Rattle.curve_faults.specs.Meeting.{CurvesMeet}
 use Rattle.curve_faults.specs.Faults.{meetsBefore, faultAt}
 use Rattle.curve_faults.proofs.Faultless.{faultless, gap-found}
-use Rattle.curve_faults.proofs.Meeting.{meets-exactly}
+use Rattle.curve_faults.proofs.Meeting.{first-meets, meets-exactly}
 use Rattle.outline.specs.Checks.{Outlined, curves, faulty, withCurve, outlineFrom, outlined}
 use Rattle.outline.proofs.Steps.{outline-begins}
 use Rattle.outline.proofs.Accepted.{outlined-from}
@@ -50,7 +50,7 @@ data Preceded (ns : List ℤ) : ℕ → Type 0 where
   after : (before : ℕ) → faultAt ns before ≡ none → Preceded ns (nextAt ns before)
 
 found-apart : (ns : List ℤ) (at : ℕ) → Preceded ns at → meetsBefore ns at ≡ false → Apart ns at
-found-apart ns _ first e = clash (cc)
+found-apart ns _ first e = let z = first-meets ns in clash (cc)
 found-apart ns _ (after before f) e = record {
   before = before;
   no-fault = f;

@@ -1,3 +1,2 @@
--- What a reader must believe of one curve of an outline: where it stands, what is read of it, and when the next begins where it ends.
+-- What a reader must believe of one curve of an outline: where it stands, and what is read of it.
 pub mod Curves
-pub mod Meeting

@@ -1,4 +1,4 @@
-//! Refusals as an enum, with document 01's numbers and spots.
+//! Refusals as an enum, with the numbers and spots of documents 01 and 02.
 
 use std::error::Error;
 use std::fmt;
@@ -22,6 +22,11 @@ pub enum Refusal {
     /// 4: a coordinate is not −1,048,576 to 1,048,576.
     Coordinate {
         /// The index in the outline of the curve's first such coordinate.
+        index: usize,
+    },
+    /// 17: a curve does not begin where the curve before it ends.
+    Gap {
+        /// The index in the outline of the later curve's degree.
         index: usize,
     },
     /// 5: the outline has more than 64 curves.
@@ -88,6 +93,7 @@ impl Refusal {
             Refusal::PointX | Refusal::PointY => 11,
             Refusal::BoxNumber { .. } => 12,
             Refusal::TooFewVertices { .. } => 13,
+            Refusal::Gap { .. } => 17,
         }
     }
 
@@ -99,7 +105,8 @@ impl Refusal {
             Refusal::Degree { index }
             | Refusal::Coordinate { index }
             | Refusal::TooManyCurves { index }
-            | Refusal::LeafListNumber { index } => index as u64,
+            | Refusal::LeafListNumber { index }
+            | Refusal::Gap { index } => index as u64,
             Refusal::CutShort { length } | Refusal::LeafListLength { length } => length as u64,
             Refusal::TooWide { curve, node } => 512 * curve as u64 + u64::from(node),
             Refusal::TooFewRecords { leaves } => leaves as u64,
@@ -130,6 +137,7 @@ impl Refusal {
             11 if spot == 1 => Refusal::PointY,
             12 => Refusal::BoxNumber { place },
             13 => Refusal::TooFewVertices { length: place },
+            17 => Refusal::Gap { index: place },
             _ => panic!("the library answered refusal {number} at {spot}, which does not exist"),
         }
     }
@@ -144,6 +152,7 @@ impl fmt::Display for Refusal {
             Refusal::CutShort { .. } => write!(f, "the outline ends inside a curve"),
             Refusal::Coordinate { .. } => write!(f, "a coordinate is outside its range"),
             Refusal::TooManyCurves { .. } => write!(f, "the outline has more than 64 curves"),
+            Refusal::Gap { .. } => write!(f, "a curve does not begin where the one before it ends"),
             Refusal::EmptyOutline => write!(f, "the outline is empty"),
             Refusal::TooWide { curve, node } => {
                 write!(f, "node {node} of curve {curve} is too wide after its last halving")
@@ -176,7 +185,7 @@ mod tests {
     #[test]
     fn number_and_spot_are_what_the_library_answered() {
         let places = [0, 1, 17, 575, 32_767];
-        for number in (2..=10).chain(12..=13) {
+        for number in (2..=10).chain(12..=13).chain([17]) {
             for place in places {
                 // 6 has the spot 0 only.
                 let spot = if number == 6 { 0 } else { place };

@@ -61,6 +61,7 @@ fn limits_and_refusals() {
     let steep = [3, 0, 0, 0, 1_048_576, 0, 1_048_576, 0, 0];
     assert_eq!(refused(&steep, 2), Refusal::TooWide { curve: 0, node: 256 });
     assert_eq!(refused(&CURVE_A, 43), Refusal::TooFewRecords { leaves: 2 });
+    assert_eq!(refused(&CURVE_A.repeat(2), 44), Refusal::Gap { index: 9 });
     written(&[1, 0, 0, 0, 1_048_576], 2);
 }
 

@@ -58,6 +58,8 @@ int main(void) {
     print(contour_band(outline, 9, CONTOUR_BAND_TOLERANCE_MIN - 1, records, CONTOUR_BAND_RECORD));
     print(contour_band(outline, 8, 44, records, CONTOUR_BAND_RECORD));
     print(contour_band(outline, 9, 43, records, CONTOUR_BAND_RECORD));
+    const int32_t apart[10] = {1, 0, 0, 0, 1, 1, 0, 0, 0, 1};
+    print(contour_band(apart, 10, 44, records, CONTOUR_BAND_RECORD));
     judge(records, CONTOUR_BAND_RECORD);
     band_and_judge(outline, records);
 

@@ -46,7 +46,7 @@ fn both_say_what_is_wrong() {
     const NO_CURVE: &str = "(curve (x y) (x y) ..) of 2 to 4 points is expected";
     const NO_POINT: &str = "(point (x y)) is expected";
     let line = "(tolerance 2)\n(curve (0 0) (0 1))\n";
-    let too_many = format!("(tolerance 2)\n{}", "(curve (0 0) (0 1))\n".repeat(65));
+    let too_many = format!("(tolerance 2)\n{}", "(curve (0 0) (0 0))\n".repeat(65));
     let cases = [
         ("", "", NO_TOLERANCE.to_owned()),
         ("(tolerance )\n", "", NO_TOLERANCE.to_owned()),
@@ -65,6 +65,7 @@ fn both_say_what_is_wrong() {
         ("(tolerance 1)\n(curve (0 0) (0 1))\n", "", "refused 1 0".to_owned()),
         ("(tolerance 2)\n", "", "refused 6 0".to_owned()),
         (&too_many, "", "refused 5 320".to_owned()),
+        ("(tolerance 2)\n(curve (0 0) (0 1))\n(curve (0 0) (0 1))\n", "", "refused 17 5".to_owned()),
         ("(tolerance 2)\n(curve (0 0) (0 1048577))\n", "", "refused 4 4".to_owned()),
     ];
     let programs = [in_rust(), c::compiled(&c::root().join("examples/inspect.c"), "inspect_errors")];

@@ -1,6 +1,7 @@
 //! One outline, tolerance and lent list to both engines, and what they answer compared.
 
 use crate::random::Random;
+use crate::refusals::Refusals;
 use std::fmt;
 use std::io::Write;
 
@@ -51,7 +52,7 @@ pub struct Tally {
     /// Answers that accept.
     pub accepted: u64,
     /// Answers that refuse, by the refusal's number.
-    pub refused: [u64; 9],
+    pub refused: Refusals,
     /// Leaves, by depth.
     pub leaves: [u64; 9],
 }
@@ -138,7 +139,7 @@ impl Comparison {
         self.tally.numbers += self.plain.len() as u64;
         match answer {
             Accepted { .. } => self.tally.accepted += 1,
-            Refused(number, _) => self.tally.refused[number as usize] += 1,
+            Refused(number, _) => self.tally.refused.count(number),
         }
         for record in self.plain[MARGIN..][..18 * leaves].chunks_exact(18) {
             self.tally.leaves[record[1].ilog2() as usize] += 1;
@@ -188,12 +189,12 @@ impl fmt::Display for Tally {
     fn fmt(&self, f: &mut fmt::Formatter<'_>) -> fmt::Result {
         write!(
             f,
-            "{} outlines, {} answers and {} numbers compared; accepted {}, refused by number {:?}, leaves by depth {:?}",
+            "{} outlines, {} answers and {} numbers compared; accepted {}, refused by number {}, leaves by depth {:?}",
             self.outlines,
             self.answers,
             self.numbers,
             self.accepted,
-            &self.refused[1..],
+            self.refused,
             self.leaves
         )
     }

@@ -12,6 +12,7 @@ pub mod leaf_lists;
 pub mod outlines;
 pub mod program;
 pub mod random;
+pub mod refusals;
 pub mod text;
 pub mod texts;
 pub mod together;

@@ -32,31 +32,64 @@ pub fn tolerance(random: &mut Random) -> i32 {
     random.magnitude().max(2)
 }
 
-/// A cubic anywhere in range that has 256 leaves at a tolerance of 2: its second differences are
-/// -40,000 and -40,000.
-pub fn deepest(random: &mut Random) -> [i32; 9] {
-    let x = random.between(-EDGE, EDGE);
-    let y = random.between(-EDGE, EDGE - 40_000);
-    [3, x, y, x, y + 40_000, x, y + 40_000, x, y]
+/// 64 cubics, each from where the one before ends, with 256 leaves at a tolerance of 2: their second
+/// differences are 0 and 0 in x, -40,000 and -40,000 in y.
+pub fn deepest(random: &mut Random) -> Vec<i32> {
+    let mut outline: Vec<i32> = Vec::new();
+    while outline.len() < 9 * 64 {
+        let (x, y) = match outline[..] {
+            [.., x, y] => (x, y),
+            _ => (random.between(-EDGE, EDGE), random.between(-EDGE, EDGE - 100_000)),
+        };
+        let (u, v) = (random.between(-30_000, 30_000), random.between(-10_000, 10_000));
+        let up = v + 40_000;
+        let curve = [3, x, y, x + u, y + up, x + 2 * u, y + 2 * up - 40_000, x + 3 * u, y + 3 * up - 120_000];
+        // The end leaves room above for the next.
+        if curve.iter().all(|&n| in_range(n)) && curve[8] <= EDGE - 100_000 {
+            outline.extend(curve);
+        }
+    }
+    outline
 }
 
-/// Mostly 1 to 6 curves, at times up to 64, of mixed degrees and shapes. At times each curve
-/// begins where the one before ended, at times there are gaps.
+/// Whether a number passes as a coordinate.
+pub fn in_range(number: i32) -> bool {
+    (-EDGE..=EDGE).contains(&number)
+}
+
+/// Mostly 1 to 6 curves, at times up to 64, of mixed degrees and shapes. Each curve begins where the
+/// one before ends.
 pub fn outline(random: &mut Random) -> Vec<i32> {
     let curves = if random.one_in(40) { random.between(7, 64) } else { random.between(1, 6) };
     let same_shape = random.one_in(3).then(|| random.pick(&SHAPES));
-    let joined = random.one_in(2);
     let mut outline = Vec::new();
     for _ in 0..curves {
         let shape = same_shape.unwrap_or_else(|| random.pick(&SHAPES));
         let mut curve = curve(random, shape);
-        if joined && !outline.is_empty() {
-            let end = outline.len() - 2;
-            curve[1..3].copy_from_slice(&outline[end..]);
+        if let [.., x, y] = outline[..] {
+            join(random, &mut curve, [x, y]);
         }
         outline.extend(curve);
     }
     outline
+}
+
+/// Makes a curve begin at a point. It is moved there as a whole, which keeps its shape, in each
+/// coordinate in which it then stays in range; otherwise, and at times, its first point alone is moved.
+pub fn join(random: &mut Random, curve: &mut [i32], start: [i32; 2]) {
+    let points = &mut curve[1..];
+    if !random.one_in(4) {
+        for (coordinate, start) in start.into_iter().enumerate() {
+            let by = start - points[coordinate];
+            let own = || (coordinate..points.len()).step_by(2);
+            if own().all(|i| in_range(points[i] + by)) {
+                for i in own() {
+                    points[i] += by;
+                }
+            }
+        }
+    }
+    points[..2].copy_from_slice(&start);
 }
 
 /// One curve: its degree and its points.
@@ -112,7 +145,7 @@ pub const AWKWARD: [i32; 15] =
 pub fn damage(random: &mut Random, outline: &mut Vec<i32>, tolerance: &mut i32) {
     for _ in 0..random.between(1, 3) {
         let length = outline.len();
-        match random.below(8) {
+        match random.below(9) {
             0 => *tolerance = random.pick(&AWKWARD),
             1 | 2 if length > 0 => outline[random.below(length)] = random.pick(&AWKWARD),
             3 if length > 0 => outline[random.below(length)] = random.bits() as i32,
@@ -121,12 +154,44 @@ pub fn damage(random: &mut Random, outline: &mut Vec<i32>, tolerance: &mut i32) 
             6 if length > 0 => {
                 outline.remove(random.below(length));
             }
+            7 if starts(outline).len() > 1 => part(random, outline),
             _ => {
                 // Past 64 curves, with or without an end inside the last one.
+                let [x, y] = if let [.., x, y] = outline[..] { [x, y] } else { [0, 0] };
                 let lines = 65 - random.below(4);
-                outline.extend([1, 0, 0, 0, 0].repeat(lines));
+                outline.extend([1, x, y, x, y].repeat(lines));
                 outline.truncate(outline.len() - random.below(5));
             }
+        }
+    }
+}
+
+/// Where the degrees of an outline stand, as far as they are degrees.
+pub fn starts(outline: &[i32]) -> Vec<usize> {
+    let mut starts = Vec::new();
+    let mut at = 0;
+    while let Some(degree @ 1..=3) = outline.get(at) {
+        starts.push(at);
+        at += 3 + 2 * *degree as usize;
+    }
+    starts
+}
+
+/// Moves the first point of a curve away from the end of the curve before: by one in a coordinate, to
+/// the first point of the curve before, or to where the padding stands.
+fn part(random: &mut Random, outline: &mut [i32]) {
+    let starts = starts(outline);
+    let later = 1 + random.below(starts.len() - 1);
+    let (before, first) = (starts[later - 1] + 1, starts[later] + 1);
+    if first + 2 > outline.len() {
+        return;
+    }
+    match random.below(4) {
+        0 => outline.copy_within(before..before + 2, first),
+        1 => outline[first..first + 2].fill(0),
+        _ => {
+            let number = &mut outline[first + random.below(2)];
+            *number = number.saturating_add(random.pick(&[-1, 1]));
         }
     }
 }
@@ -141,7 +206,7 @@ mod tests {
         let mut lengths = Vec::new();
         for _ in 0..20_000 {
             let outline = outline(&mut random);
-            assert!(outline.iter().all(|n| (-EDGE..=EDGE).contains(n)));
+            assert!(outline.iter().all(|&n| in_range(n)));
             // At the widest tolerance nothing else is refused than the missing list.
             let refusal = plain::band(&outline, EDGE, &mut []).unwrap_err();
             assert_eq!(refusal.number(), 8);

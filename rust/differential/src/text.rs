@@ -1,6 +1,7 @@
 //! One text to the text program and to the plain engine, and what they answer compared.
 
 use crate::program::{self, Run};
+use crate::refusals::Refusals;
 use std::fmt;
 use std::io::Write;
 use std::path::PathBuf;
@@ -23,7 +24,7 @@ pub struct Tally {
     /// Texts that are banded.
     pub accepted: u64,
     /// Texts that are refused, by the refusal's number.
-    pub refused: [u64; 17],
+    pub refused: Refusals,
     /// Points that are on.
     pub on: u64,
     /// Points that are off.
@@ -104,7 +105,7 @@ impl Tally {
                 _ if line.starts_with(b"(on ") => self.on += 1,
                 _ if line.starts_with(b"(done ") => banded = true,
                 _ if line.starts_with(b"(refused ") && banded => self.refused_points += 1,
-                _ if line.starts_with(b"(refused ") => self.refused[refusal_number(line)] += 1,
+                _ if line.starts_with(b"(refused ") => self.refused.count(refusal_number(line)),
                 _ => {}
             }
         }
@@ -116,9 +117,7 @@ impl Tally {
         self.texts += other.texts;
         self.bytes += other.bytes;
         self.accepted += other.accepted;
-        for (all, more) in self.refused.iter_mut().zip(other.refused) {
-            *all += more;
-        }
+        self.refused += &other.refused;
         self.on += other.on;
         self.off += other.off;
         self.refused_points += other.refused_points;
@@ -126,7 +125,7 @@ impl Tally {
 }
 
 /// The number of a line `(refused number spot)`.
-fn refusal_number(line: &[u8]) -> usize {
+fn refusal_number(line: &[u8]) -> u32 {
     let line = std::str::from_utf8(line).expect("answers are plain letters");
     line.split(' ').nth(1).and_then(|number| number.parse().ok()).expect("a refusal has a number")
 }
@@ -135,11 +134,11 @@ impl fmt::Display for Tally {
     fn fmt(&self, f: &mut fmt::Formatter<'_>) -> fmt::Result {
         write!(
             f,
-            "{} texts and {} bytes compared; accepted {}, refused by number {:?}; points on {}, off {}, refused {}",
+            "{} texts and {} bytes compared; accepted {}, refused by number {}; points on {}, off {}, refused {}",
             self.texts,
             self.bytes,
             self.accepted,
-            &self.refused[1..],
+            self.refused,
             self.on,
             self.off,
             self.refused_points

@@ -195,11 +195,15 @@ fn alter_the_counts(random: &mut Random, text: &mut Vec<u8>) {
     match random.below(4) {
         0 => {
             let curves = random.pick(&[58, 61, 62, 63, 64, 65, 70]);
-            insert(text, first, "(curve (0 0) (0 1))\n".repeat(curves).as_bytes());
+            let (x, y) = first_point(text);
+            insert(text, first, format!("(curve ({x} {y}) ({x} {y}))\n").repeat(curves).as_bytes());
         }
         1 => {
             // At tolerance 3 these have 256, 128 and 8 leaves.
-            let [many, more, some] = [65_536, 16_384, 64].map(|y| format!("(curve (0 0) (0 {y}) (0 0))\n"));
+            let (x, y) = first_point(text);
+            let towards = if y > 0 { -1 } else { 1 };
+            let [many, more, some] = [65_536, 16_384, 64]
+                .map(|height| format!("(curve ({x} {y}) ({x} {}) ({x} {y}))\n", y + towards * height));
             let curves = format!("{}{}{}", many.repeat(3), more, some.repeat(random.below(4)));
             text.splice(..first, format!("(tolerance 3)\n{curves}").into_bytes());
         }
@@ -209,6 +213,15 @@ fn alter_the_counts(random: &mut Random, text: &mut Vec<u8>) {
             *text = kept.filter(|line| !line.starts_with(b"(curve")).flatten().collect();
         }
     }
+}
+
+/// The first point of the first curve, where there is one; else any.
+fn first_point(text: &[u8]) -> (i32, i32) {
+    let text = String::from_utf8_lossy(text);
+    let point = text.lines().find_map(|line| line.strip_prefix("(curve (")?.split_once(')'));
+    let numbers = point.and_then(|(point, _)| point.split_once(' '));
+    let read = |(x, y): (&str, &str)| Some((x.parse().ok()?, y.parse().ok()?));
+    numbers.and_then(read).unwrap_or((0, 0))
 }
 
 /// Puts something else for one of the numbers.

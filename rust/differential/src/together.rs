@@ -2,6 +2,7 @@
 
 use crate::judging::Answer;
 use crate::random::Random;
+use crate::refusals::Refusals;
 use std::fmt;
 use std::io::Write;
 
@@ -39,7 +40,7 @@ pub struct Tally {
     /// Points that are off.
     pub off: u64,
     /// Calls that refuse, by the refusal's number.
-    pub refused: [u64; 12],
+    pub refused: Refusals,
 }
 
 impl Comparison {
@@ -93,7 +94,7 @@ impl Comparison {
         match outcome {
             Banded(_, Answer::On { .. }) => self.tally.on += 1,
             Banded(_, _) => self.tally.off += 1,
-            Refused(number, _) => self.tally.refused[number as usize] += 1,
+            Refused(number, _) => self.tally.refused.count(number),
         }
     }
 
@@ -142,12 +143,8 @@ impl fmt::Display for Tally {
     fn fmt(&self, f: &mut fmt::Formatter<'_>) -> fmt::Result {
         write!(
             f,
-            "{} calls and {} numbers compared; on {}, off {}, refused by number {:?}",
-            self.calls,
-            self.numbers,
-            self.on,
-            self.off,
-            &self.refused[1..]
+            "{} calls and {} numbers compared; on {}, off {}, refused by number {}",
+            self.calls, self.numbers, self.on, self.off, self.refused
         )
     }
 }

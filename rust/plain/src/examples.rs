@@ -116,7 +116,7 @@ fn a_curve_too_wide_after_its_last_halving() {
     let steep = upright(&[0, 1_048_576, 1_048_576, 0]);
     assert_eq!(number_and_spot(refused(&steep, 2, 18 * 256)), (7, 256));
     // Before the lent records, and with the number of its curve.
-    let mut second = CURVE_A.to_vec();
+    let mut second = upright(&[5, 0]);
     second.extend(&steep);
     assert_eq!(number_and_spot(refused(&second, 2, 0)), (7, 512 + 256));
 }
@@ -130,11 +130,11 @@ fn a_list_one_number_short_is_refused_with_all_leaves_counted() {
     assert_ne!(exact[35], UNTOUCHED);
 }
 
-/// Curves of each degree whose leaves stand at many depths.
+/// Curves of each degree, one after the other, whose leaves stand at many depths.
 fn lively() -> Vec<i32> {
     let mut outline = vec![3, 0, 0, 9_000, 14_000, -700, -12_000, 8_000, 5];
     outline.extend([1, 8_000, 5, 0, 0]);
-    outline.extend([2, -50, 100, 30_000, 77, -200, -300]);
+    outline.extend([2, 0, 0, 30_000, 77, 0, 0]);
     outline.extend(CURVE_A);
     outline
 }
@@ -172,7 +172,7 @@ fn no_leaf_is_deeper_than_its_second_differences_say() {
     for tolerance in [3, 5, 16, 100, 1_000, 100_000] {
         let (_, records) = accepted(&lively(), tolerance);
         // The largest second difference of each curve, over both coordinates.
-        let largest: [i64; 4] = [40_000, 0, 60_250, 30];
+        let largest: [i64; 4] = [40_000, 0, 60_000, 30];
         for leaf in records.chunks_exact(RECORD) {
             let depth = (leaf[1] as u32).ilog2();
             let m = largest[leaf[0] as usize];

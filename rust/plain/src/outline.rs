@@ -25,12 +25,13 @@ pub fn check_tolerance(tolerance: i32) -> Result<(), Refusal> {
     }
 }
 
-/// The curves of an outline, after checks 6 and, curve by curve, 5, 2, 3 and 4.
+/// The curves of an outline, after checks 6 and, curve by curve, 5, 2, 3, 4 and 17.
 pub fn curves(outline: &[i32]) -> Result<Vec<Curve>, Refusal> {
     if outline.is_empty() {
         return Err(Refusal::EmptyOutline);
     }
     let mut curves = Vec::new();
+    let mut end: Option<&[i32]> = None;
     let mut index = 0;
     while index < outline.len() {
         if curves.len() == MOST_CURVES {
@@ -38,14 +39,18 @@ pub fn curves(outline: &[i32]) -> Result<Vec<Curve>, Refusal> {
         }
         let degree = degree(outline[index]).ok_or(Refusal::Degree { index })?;
         let first = index + 1;
-        let end = first + 2 * (degree + 1);
+        let next = first + 2 * (degree + 1);
         let length = outline.len();
-        let points = outline.get(first..end).ok_or(Refusal::CutShort { length })?;
+        let points = outline.get(first..next).ok_or(Refusal::CutShort { length })?;
         if let Some(bad) = points.iter().position(|c| !COORDINATES.contains(c)) {
             return Err(Refusal::Coordinate { index: first + bad });
         }
+        if end.is_some_and(|end| end != &points[..2]) {
+            return Err(Refusal::Gap { index });
+        }
+        end = Some(&points[2 * degree..]);
         curves.push(Curve::new(degree, points));
-        index = end;
+        index = next;
     }
     Ok(curves)
 }
@@ -59,6 +64,9 @@ mod tests {
     use super::*;
 
     const LINE: [i32; 5] = [1, 0, 0, 0, 1];
+
+    /// A line of no length, which meets itself.
+    const STILL: [i32; 5] = [1, 0, 1, 0, 1];
 
     fn refusal(outline: &[i32]) -> Refusal {
         curves(outline).expect_err("the outline is faulty")
@@ -120,11 +128,52 @@ mod tests {
 
     #[test]
     fn a_65th_curve_is_named_before_anything_of_it_is_read() {
-        let mut outline = LINE.repeat(64);
+        let mut outline = STILL.repeat(64);
         assert_eq!(curves(&outline).map(|c| c.len()), Ok(64));
         outline.push(9);
         assert_eq!(refusal(&outline), Refusal::TooManyCurves { index: 320 });
+        outline.extend([5, 5, 5, 5]);
+        outline[320] = 1;
+        assert_eq!(refusal(&outline), Refusal::TooManyCurves { index: 320 });
         outline[316] = i32::MIN;
         assert_eq!(refusal(&outline), Refusal::Coordinate { index: 316 });
+    }
+
+    /// A curve of each degree from a point to another, through points that are neither.
+    fn curve(degree: i32, from: [i32; 2], to: [i32; 2]) -> Vec<i32> {
+        let mut curve = vec![degree, from[0], from[1]];
+        curve.extend((1..degree).flat_map(|i| [70 + i, 80 + i]));
+        curve.extend(to);
+        curve
+    }
+
+    #[test]
+    fn a_curve_begins_at_the_last_point_of_the_curve_before() {
+        for (first, second) in (1..=3).flat_map(|first| (1..=3).map(move |second| (first, second))) {
+            let index = 3 + 2 * first as usize;
+            let after =
+                |start| curves(&[curve(first, [3, 4], [5, 6]), curve(second, start, [8, 9])].concat());
+            assert_eq!(after([5, 6]).map(|c| c.len()), Ok(2));
+            // Off by one, the first point of the curve before, the point before the last, the padding.
+            for start in [[4, 6], [6, 6], [5, 5], [5, 7], [3, 4], [70, 80], [72, 82], [0, 0], [6, 5]] {
+                assert_eq!(after(start), Err(Refusal::Gap { index }));
+            }
+        }
+    }
+
+    #[test]
+    fn an_outline_may_stay_open_and_have_curves_of_no_length() {
+        assert_eq!(curves(&curve(3, [3, 4], [5, 6])).map(|c| c.len()), Ok(1));
+        let still = [LINE, STILL, STILL].concat();
+        assert_eq!(curves(&still).map(|c| c.len()), Ok(3));
+    }
+
+    #[test]
+    fn a_gap_is_named_after_the_coordinates_of_its_curve_and_before_the_next_curve() {
+        let far = 1_048_577;
+        assert_eq!(refusal(&[1, 0, 0, far, 0, 1, 5, 5, 5, 5]), Refusal::Coordinate { index: 3 });
+        assert_eq!(refusal(&[1, 0, 0, 0, 1, 1, 5, 5, 5, far]), Refusal::Coordinate { index: 9 });
+        assert_eq!(refusal(&[1, 0, 0, 0, 1, 1, 5, 5, 5, 5, 7]), Refusal::Gap { index: 5 });
+        assert_eq!(refusal(&[1, 0, 0, 0, 1, 1, 5, 5, 5]), Refusal::CutShort { length: 9 });
     }
 }

@@ -1,4 +1,4 @@
-//! Refusals, with the number and the spot that document 01 gives each.
+//! Refusals, with the number and the spot that document 01, or a request of document 02, gives each.
 
 /// Why an operation refused its input. Nothing that the caller lent is altered then.
 #[derive(Debug, Clone, Copy, PartialEq, Eq)]
@@ -79,6 +79,11 @@ pub enum Refusal {
         /// The first size that is over it.
         size: usize,
     },
+    /// 17: a curve does not begin where the curve before it ends.
+    Gap {
+        /// Where the degree of the later curve stands in the outline.
+        index: usize,
+    },
 }
 
 impl Refusal {
@@ -101,6 +106,7 @@ impl Refusal {
             Refusal::NotAForm { .. } => 14,
             Refusal::OutOfOrder { .. } => 15,
             Refusal::TextTooLong { .. } => 16,
+            Refusal::Gap { .. } => 17,
         }
     }
 
@@ -112,7 +118,8 @@ impl Refusal {
             Refusal::Degree { index }
             | Refusal::Coordinate { index }
             | Refusal::TooManyCurves { index }
-            | Refusal::LeafListNumber { index } => index,
+            | Refusal::LeafListNumber { index }
+            | Refusal::Gap { index } => index,
             Refusal::CutShort { length } | Refusal::LeafListLength { length } => length,
             Refusal::TooWide { curve, node } => 512 * curve + node,
             Refusal::TooFewRecords { leaves } => leaves,

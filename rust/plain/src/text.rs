@@ -112,6 +112,7 @@ mod tests {
     const TOLERANCE: &str = "(tolerance 44)";
     const CURVE: &str = "(curve (0 0) (10 30) (20 30) (30 0))";
     const LINE: &str = "(curve (0 0) (0 1))";
+    const BACK: &str = "(curve (0 1) (0 0))";
     const POINT: &str = "(point (240 363))";
     const FAR: &str = "(point (0 536870913))";
     const NO_FORM: &str = "(point (1  1))";
@@ -128,11 +129,11 @@ mod tests {
 
     #[test]
     fn numbers_below_zero_and_more_than_one_leaf() {
-        let text = ["(tolerance 43)", "(curve (0 0) (-10 -30) (-20 -30) (-30 0))", "(curve (0 0) (0 1))"];
+        let text = ["(tolerance 43)", "(curve (0 0) (-10 -30) (-20 -30) (-30 0))", "(curve (-30 0) (-30 1))"];
         let expected = "\
 (leaf 0 2 (0 0 -10 0) (-80 -80 -211 -199) (-160 -160 -331 -319) (-240 -240 -370 -360))
 (leaf 0 3 (-240 -240 -370 -360) (-320 -320 -331 -319) (-400 -400 -211 -199) (-480 -480 -10 0))
-(leaf 1 1 (0 0 0 0) (0 0 5 6) (0 0 10 11) (0 0 16 16))
+(leaf 1 1 (-480 -480 0 0) (-480 -480 5 6) (-480 -480 10 11) (-480 -480 16 16))
 (done 2 3 4)
 ";
         assert_eq!(lines(&text), expected);
@@ -237,24 +238,35 @@ mod tests {
     fn coordinates_are_named_by_their_index_in_the_outline() {
         let bad = "(curve (0 0) (0 1048577) (-2147483648 0))";
         assert_eq!(lines(&[TOLERANCE, bad, POINT]), "(refused 4 4)\n");
-        assert_eq!(lines(&[TOLERANCE, LINE, CURVE, bad]), "(refused 4 18)\n");
+        assert_eq!(lines(&[TOLERANCE, CURVE, "(curve (30 0) (0 0))", bad]), "(refused 4 18)\n");
         assert_eq!(lines(&[TOLERANCE, "(curve (0 -1048576) (1048576 0))"]).lines().count(), 2);
     }
 
     #[test]
     fn a_65th_curve() {
-        let most: Vec<&str> = [TOLERANCE].into_iter().chain([LINE; 64]).collect();
+        let most: Vec<&str> = [TOLERANCE].into_iter().chain([LINE, BACK].repeat(32)).collect();
         assert!(lines(&most)
-            .ends_with("(leaf 63 1 (0 0 0 0) (0 0 5 6) (0 0 10 11) (0 0 16 16))\n(done 64 64 64)\n"));
-        let more: Vec<&str> = [TOLERANCE].into_iter().chain([LINE; 65]).collect();
-        assert_eq!(lines(&more), "(refused 5 320)\n");
+            .ends_with("(leaf 63 1 (0 0 16 16) (0 0 10 11) (0 0 5 6) (0 0 0 0))\n(done 64 64 64)\n"));
+        // Whether it meets the one before or not.
+        for another in [LINE, BACK] {
+            let more = [&most[..], &[another]].concat();
+            assert_eq!(lines(&more), "(refused 5 320)\n");
+        }
+    }
+
+    #[test]
+    fn curves_that_do_not_meet() {
+        assert_eq!(lines(&[TOLERANCE, LINE, LINE, POINT]), "(refused 17 5)\n");
+        assert_eq!(lines(&[TOLERANCE, CURVE, "(curve (30 1) (0 0))"]), "(refused 17 9)\n");
+        assert_eq!(lines(&[TOLERANCE, CURVE, "(curve (29 0) (0 0))"]), "(refused 17 9)\n");
+        assert_eq!(lines(&[TOLERANCE, LINE, LINE, NO_FORM]), "(refused 14 4)\n");
     }
 
     #[test]
     fn a_curve_that_is_too_wide() {
         let wide = "(curve (0 0) (0 1048576) (0 1048576) (0 0))";
         assert_eq!(lines(&["(tolerance 2)", wide, POINT]), "(refused 7 256)\n");
-        assert_eq!(lines(&["(tolerance 2)", LINE, wide]), "(refused 7 768)\n");
+        assert_eq!(lines(&["(tolerance 2)", BACK, wide]), "(refused 7 768)\n");
     }
 
     #[test]

@@ -3,7 +3,7 @@
 
 use differential::banding::Answer::{self, Accepted, Refused};
 use differential::banding::Comparison;
-use differential::outlines::{AWKWARD, EDGE};
+use differential::outlines::{starts, AWKWARD, EDGE};
 use std::collections::BTreeSet;
 
 /// A fault and where it is planted. Places are numbers of curves.
@@ -21,6 +21,8 @@ enum Fault {
     Cut(usize),
     /// 4: at this number of the curve, 1 to its length, this coordinate.
     Coordinate(usize, usize, i32),
+    /// 17: this first point, from the end of the curve before.
+    Gap(usize, [i32; 2]),
     /// 7: a curve too wide after its last halving.
     Wide(usize),
     /// 8: a list without room, empty or one number short.
@@ -40,20 +42,28 @@ impl Fault {
             Empty => 6,
             Wide(_) => 7,
             Lent(_) => 8,
+            Gap(..) => 17,
         }
     }
 }
 
-/// Curves that are accepted at every tolerance from 2, one after the other.
+/// Every fault's number.
+const NUMBERS: [u32; 9] = [1, 2, 3, 4, 5, 6, 7, 8, 17];
+
+/// Curves that are accepted at every tolerance from 2, each from where the one before ends; the first is
+/// from where the last ends.
 const CURVES: [&[i32]; 4] = [
     &[3, 0, 0, 10, 30, 20, 30, 30, 0],
     &[1, 30, 0, 40, 7],
     &[2, 40, 7, 90, 300, -20, 5],
-    &[3, 5, 5, 800, -700, -600, 500, -400, 300],
+    &[3, -20, 5, 800, -700, -600, 500, 0, 0],
 ];
 
-/// A curve whose first node at depth 8 does not meet 2.
-const WIDE: [i32; 9] = [3, 0, 0, 0, EDGE, 0, EDGE, 0, 0];
+/// A curve with the ends of another whose first node at depth 8 does not meet 2.
+fn wide(curve: &[i32]) -> Vec<i32> {
+    let ([_, x, y, ..], [.., end_x, end_y]) = (curve, curve) else { panic!("a curve has two points") };
+    vec![3, *x, *y, *x, EDGE, *x, EDGE, *end_x, *end_y]
+}
 
 /// An outline with faults planted, and the answer that document 01's table gives for it.
 struct Planted {
@@ -98,13 +108,19 @@ fn damaged(count: usize, faults: &[Fault]) -> Option<Vec<Vec<i32>>> {
     let mut faults = faults.to_vec();
     faults.sort_by_key(|fault| match fault {
         Wide(_) => 0,
-        Coordinate(..) => 1,
-        Cut(_) => 2,
-        _ => 3,
+        Gap(..) => 1,
+        Coordinate(..) => 2,
+        Cut(_) => 3,
+        _ => 4,
     });
     for &fault in &faults {
         match fault {
-            Wide(at) => *curves.get_mut(at)? = WIDE.to_vec(),
+            Wide(at) => *curves.get_mut(at)? = wide(curves.get(at)?),
+            Gap(at, [x, y]) => {
+                let before = CURVES[(at - 1) % CURVES.len()];
+                let [.., end_x, end_y] = before else { return None };
+                curves.get_mut(at)?.get_mut(1..3)?.copy_from_slice(&[end_x + x, end_y + y]);
+            }
             Coordinate(at, number, coordinate) => *curves.get_mut(at)?.get_mut(number)? = coordinate,
             Cut(left) => {
                 let last = curves.last_mut().filter(|last| left < last.len())?;
@@ -148,6 +164,9 @@ fn first(curves: &[Vec<i32>], faults: &[Fault], length: usize) -> Option<(u32, u
         });
         if let Some(bad) = bad.min() {
             return Some((4, bad as u64));
+        }
+        if has(&|f| matches!(f, Gap(place, _) if *place == at)) {
+            return Some((17, index as u64));
         }
         index += curve.len();
     }
@@ -195,6 +214,13 @@ fn faults(count: usize, places: &[usize]) -> Vec<Fault> {
                 faults.push(Coordinate(at, number, coordinate));
             }
         }
+        if at > 0 {
+            // The last is the first point of the curve before.
+            let [.., end_x, end_y] = CURVES[(at - 1) % CURVES.len()] else { panic!("a curve has points") };
+            let first = &CURVES[(at - 1) % CURVES.len()][1..3];
+            let back = [first[0] - end_x, first[1] - end_y];
+            faults.extend([[1, 0], [-1, 0], [0, 1], [0, -1], [7, -9], back].map(|by| Gap(at, by)));
+        }
         faults.push(Wide(at));
     }
     faults.retain(|fault| !matches!(fault, Curves(curves) if *curves <= count));
@@ -214,7 +240,7 @@ fn every_fault_alone() {
             }
         }
     }
-    assert!(comparison.tally.refused[1..].iter().all(|&count| count > 0));
+    assert!(NUMBERS.iter().all(|&number| comparison.tally.refused[number] > 0));
     comparison.report();
 }
 
@@ -240,16 +266,25 @@ fn every_two_faults() {
             }
         }
     }
-    for one in 1..=8 {
-        for other in one + 1..=8 {
+    for one in NUMBERS {
+        for other in NUMBERS.into_iter().filter(|&other| one < other) {
             // An empty outline has no other fault than its tolerance.
             let together = (one, other) == (1, 6) || (one != 6 && other != 6);
             assert_eq!(pairs.contains(&(one, other)), together, "{one} with {other}");
         }
     }
     // The faults that can stand at two places.
-    assert!([(2, 2), (4, 4), (7, 7)].iter().all(|twice| pairs.contains(twice)));
+    assert!([(2, 2), (4, 4), (7, 7), (17, 17)].iter().all(|twice| pairs.contains(twice)));
     comparison.report();
+}
+
+/// Where a coordinate of a point between two curves stands a second time.
+fn other_side(outline: &[i32], at: usize) -> Option<usize> {
+    starts(outline).into_iter().skip(1).find_map(|start| match at as isize - start as isize {
+        -2 | -1 => Some(at + 3),
+        1 | 2 => Some(at - 3),
+        _ => None,
+    })
 }
 
 #[test]
@@ -260,9 +295,15 @@ fn awkward_numbers_everywhere() {
         for at in 0..outline.len() {
             for number in AWKWARD {
                 let mut outline = outline.clone();
+                let same = other_side(&outline, at);
                 outline[at] = number;
                 comparison.tally.outlines += 1;
                 comparison.band_into_every_length(&outline, tolerance);
+                if let Some(same) = same {
+                    outline[same] = number;
+                    comparison.tally.outlines += 1;
+                    comparison.band_into_every_length(&outline, tolerance);
+                }
                 outline.truncate(at + 1);
                 comparison.tally.outlines += 1;
                 comparison.band_into_every_length(&outline, tolerance);

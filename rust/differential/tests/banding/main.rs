@@ -4,5 +4,6 @@ mod damaged;
 mod edges;
 mod examples;
 mod largest;
+mod meeting;
 mod random;
 mod short_lists;

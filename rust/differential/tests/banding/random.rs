@@ -71,3 +71,13 @@ fn broken_1() {
 fn broken_2() {
     broken("banding, damaged random outlines, seed 202", 202);
 }
+
+#[test]
+fn broken_3() {
+    broken("banding, damaged random outlines, seed 203", 203);
+}
+
+#[test]
+fn broken_4() {
+    broken("banding, damaged random outlines, seed 204", 204);
+}

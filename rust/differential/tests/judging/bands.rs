@@ -1,10 +1,11 @@
 //! Lists that banding wrote: points that equal a curve are on, and points that are on lie within the
 //! tolerance of one.
 
+use differential::covers::witness_of;
 use differential::curves::{curves, gcd};
 use differential::judging::Comparison;
 use differential::leaf_lists::LeafList;
-use differential::outlines::{outline, tolerance, EDGE};
+use differential::outlines::{in_range, outline, starts, tolerance, EDGE};
 use differential::random::Random;
 
 /// The records of an outline at the first tolerance of `least`, twice that and so on at which it is
@@ -81,6 +82,47 @@ fn whole_curve(random: &mut Random, q: i32) -> Vec<i32> {
     curve
 }
 
+/// One to three of them, each from where the one before ends.
+fn whole_outline(random: &mut Random, q: i32) -> Vec<i32> {
+    let mut outline = whole_curve(random, q);
+    let curves = random.between(1, 3);
+    while (starts(&outline).len() as i32) < curves {
+        let end = [outline[outline.len() - 2], outline[outline.len() - 1]];
+        let mut curve = whole_curve(random, q);
+        let by = [end[0] - curve[1], end[1] - curve[2]];
+        curve[1..].iter_mut().zip(by.into_iter().cycle()).for_each(|(number, by)| *number += by);
+        if curve.iter().all(|&n| in_range(n)) {
+            outline.extend(curve);
+        }
+    }
+    outline
+}
+
+#[test]
+fn points_between_curves() {
+    let mut comparison = Comparison::new("judging, points between curves, seed 723");
+    let mut random = Random::new(723);
+    for _ in 0..10_000 {
+        let outline = outline(&mut random);
+        let least = tolerance(&mut random);
+        let (tolerance, records) = band(&outline, least);
+        for (number, curve) in curves(&outline).iter().enumerate().skip(1) {
+            let (x, y) = curve.whole_point(0, 1).expect("control points are whole");
+            comparison.judge_of_curve(&outline, tolerance, &records, (x, y));
+            // The last leaf of the curve before and the first of this one, which stand side by side.
+            let first = records.chunks_exact(18).position(|record| record[0] == number as i32);
+            let first = first.expect("a curve has leaves");
+            for (record, numbered) in [(first - 1, number - 1), (first, number)] {
+                let record = &records[18 * record..][..18];
+                let held = (0..3).any(|cover| witness_of(record, cover, x, y).is_some());
+                assert!(record[0] == numbered as i32 && held, "({x} {y}) of {outline:?}");
+            }
+        }
+    }
+    assert!(comparison.tally.of_curves > 20_000);
+    comparison.report();
+}
+
 #[test]
 fn points_of_curves() {
     let mut comparison = Comparison::new("judging, points of curves at rational parameters, seed 722");
@@ -88,7 +130,7 @@ fn points_of_curves() {
     let parts = [1, 2, 3, 4, 5, 6, 7, 8, 9, 10, 11, 12, 15, 16, 17, 20, 24, 32, 48, 50, 60, 64, 96, 100, 128];
     for _ in 0..2_500 {
         let q = random.pick(&parts);
-        let outline: Vec<i32> = (0..random.between(1, 3)).flat_map(|_| whole_curve(&mut random, q)).collect();
+        let outline = whole_outline(&mut random, q);
         let least = tolerance(&mut random);
         let (tolerance, records) = band(&outline, least);
         for curve in curves(&outline) {

@@ -10,7 +10,7 @@ use differential::random::Random;
 fn the_most_leaves() {
     let mut comparison = Comparison::new("judging, the most leaves, seed 731");
     let mut random = Random::new(731);
-    let outline: Vec<i32> = (0..64).flat_map(|_| deepest(&mut random)).collect();
+    let outline = deepest(&mut random);
     let mut records = vec![0; 18 * 64 * 256];
     let report = contour_band::band(&outline, 2, &mut records).expect("the outline is accepted");
     assert_eq!(report.leaves, 16_384);

@@ -48,7 +48,7 @@ fn altered() {
         text
     });
     // Degrees and the ends of curves follow from the lines, so 2 and 3 cannot occur.
-    for number in [1, 4, 5, 6, 7, 8, 15, 16] {
+    for number in [1, 4, 5, 6, 7, 8, 15, 16, 17] {
         assert!(tally.refused[number] > 50, "{number}: {tally}");
     }
     assert!(tally.accepted > 500 && tally.refused_points > 500, "{tally}");
@@ -61,7 +61,7 @@ fn damaged() {
         damage(random, &mut text);
         text
     });
-    for number in [1, 4, 5, 6, 7, 8, 14, 15, 16] {
+    for number in [1, 4, 5, 6, 7, 8, 14, 15, 16, 17] {
         assert!(tally.refused[number] > 10, "{number}: {tally}");
     }
     assert!(tally.accepted > 500, "{tally}");
