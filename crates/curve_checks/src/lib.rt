@@ -27,8 +27,8 @@ fn first_beyond(ns: &[i32], from: usize, end: usize) -> Found
     Found::Nothing
 }
 
-// Check 17: whether the curve whose degree stands at index `at` begins where the curve before it ends, which is the point
-// in the two numbers before `at`. The first curve has none before it.
+// Check 17: whether the curve whose degree stands at index `at` begins where the curve before it ends. That point is the two
+// numbers before `at`; the first curve has none before it.
 fn meets_before(ns: &[i32], at: usize) -> bool
     requires { ⌜ at + 2 < length (now ns) ⌝ }
     ensures { λ r. ⌜ r ≡ meetsBefore (now (ns .entry)) at ⌝ }

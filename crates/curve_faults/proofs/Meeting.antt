@@ -1,5 +1,5 @@
--- Check 17 in terms of curves: the two numbers before a curve's degree are the last point of the curve before it, so the two curves meet exactly where
--- the check passes.
+-- Check 17 in terms of curves: the two numbers before a curve's degree are the last point of the curve before it, so the two curves meet exactly
+-- where the check passes.
 use mathlib.Core.Path.{_≡_, refl, sym, _∙_, ap}
 use mathlib.Core.Bool.{true, _&&_}
 use mathlib.Core.List.{List}
@@ -56,7 +56,7 @@ module _ (ns : List ℤ) (at : ℕ) (degree : between (pos 1) (pos 3) (entry ns 
   pub meets-exactly : (meetsBefore ns (nextAt ns at) ≡ true) ↔ CurvesMeet (curveAt ns at) (curveAt ns (nextAt ns at))
   meets-exactly = (
     λ e.
-        let h = both-true (equal (entry ns (next - 2)) (entry ns (next + 1))) (equal (entry ns (next - 1)) (entry ns (next + 2))) (sym compared ∙ e) in
+        let h = both-true (equal (entry ns (next - 2)) (entry ns (next + 1))) _ (sym compared ∙ e) in
         record { in-x = last-x ∙ equal-≡ (h .0) ∙ sym (first-x ns next); in-y = last-y ∙ equal-≡ (h .1) ∙ sym (first-y ns next) },
     λ m. compared ∙ rw (≡-equal (sym last-x ∙ m .in-x ∙ first-x ns next), ≡-equal (sym last-y ∙ m .in-y ∙ first-y ns next)),
   )

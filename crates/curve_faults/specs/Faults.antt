@@ -1,4 +1,4 @@
--- The checks of one curve of an outline, in document 01's order ("Place of each check"), and 17 of document 02's request 03.
+-- The checks of one curve of an outline, in document 01's order ("Place of each check"), and 17 of document 02, request 03.
 use mathlib.Core.Bool.{Bool, true, false, _&&_, _||_}
 use mathlib.Core.List.{List}
 use mathlib.Core.Option.{Option, none, some}
@@ -25,10 +25,11 @@ coordinateFine z = between (negℤ (pos 1048576)) (pos 1048576) z
 abbrev pub firstBeyond : List ℤ → ℕ → ℕ → Option ℕ
 firstBeyond ns n i = firstBad (λ k. coordinateFine (entry ns k)) n i
 
--- ---- 17: the curve at `at` begins where the curve before it ends. That point is the two numbers before `at`; the first
--- curve, at index 0, has none before it.
+-- ---- 17: the curve at `at` begins where the curve before it ends. That point is the two numbers before `at`; the
+-- first curve, at index 0, has none before it.
 abbrev pub meetsBefore : List ℤ → ℕ → Bool
-meetsBefore ns at = ltb at 2 || (equal (entry ns (at - 2)) (entry ns (at + 1)) && equal (entry ns (at - 1)) (entry ns (at + 2)))
+meetsBefore ns at =
+    ltb at 2 || (equal (entry ns (at - 2)) (entry ns (at + 1)) && equal (entry ns (at - 1)) (entry ns (at + 2)))
 
 -- the faults of the curve whose degree stands at `at`: 2, 3, 4 and 17, in this order
 unfoldable pub faultAt : List ℤ → ℕ → Option Refusal

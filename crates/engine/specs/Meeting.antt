@@ -17,8 +17,8 @@ pub record EndsAt (c : Curve) (x y : ℤ) : Type 0 where
   pub in-x : x ≡ pos 16 *ℤ entry (c .x) (c .degree)
   pub in-y : y ≡ pos 16 *ℤ entry (c .y) (c .degree)
 
--- The list has a record of curve number k whose node has the parameter p / (p + r) in its stretch, and a cover of this record
--- holds the point (x, y).
+-- The list has a record of curve number k whose node has the parameter p / (p + r) in its stretch, and a cover of this
+-- record holds the point (x, y).
 pub record HeldAt (rs : List ℤ) (k p r : ℕ) (x y : ℤ) : Type 0 where
   pub place : ℕ
   pub inside : recordLength * place < length rs
@@ -30,8 +30,8 @@ pub record HeldAt (rs : List ℤ) (k p r : ℕ) (x y : ℤ) : Type 0 where
   pub one-of : cover < covers
   pub holds : CoverHolds rs place cover x y
 
--- The point (x, y) where curve k ends and curve k + 1 begins is on. The leaves cover it twice: the last leaf of curve k, at its
--- parameter 1, and the first leaf of curve k + 1, at its parameter 0.
+-- The point (x, y) where curve k ends and curve k + 1 begins is on. The leaves cover it twice: the last leaf of curve k,
+-- at its parameter 1, and the first leaf of curve k + 1, at its parameter 0.
 pub record CoveredTwice (rs : List ℤ) (k : ℕ) (x y : ℤ) (answer : Judgement) : Type 0 where
   pub on : IsOn answer
   pub last-leaf : HeldAt rs k 1 0 x y

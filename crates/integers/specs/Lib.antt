@@ -1,4 +1,5 @@
--- What a reader must believe of this crate: entries of a list, ranges, equality, the first bad place, and division rounded down and up.
+-- What a reader must believe of this crate: entries of a list, ranges, equality, the first bad place, and division rounded
+-- down and up.
 pub mod Entry
 pub mod Between
 pub mod Equal

@@ -1,5 +1,5 @@
--- The checks of a tolerance and of an outline, in document 01's order ("Place of each check"), with 17 of document 02. The most curves that an outline
--- may have is a parameter.
+-- The checks of a tolerance and of an outline, in document 01's order ("Place of each check"), with 17 of document 02. The
+-- most curves that an outline may have is a parameter.
 use mathlib.Core.Bool.{Bool, true, false}
 use mathlib.Core.List.{List, [], _∷_}
 use mathlib.Core.Option.{none, some}

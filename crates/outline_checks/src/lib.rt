@@ -17,8 +17,8 @@ pub fn tolerance_fine(t: i32) -> bool
     t <= 1048576
 }
 
-// Checks 2 to 6 and 17 of an outline that may have `most` curves, in their order. Every list and every `most` may be asked
-// about.
+// Checks 2 to 6 and 17 of an outline that may have `most` curves, in their order. Every list and every `most` may be
+// asked about.
 pub fn check_outline(ns: &[i32], most: usize) -> Checked
     ensures { λ r. ⌜ r ≡ checkedOf (outlined most (now (ns .entry))) ⌝ }
 {

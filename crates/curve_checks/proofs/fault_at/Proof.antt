@@ -79,7 +79,8 @@ last-check c =
 
 -- past the third: whether the curve meets the one before
 meeting : (c : tie.After-meets-before) (b : Bool) → c .meets-before .result ≡ b
-    → faultOf (faultAt (numbers (c .before .before .before)) (place (c .before .before .before))) ≡ lastFault (place (c .before .before .before)) b Nothing
+    → faultOf (faultAt (numbers (c .before .before .before)) (place (c .before .before .before)))
+    ≡ lastFault (place (c .before .before .before)) b Nothing
 meeting c b e =
     let found = c .before .before .before in
     last-check found ∙ ap₂ (lastFault (place found)) (sym (c .meets-before .ensures) ∙ e) (c .before .enum-told .given .1)

@@ -1,4 +1,5 @@
--- `curve_checks::meets_before` meets its contract: with no two numbers before the degree there is no curve before it; else x decides, or y where x is equal.
+-- `curve_checks::meets_before` meets its contract: with no two numbers before the degree there is no curve before it; else x decides, or y where x is
+-- equal.
 use mathlib.Core.Path.{_∙_}
 use Prim.Native.Nat.{_+_, _-_}
 use borrow.Author.Needs.{needs}
@@ -49,7 +50,8 @@ returns-2 c =
     let x = c .before .before .before in
     let ns = x .before .before .before .args .ns .now in
     let at = x .before .before .before .args .at in
-    let same-x = bits-equal (element-fits ns (at - 2) (x .before .last-x .given)) (element-fits ns (at + 1) (x .first-x .given)) (c .before .before .if2 .taken) in
+    let last-fits = element-fits ns (at - 2) (x .before .last-x .given) in
+    let same-x = bits-equal last-fits (element-fits ns (at + 1) (x .first-x .given)) (c .before .before .if2 .taken) in
     bits-test (element-fits ns (at - 1) (c .before .last-y .given)) (element-fits ns (at + 2) (c .first-y .given))
     ∙ rw (le-ltb at 2 (x .before .before .if1 .left), same-x)
 
@@ -58,7 +60,8 @@ returns-3 c =
     let x = c .before in
     let ns = x .before .before .before .args .ns .now in
     let at = x .before .before .before .args .at in
-    let other-x = bits-differ (element-fits ns (at - 2) (x .before .last-x .given)) (element-fits ns (at + 1) (x .first-x .given)) (c .if2 .left) in
+    let last-fits = element-fits ns (at - 2) (x .before .last-x .given) in
+    let other-x = bits-differ last-fits (element-fits ns (at + 1) (x .first-x .given)) (c .if2 .left) in
     rw (le-ltb at 2 (x .before .before .if1 .left), other-x)
 
 pub meets-before-spec : {M : Type 1} → statement M
