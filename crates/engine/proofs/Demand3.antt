@@ -35,6 +35,7 @@ use Rattle.judging.specs.declared.Judgement.{Judgement}
 use Rattle.judging.specs.declared.Judgement.the-variants.{On, Off, Refused}
 use Rattle.judging.specs.Judging.{Verdict, Judged}
 use Rattle.judging.proofs.Judgements.{judged-on}
+use Rattle.engine.specs.Meeting.{HeldAt}
 use Rattle.engine.specs.Demand3.{CurveOf, IsOn, Somewhere, Shallow, Demand3}
 use Rattle.engine.proofs.Passing.{coordinate-fine, none-refused}
 use Rattle.mixtures.proofs.Mixtures.{upP, upR, up-some}
@@ -49,7 +50,7 @@ module _ (rs : List ℤ) (x y : ℤ) where
   held-on (Refused r) v k i hk hi h = absurd v
 
 -- ---- the curves of an outline
-same-curves : {o : Outlined} {cs ds : List Curve} → o ≡ curves cs → o ≡ curves ds → cs ≡ ds
+pub same-curves : {o : Outlined} {cs ds : List Curve} → o ≡ curves cs → o ≡ curves ds → cs ≡ ds
 same-curves e f = cc
 
 -- one place, one curve
@@ -84,20 +85,38 @@ module _ (most : ℕ) (T : ℤ) (ns : List ℤ) (cs : List Curve) (faultless : F
   member : (before : List Curve) (c : Curve) (after : List Curve) → cs ≡ before ++ c ∷ after → List·Memᴰ c cs
   member before c after e = rw e (Memᴰ·append-right before (List·Memᴰ·head refl))
 
+  -- a point of a curve is held by a record of this curve, at a leaf with its parameter
+  pub held-at : (k : ℕ) (c : Curve) → CurveOf most ns k c → (p r : ℕ) → 0 < p + r → (x y : ℤ) → Equals c p r x y → HeldAt rs k p r x y
+  held-at k c of p r positive x y equals =
+      let i = member (of .before) c (of .after) (split of) in
+      let number = 0 + length (of .before) in
+      let leaf = every-parameter T cs meet c i p r in
+      let found = subst (λ l. Found (allRecords T 0 l) (recordOf number c (leaf .0))) (sym (split of))
+      (every-end-stands T 0 (of .before) c (of .after) (leaf .0) (leaves-exactly T cs meet c i (leaf .0) .1 (leaf .1))) in
+      let held = point-held c (sized c i) (leaf .0) (leaf .1 .node) p r positive (leaf .2) x y equals in
+      let there = box-there c (leaf .0) (leaf .1 .node) number (found .stands) in
+      record {
+        place = found .place;
+        inside = found .stands .inside;
+        curve-is =
+            ap (entry rs) {x = recordLength * found .place} {y = recordLength * found .place + 0} (omega arith)
+            ∙ found .stands .number 0 (omega arith) ∙ record-curve number c (leaf .0) ∙ ap pos {x = number} {y = k} (omega (arith, of .number));
+        node = leaf .0;
+        node-is = found .stands .number 1 (omega arith) ∙ record-node number c (leaf .0);
+        parameter = leaf .2;
+        cover = held .cover;
+        one-of = held .inside;
+        holds = rw (there (held .cover) (omega (arith, held .inside)), there (suc (held .cover)) (held .inside)) (held .holds);
+      }
+
   module _ (n : ℕ) (some : 0 < n) (sound : SoundList most n rs) (x y : ℤ) (answer : Judgement) (judged : Judged most rs x y answer) where
     point-on : (k : ℕ) (c : Curve) → CurveOf most ns k c → (p r : ℕ) → 0 < p + r → Equals c p r x y → IsOn answer
     point-on k c of p r positive equals =
-        let i = member (of .before) c (of .after) (split of) in
-        let s = sized c i in
-        let leaf = every-parameter T cs meet c i p r in
-        let found = subst (λ l. Found (allRecords T 0 l) (recordOf (0 + length (of .before)) c (leaf .0))) (sym (split of))
-        (every-end-stands T 0 (of .before) c (of .after) (leaf .0) (leaves-exactly T cs meet c i (leaf .0) .1 (leaf .1))) in
-        let held = point-held c s (leaf .0) (leaf .1 .node) p r positive (leaf .2) x y equals in
-        let there = box-there c (leaf .0) (leaf .1 .node) (0 + length (of .before)) (found .stands) in
+        let h = held-at k c of p r positive x y equals in
+        let near = small (sized c (member (of .before) c (of .after) (split of))) in
         let passes = none-refused some sound x y
-        (coordinate-fine (c .degree) (c .x) (small s .0) p r positive x (equals .in-x)) (coordinate-fine (c .degree) (c .y) (small s .1) p r positive y (equals .in-y)) in
-        held-on rs x y answer (subst (λ f. Verdict f rs x y answer) passes judged) (found .place) (held .cover) (found .stands .inside) (held .inside)
-        (rw (there (held .cover) (omega (arith, held .inside)), there (suc (held .cover)) (held .inside)) (held .holds))
+        (coordinate-fine (c .degree) (c .x) (near .0) p r positive x (equals .in-x)) (coordinate-fine (c .degree) (c .y) (near .1) p r positive y (equals .in-y)) in
+        held-on rs x y answer (subst (λ f. Verdict f rs x y answer) passes judged) (h .place) (h .cover) (h .inside) (h .one-of) (h .holds)
 
     on-near : IsOn answer → Somewhere most T ns x y
     on-near on =

@@ -1,6 +1,6 @@
 -- The point between two curves of an accepted outline is on, and the leaves cover it twice: from demand 3, and from neighbours that meet.
-use mathlib.Core.Path.{_≡_, refl, sym, _∙_, ap, subst}
-use mathlib.Core.List.{List, [], _∷_, _++_, List·Memᴰ, List·Memᴰ·head, Memᴰ·append-right}
+use mathlib.Core.Path.{_≡_, sym, _∙_, ap, subst}
+use mathlib.Core.List.{List, [], _∷_, _++_}
 use Prim.Native.Nat.{ℕ, suc, _+_, _*_, _<_}
 use native.Mathlib.Omega.{arith}
 use lib.ListN.{length, take}
@@ -12,23 +12,16 @@ use Rattle.bezier.specs.Points.{scaled, sixteenths, Equals}
 use Rattle.bernstein.proofs.Ends.{value-start, value-end, one-powers}
 use Rattle.boxes.specs.Records.{recordLength}
 use Rattle.curve_faults.specs.Meeting.{CurvesMeet}
-use Rattle.outline.specs.Checks.{Outlined, curves}
-use Rattle.outline.proofs.Accepted.{outlined-from, accepted-all}
+use Rattle.outline.specs.Checks.{curves}
 use Rattle.outline.proofs.Meeting.{curves-meet}
 use Rattle.banding.specs.declared.Banded.the-variants.{Done}
 use Rattle.banding.specs.Banding.{banded, written}
-use Rattle.banding.specs.Outcomes.{Faultless}
-use Rattle.passes.specs.Meeting.{AllMeet}
-use Rattle.records.specs.Records.{recordOf, allRecords}
-use Rattle.records.proofs.Sound.{record-curve, record-node}
-use Rattle.records.proofs.Standing.{Found, every-end-stands}
-use Rattle.banding.proofs.Theorems.{done-exactly, records-written, leaves-exactly, every-parameter}
+use Rattle.banding.proofs.Theorems.{done-exactly, records-written}
 use Rattle.judging.specs.declared.Judgement.{Judgement}
 use Rattle.judging.specs.Judging.{Judged}
 use Rattle.engine.specs.Demand3.{CurveOf}
 use Rattle.engine.specs.Meeting.{EndsAt, HeldAt, CoveredTwice}
-use Rattle.engine.proofs.Covers.{box-there, point-held}
-use Rattle.engine.proofs.Demand3.{demand-3}
+use Rattle.engine.proofs.Demand3.{same-curves, held-at, demand-3}
 
 -- ---- the ends of a curve are its values at 0 and 1
 coordinate-start : (d : ℕ) (cs : List ℤ) (z : ℤ) → z ≡ pos 16 *ℤ entry cs 0 → scaled d 0 1 z ≡ sixteenths d 0 1 cs
@@ -55,41 +48,11 @@ next-is [] [] after rest c d l e = absurd (omega arith)
 next-is (b ∷ bs) [] after rest c d l e = absurd (omega arith)
 next-is (b ∷ bs) (a ∷ ds) after rest c d l e = next-is bs ds after rest c d (omega arith) (cc)
 
-same-curves : {o : Outlined} {cs ds : List Curve} → o ≡ curves cs → o ≡ curves ds → cs ≡ ds
-same-curves e f = cc
-
 pub numbers-meet : (most : ℕ) (ns : List ℤ) (k : ℕ) (c d : Curve) → CurveOf most ns k c → CurveOf most ns (suc k) d → CurvesMeet c d
 numbers-meet most ns k c d first second =
     let number = second .number ∙ ap suc (sym (first .number)) in
     let after = next-is (first .before) (second .before) (first .after) (second .after) c d number (same-curves (first .all) (second .all)) in
     curves-meet most ns (first .before) c d (second .after) (first .all ∙ ap (λ l. curves (first .before ++ c ∷ l)) after)
-
--- ---- a point of a curve is held by a record of this curve, at a leaf with its parameter
-module _ (most : ℕ) (T : ℤ) (ns : List ℤ) (cs : List Curve) (faultless : Faultless most T ns cs) (meet : AllMeet T cs) where
-  held-at : (k : ℕ) (c : Curve) → CurveOf most ns k c → (p r : ℕ) → 0 < p + r → (x y : ℤ) → Equals c p r x y → HeldAt (allRecords T 0 cs) k p r x y
-  held-at k c of p r positive x y equals =
-      let split = same-curves (faultless .outline) (of .all) in
-      let i : List·Memᴰ c cs = rw split (Memᴰ·append-right (of .before) (List·Memᴰ·head refl)) in
-      let number = 0 + length (of .before) in
-      let leaf = every-parameter T cs meet c i p r in
-      let found = subst (λ l. Found (allRecords T 0 l) (recordOf number c (leaf .0))) (sym split)
-      (every-end-stands T 0 (of .before) c (of .after) (leaf .0) (leaves-exactly T cs meet c i (leaf .0) .1 (leaf .1))) in
-      let sized = accepted-all most ns 0 cs (outlined-from most ns cs (faultless .outline)) c i in
-      let held = point-held c sized (leaf .0) (leaf .1 .node) p r positive (leaf .2) x y equals in
-      let there = box-there c (leaf .0) (leaf .1 .node) number (found .stands) in
-      record {
-        place = found .place;
-        inside = found .stands .inside;
-        curve-is =
-            ap (entry (allRecords T 0 cs)) {x = recordLength * found .place} {y = recordLength * found .place + 0} (omega arith)
-            ∙ found .stands .number 0 (omega arith) ∙ record-curve number c (leaf .0) ∙ ap pos {x = number} {y = k} (omega (arith, of .number));
-        node = leaf .0;
-        node-is = found .stands .number 1 (omega arith) ∙ record-node number c (leaf .0);
-        parameter = leaf .2;
-        cover = held .cover;
-        one-of = held .inside;
-        holds = rw (there (held .cover) (omega (arith, held .inside)), there (suc (held .cover)) (held .inside)) (held .holds);
-      }
 
 -- ---- the point where curve k ends and curve k + 1 begins
 pub covered-twice : (most : ℕ) (T : ℤ) (ns old : List ℤ) (a b n : ℕ) → banded most T ns (length old) ≡ Done a b n
