@@ -29,14 +29,16 @@ fn examples() {
 fn orders() {
     const STEEP: [i32; 9] = [3, 0, 0, 0, 1_048_576, 0, 1_048_576, 0, 0];
     const ENDS: [i32; 7] = [i32::MIN, -FARTHEST - 1, -FARTHEST, 0, FARTHEST, FARTHEST + 1, i32::MAX];
-    let many = [1, 0, 0, 0, 1].repeat(65);
-    let calls: [(&[i32], i32, usize, Option<(u32, u64)>); 12] = [
+    let many = [1, 0, 0, 0, 0].repeat(65);
+    let apart = [1, 0, 0, 0, 1].repeat(2);
+    let calls: [(&[i32], i32, usize, Option<(u32, u64)>); 13] = [
         (&CURVE_A, 1, 18, Some((1, 0))),
         (&[], 44, 18, Some((6, 0))),
         (&many, 44, 18, Some((5, 320))),
         (&[4], 44, 18, Some((2, 0))),
         (&CURVE_A[..8], 44, 18, Some((3, 8))),
         (&[1, 0, 0, 1_048_577, 0], 44, 18, Some((4, 3))),
+        (&apart, 44, 18, Some((17, 5))),
         (&STEEP, 2, 18, Some((7, 256))),
         (&STEEP, 2, 0, Some((7, 256))),
         (&CURVE_A, 43, 0, Some((8, 2))),
