@@ -75,7 +75,7 @@ enum contour_band_refusal {
     CONTOUR_BAND_CUT_SHORT = 3,        /* the outline ends inside a curve; the outline's length */
     CONTOUR_BAND_COORDINATE = 4,       /* a coordinate is outside its range; the index of the curve's first such */
     CONTOUR_BAND_GAP = 17,             /* a curve does not begin where the one before it ends; the index of its degree */
-    CONTOUR_BAND_TOO_WIDE = 7,         /* a node at depth 8 is wider than the tolerance; 512 * curve + node, for the first */
+    CONTOUR_BAND_TOO_WIDE = 7,         /* a box at depth 8 has a longer diagonal than the tolerance; 512 * curve + node, for the first */
     CONTOUR_BAND_TOO_FEW_RECORDS = 8,  /* records_length is less than 18 * leaves; the number of leaves */
     CONTOUR_BAND_LEAVES_LENGTH = 9,    /* leaves_length is 0 or no multiple of 18; leaves_length */
     CONTOUR_BAND_LEAVES_NUMBER = 10,   /* a number of the leaves is bad, see contour_judge; the index of the first such */
@@ -97,7 +97,7 @@ struct contour_band_answer {
  *
  * outline: for each curve its degree d, which is 1, 2 or 3, then x and y of its d + 1 control points, in stage units.
  *     Curves are numbered from 0. Each begins where the one before it ends; the outline may stay open at its ends.
- * tolerance: the greatest width of a box in x and in y, in sixteenths of a stage unit.
+ * tolerance: the greatest diagonal of a box, in sixteenths of a stage unit.
  * records: where the leaves are written. A record is 18 numbers: the curve, the node (1 to 511), then for each of the
  *     break points 0, 1, 2, 3 its x low, x high, y low, y high, in sixteenths of a stage unit. Records stand by curve, then
  *     by parameter. 18 * 256 numbers for each curve are always enough.

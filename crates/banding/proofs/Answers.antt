@@ -9,8 +9,7 @@ use native.Mathlib.Omega.{arith}
 use borrow.Author.Tests.{lt-ltb, le-ltb}
 use lib.ListN.{length, length-append, drop}
 use lib.Seq.{sets, sets-eq}
-use lib.IntN.{ℤ, pos}
-use lib.Signed.{_≤ℤ_}
+use lib.IntN.{ℤ}
 use Rattle.refusals.specs.declared.Refusal.{Refusal}
 use Rattle.refusals.specs.declared.Refusal.the-variants.{Tolerance, TooFewRecords}
 use Rattle.bezier.specs.declared.Curve.{Curve}
@@ -95,10 +94,10 @@ module _ {ns : List ℤ} {n : ℕ} (r : Readable ns n) where
   pub read-count : length (curvesOf (outlineFrom n ns 0)) ≡ n
   read-count = ap (λ o. length (curvesOf o)) (r .is) ∙ r .count
 
-  pub fillable : {T : ℤ} {m room : ℕ} → T ≤ℤ pos (2 ^ 20) → Leaves m ≡ countedOf T (curvesOf (outlineFrom n ns 0)) → 18 * m ≤ room → Fillable T ns n room
-  fillable {T} s e h =
+  pub fillable : (T : ℤ) {m room : ℕ} → Leaves m ≡ countedOf T (curvesOf (outlineFrom n ns 0)) → 18 * m ≤ room → Fillable T ns n room
+  fillable T e h =
       let w = leaves-counted T (r .all) (e ∙ ap (λ o. countedOf T (curvesOf o)) (r .is)) in
-      record { readable = r; small = s; passing = w .0; enough = omega (arith, h, w .1) }
+      record { readable = r; passing = w .0; enough = omega (arith, h, w .1) }
 
   pub report-done : (T : ℤ) {m room : ℕ} → Leaves m ≡ countedOf T (curvesOf (outlineFrom n ns 0)) → 18 * m ≤ room
       → Done n m (2 * m - n) ≡ bandCurves T (curvesOf (outlineFrom n ns 0)) room

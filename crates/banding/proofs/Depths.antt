@@ -1,4 +1,5 @@
--- The depth claim (demand 3): with largest second difference M, no end of the walk is deeper than j where 178 × M ≤ 125 × (T − 2) × 4^j. By the width law and
+-- The depth claim (demand 3): with largest second difference M, no end of the walk is deeper than j where
+-- 2 × (178 × M + 250 × 4^j)² ≤ (125 × T × 4^j)². By the width law and
 -- the quarter law every node at depth j meets T, so the walk halves none of them; and where j is in the walk's reach, nothing is too wide.
 use mathlib.Core.Path.{_≡_}
 use mathlib.Core.Bool.{Bool, true}

@@ -30,7 +30,6 @@ use Rattle.tree.proofs.Covering.{some-end-covers, ends-end-to-end, neighbours-m
 use Rattle.passes.proofs.Counting.{nodes-of-curves}
 use Rattle.banding.proofs.Depths.{end-depth, none-too-wide}
 use Rattle.tree.proofs.Failing.{none-passing}
-use Rattle.passes.proofs.Wide.{none-wide}
 use Rattle.banding.proofs.Sound.{some-leaves, records-sound}
 use Rattle.banding.proofs.Faults.{Early, banded-curves, faultless-or}
 use Rattle.banding.proofs.Answers.{written-refused}
@@ -88,7 +87,7 @@ module _ (most : ℕ) (T : ℤ) (ns old : List ℤ) where
     records = allRecords T 0 cs
 
     sound : SoundList most b records
-    sound = subst (λ n. SoundList most n records) (r .leaves) (records-sound most T ns cs (f .outline) (f .tolerance) (none-wide T 0 cs .1 (r .meet)))
+    sound = subst (λ n. SoundList most n records) (r .leaves) (records-sound most T ns cs (f .outline))
 
     in-front : written most T ns old ≡ records ++ drop (length records) old
     unfolding written

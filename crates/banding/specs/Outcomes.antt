@@ -5,8 +5,9 @@ use mathlib.Core.Bool.{true}
 use mathlib.Core.List.{List}
 use Prim.Native.Nat.{ℕ, _*_, _^_, _≤_, _<_}
 use lib.ListN.{length}
-use lib.IntN.{ℤ, pos, _-ℤ_, _*ℤ_}
+use lib.IntN.{ℤ, pos, _+ℤ_, _*ℤ_}
 use lib.Signed.{_≤ℤ_}
+use Rattle.integers.specs.Squares.{squared}
 use Rattle.bezier.specs.declared.Curve.{Curve}
 use Rattle.bezier.specs.Differences.{largest}
 use Rattle.outline.specs.Checks.{toleranceFine, curves, outlined}
@@ -34,6 +35,8 @@ pub record Report (T : ℤ) (cs : List Curve) (room a b c : ℕ) : Type 0 where
   pub leaves : leavesOf T cs ≡ b
   pub nodes : nodesOf T cs ≡ c
 
--- ---- the premise of the depth claim: 178 × M ≤ 125 × (T − 2) × 4^j
+-- ---- the premise of the depth claim: 2 × (178 × M + 250 × 4^j)² ≤ (125 × T × 4^j)²
 abbrev pub Flat : ℤ → Curve → ℕ → Type 0
-Flat T c j = (pos 178 *ℤ pos (largest c)) ≤ℤ (pos 125 *ℤ (T -ℤ pos 2) *ℤ pos (4 ^ j))
+Flat T c j =
+    (pos 2 *ℤ squared (pos 178 *ℤ pos (largest c) +ℤ pos 250 *ℤ pos (4 ^ j)))
+    ≤ℤ squared (pos 125 *ℤ T *ℤ pos (4 ^ j))

@@ -8,3 +8,4 @@ pub mod Spans
 pub mod Parameters
 pub mod Quarter
 pub mod Onward
+pub mod Points

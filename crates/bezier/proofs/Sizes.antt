@@ -3,8 +3,11 @@ use mathlib.Core.Path.{_≡_, _∙_, ap}
 use mathlib.Core.List.{List}
 use Prim.Native.Nat.{ℕ, zero, suc, _*_, _^_, _≤_, _<_}
 use native.Mathlib.Nat.{le-refl, le-trans, le-of-eq, mul-le-mul, mul-comm, mul-left-comm, mul-suc}
+use native.Mathlib.Omega.{arith}
 use lib.Pow.{pow-add, pow-mono}
-use lib.IntN.{ℤ}
+use lib.IntN.{ℤ, pos, negℤ, natAbs, _-ℤ_, _*ℤ_}
+use Rattle.integers.specs.Entry.{entry}
+use Rattle.integers.proofs.Size.{abs-neg, abs-add, abs-mul}
 use Rattle.bezier.specs.declared.Curve.{Curve}
 use Rattle.halves.specs.Halves.{left, right, four}
 use Rattle.bezier.specs.Halves.{leftHalf, rightHalf}
@@ -12,11 +15,29 @@ use Rattle.bezier.specs.Nodes.{depth, halfOf, nodeCurve}
 use Rattle.halves.specs.Sizes.{Each}
 use Rattle.halves.proofs.Sizes.{each-four, each-left, each-right}
 use Rattle.bezier.specs.Bounds.{Sized, Halvable}
+use Rattle.bezier.specs.Differences.{difference}
 use Rattle.bezier.proofs.Nodes.{node-induction}
 use Rattle.bezier.proofs.Numbers.{depth-one, depth-half, depth-under, node-one, node-half}
 
 pub each-wider : {B C : ℕ} {cs : List ℤ} → B ≤ C → Each B cs → Each C cs
 each-wider l h = record { under = λ k. le-trans (h .under k) l }
+
+-- a second difference is at most four times as large
+pub difference-under : {B : ℕ} {cs : List ℤ} → Each B cs → (k : ℕ) → natAbs (difference cs k) ≤ 4 * B
+difference-under {B} {cs} h k =
+    let a = entry cs k in
+    let b = entry cs (suc k) in
+    let e = entry cs (suc (suc k)) in
+    omega (
+      arith,
+      h .under k,
+      h .under (suc k),
+      h .under (suc (suc k)),
+      abs-add (a -ℤ pos 2 *ℤ b) e,
+      abs-add a (negℤ (pos 2 *ℤ b)),
+      abs-neg (pos 2 *ℤ b),
+      abs-mul (pos 2) b,
+    )
 
 -- ---- curves
 -- what depth k allows a coordinate of degree d, and 2^d times that at the next depth

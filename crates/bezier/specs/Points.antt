@@ -3,8 +3,9 @@
 use mathlib.Core.Path.{_≡_}
 use mathlib.Core.List.{List}
 use Prim.Native.Nat.{ℕ, _+_}
-use lib.IntN.{ℤ, pos, _-ℤ_, _*ℤ_, pow}
+use lib.IntN.{ℤ, pos, negℤ, _+ℤ_, _-ℤ_, _*ℤ_, pow}
 use lib.Signed.{_≤ℤ_}
+use Rattle.integers.specs.Squares.{squared}
 use Rattle.bernstein.specs.Value.{value}
 use Rattle.bezier.specs.declared.Curve.{Curve}
 
@@ -21,12 +22,17 @@ pub record Equals (c : Curve) (p r : ℕ) (x y : ℤ) : Type 0 where
   pub in-x : scaled (c .degree) p r x ≡ sixteenths (c .degree) p r (c .x)
   pub in-y : scaled (c .degree) p r y ≡ sixteenths (c .degree) p r (c .y)
 
--- z differs from the coordinate at p / (p + r) by T at most
-pub record Near (T : ℤ) (d p r : ℕ) (cs : List ℤ) (z : ℤ) : Type 0 where
-  pub above : (scaled d p r z -ℤ sixteenths d p r cs) ≤ℤ scaled d p r T
-  pub below : (sixteenths d p r cs -ℤ scaled d p r z) ≤ℤ scaled d p r T
+-- how far z is from the coordinate at p / (p + r), times (p + r)^d
+abbrev pub offset : ℕ → (p r : ℕ) → List ℤ → ℤ → ℤ
+offset d p r cs z = scaled d p r z -ℤ sixteenths d p r cs
 
--- the curve is within T of the point (x, y) at p / (p + r), in both coordinates alike
+-- the curve is within T of the point (x, y) at p / (p + r): the squared distance is at most T squared, both sides
+-- times (p + r)^(2d)
 pub record Within (T : ℤ) (c : Curve) (p r : ℕ) (x y : ℤ) : Type 0 where
-  pub in-x : Near T (c .degree) p r (c .x) x
-  pub in-y : Near T (c .degree) p r (c .y) y
+  pub distance : (squared (offset (c .degree) p r (c .x) x) +ℤ squared (offset (c .degree) p r (c .y) y))
+      ≤ℤ squared (scaled (c .degree) p r T)
+
+-- z differs from the coordinate at p / (p + r) by T at most; within T, both coordinates do (`within-near`)
+pub record Near (T : ℤ) (d p r : ℕ) (cs : List ℤ) (z : ℤ) : Type 0 where
+  pub above : offset d p r cs z ≤ℤ scaled d p r T
+  pub below : negℤ (offset d p r cs z) ≤ℤ scaled d p r T

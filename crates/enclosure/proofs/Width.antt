@@ -3,7 +3,7 @@ use mathlib.Core.Path.{_≡_, refl, _∙_, ap}
 use mathlib.Core.Bool.{Bool, cond, _&&_}
 use mathlib.Core.List.{List, [], _∷_}
 use Prim.Native.Nat.{ℕ, suc, _+_, _*_, _-_, _^_, _≤_, _<_, zero-le, suc-le-suc}
-use native.Mathlib.Nat.{one-le-pow, zero-lt-suc}
+use native.Mathlib.Nat.{one-le-pow, zero-lt-suc, one-mul}
 use native.Mathlib.Omega.{arith}
 use lib.Dec.{T}
 use lib.ListN.{length}
@@ -12,7 +12,7 @@ use lib.Signed.{nonNeg, ltZ, leZ, _≤ℤ_, _<ℤ_, ltZ-yes, leZ-yes}
 use Rattle.integers.specs.Entry.{entry}
 use Rattle.integers.specs.Rounding.{floor, ceiling}
 use Rattle.integers.proofs.Ring.{ring, sides}
-use Rattle.integers.proofs.Order.{times-positive, balance, NonNeg, natural, gap, gap<, nonneg-by, nonneg-cancel, le-of-gap, le-by, pos-le, pos-lt, _+₀_, _×₀_}
+use Rattle.integers.proofs.Order.{times-positive, balance, NonNeg, natural, gap, gap<, nonneg-by, nonneg-cancel, le-of-gap, le-by, pos-le, pos-lt, *ℤ-cancel, _+₀_, _×₀_}
 use Rattle.integers.proofs.Ranges.{no-lt}
 use Rattle.integers.proofs.Rounding.{floor-is, ceiling-is}
 use Rattle.integers.proofs.Table.{and-left, and-right, below}
@@ -53,11 +53,11 @@ sums-apart z W i cs (ρ ∷ ρs) k t small =
     first : NonNeg (entry (ρ .high) i -ℤ entry (ρ .low) i)
     first = record { holds = and-left (nonNeg (entry (ρ .high) i -ℤ entry (ρ .low) i)) (ordered ρs i) t }
 
--- ---- the law, for rows at most G apart: z is 4^depth and M the largest second difference of the undivided curve
-module _ (m G d : ℕ) (ρs : List Row) (some : 0 < m) (t : T (apart m G ρs)) (D z M : ℕ) (hD : 0 < D) (hz : 0 < z) (tolerance : ℤ) (cs : List ℤ)
-    (small : (k : ℕ) → k < length ρs → z * natAbs (difference cs k) ≤ D * M)
-    (premise : (pos 16 *ℤ pos G *ℤ pos M) ≤ℤ (pos 10000 *ℤ (tolerance -ℤ pos 2) *ℤ pos z)) where
-  pub width-within : (i : ℕ) → i ≤ m → (high m ρs (pos D) d cs i -ℤ low m ρs (pos D) d cs i) ≤ℤ tolerance
+-- ---- the law, for rows at most G apart: z is 4^depth and M the largest second difference of the undivided curve. Rounding adds less than 2.
+module _ (m G d : ℕ) (ρs : List Row) (some : 0 < m) (t : T (apart m G ρs)) (D z M : ℕ) (hD : 0 < D) (cs : List ℤ)
+    (small : (k : ℕ) → k < length ρs → z * natAbs (difference cs k) ≤ D * M) where
+  pub width-within : (i : ℕ) → i ≤ m
+      → (pos 10000 *ℤ pos z *ℤ (high m ρs (pos D) d cs i -ℤ low m ρs (pos D) d cs i)) ≤ℤ (pos 16 *ℤ pos G *ℤ pos M +ℤ pos 20000 *ℤ pos z)
   unfolding high low
   width-within i hi =
       let Q = pos 10000 *ℤ pos m *ℤ pos D in
@@ -69,20 +69,32 @@ module _ (m G d : ℕ) (ρs : List Row) (some : 0 < m) (t : T (apart m G ρs)) (
       let N′ = pos 16 *ℤ (x +ℤ pos m *ℤ S′) in
       let g = gapSum ρs i in
       let passed = below (suc m) (λ j. ordered ρs j && leZ (gapSum ρs j) (pos G)) t i (suc-le-suc hi) in
-      le-of-gap (nonneg-cancel (pos-lt hD) (nonneg-cancel (pos-lt hz) (nonneg-cancel (pos-lt some) (nonneg-cancel {k = pos 10000} (ltZ-yes tt)
-      (nonneg-by (pos m ∷ pos D ∷ pos z ∷ pos M ∷ pos G ∷ tolerance ∷ x ∷ S ∷ S′ ∷ g ∷ ceiling N Q ∷ floor N′ Q ∷ [])
-      (natural m ×₀ natural D ×₀ gap premise
-      +₀ natural 16 ×₀ natural m ×₀ natural M ×₀ natural D ×₀ gap {a = g} {b = pos G} (leZ-yes (and-right (ordered ρs i) (leZ g (pos G)) passed))
+      le-of-gap (nonneg-cancel (pos-lt hD) (nonneg-cancel (pos-lt some)
+      (nonneg-by (pos m ∷ pos D ∷ pos z ∷ pos M ∷ pos G ∷ x ∷ S ∷ S′ ∷ g ∷ ceiling N Q ∷ floor N′ Q ∷ [])
+      (natural 16 ×₀ natural m ×₀ natural M ×₀ natural D ×₀ gap {a = g} {b = pos G} (leZ-yes (and-right (ordered ρs i) (leZ g (pos G)) passed))
       +₀ natural 16 ×₀ natural m ×₀ sums-apart z (D * M) i cs ρs 0 (and-left (ordered ρs i) (leZ g (pos G)) passed) (λ j l h. small j (omega arith))
       +₀ natural z ×₀ (gap< (ceiling-is N Q hQ .below) +₀ gap< (floor-is N′ Q hQ .above) +₀ natural 2))
-      (search sides depth 40 fits 9999) refl)))))
+      (search sides depth 40 fits 9999) refl)))
 
--- ---- today's rows
-pub width : (d depth M : ℕ) (tolerance : ℤ) (cs : List ℤ) → 1 ≤ d → d ≤ 3
-    → ((k : ℕ) → k < d - 1 → 4 ^ depth * natAbs (difference cs k) ≤ 2 ^ (d * depth) * M)
-    → (pos 178 *ℤ pos M) ≤ℤ (pos 125 *ℤ (tolerance -ℤ pos 2) *ℤ pos (4 ^ depth))
-    → (i : ℕ) → i ≤ pieces → (highOf d depth cs i -ℤ lowOf d depth cs i) ≤ℤ tolerance
-width d depth M tolerance cs least most small premise = width-within pieces 890 d (thirds d) (omega arith) (table-apart d least most)
-    (2 ^ (d * depth)) (4 ^ depth) M (one-le-pow (d * depth) 2 (zero-lt-suc 1)) (one-le-pow depth 4 (zero-lt-suc 3)) tolerance cs
-    (λ k h. small k (omega (arith, table-count d least most)))
-    (le-by (pos M ∷ tolerance ∷ pos (4 ^ depth) ∷ []) (natural 80 ×₀ gap premise) (search sides depth 20) refl)
+-- ---- today's rows, at a depth and at any node
+module _ (d depth M : ℕ) (cs : List ℤ) (least : 1 ≤ d) (most : d ≤ 3) where
+  abbrev widthAt : ℕ → ℤ
+  widthAt i = highOf d depth cs i -ℤ lowOf d depth cs i
+
+  within : (z : ℕ) → ((k : ℕ) → k < d - 1 → z * natAbs (difference cs k) ≤ 2 ^ (d * depth) * M)
+      → (i : ℕ) → i ≤ pieces → (pos 125 *ℤ pos z *ℤ widthAt i) ≤ℤ (pos 178 *ℤ pos M +ℤ pos 250 *ℤ pos z)
+  within z small i hi = *ℤ-cancel {k = pos 80} (ltZ-yes tt) (le-by (pos M ∷ pos z ∷ highOf d depth cs i ∷ lowOf d depth cs i ∷ [])
+      (gap (width-within pieces 890 d (thirds d) (omega arith) (table-apart d least most)
+      (2 ^ (d * depth)) z M (one-le-pow (d * depth) 2 (zero-lt-suc 1)) cs (λ k h. small k (omega (arith, table-count d least most))) i hi))
+      (search sides depth 20) refl)
+
+  pub width : ((k : ℕ) → k < d - 1 → 4 ^ depth * natAbs (difference cs k) ≤ 2 ^ (d * depth) * M)
+      → (i : ℕ) → i ≤ pieces
+      → (pos 125 *ℤ pos (4 ^ depth) *ℤ (highOf d depth cs i -ℤ lowOf d depth cs i)) ≤ℤ (pos 178 *ℤ pos M +ℤ pos 250 *ℤ pos (4 ^ depth))
+  width = within (4 ^ depth)
+
+  -- from the differences of the node itself
+  pub width-most : ((k : ℕ) → k < d - 1 → natAbs (difference cs k) ≤ 2 ^ (d * depth) * M)
+      → (i : ℕ) → i ≤ pieces → (pos 125 *ℤ (highOf d depth cs i -ℤ lowOf d depth cs i)) ≤ℤ (pos 178 *ℤ pos M +ℤ pos 250)
+  width-most small i hi = le-by (pos M ∷ highOf d depth cs i ∷ lowOf d depth cs i ∷ [])
+      (gap (within 1 (λ k h. rw one-mul (small k h)) i hi)) (search sides depth 20) refl

@@ -6,12 +6,13 @@ use Prim.Native.Nat.{ℕ, _+_, _*_, _≤_, _<_}
 use lib.Dec.{lit<}
 use lib.ListN.{length, take}
 use lib.IntN.{ℤ, pos, negℤ, _+ℤ_, pow, one}
-use lib.Signed.{_≤ℤ_}
+use lib.Signed.{_≤ℤ_, leZ-yes}
 use Rattle.integers.specs.Entry.{entry}
 use Rattle.integers.specs.First.{firstBad}
 use Rattle.integers.proofs.Clash.{clash}
 use Rattle.integers.proofs.Ring.{sides}
-use Rattle.integers.proofs.Order.{gap, natural, le-by, pos-lt, pow-positive, *ℤ-cancel, _+₀_, _×₀_}
+use Rattle.integers.proofs.Between.{between-low}
+use Rattle.integers.proofs.Order.{NonNeg, gap, natural, nonneg-by, le-by, pos-lt, pow-positive, *ℤ-cancel, _+₀_, _×₀_}
 use Rattle.refusals.specs.declared.Refusal.{Refusal}
 use Rattle.bernstein.specs.Value.{choose, sum, value}
 use Rattle.halves.specs.Sizes.{Each}
@@ -19,6 +20,7 @@ use Rattle.bezier.specs.declared.Curve.{Curve}
 use Rattle.bezier.specs.Nodes.{depth}
 use Rattle.bezier.specs.Points.{Equals, Near}
 use Rattle.bezier.specs.Differences.{largestOf, bend, largest}
+use Rattle.bezier.proofs.Points.{within-near}
 use Rattle.bezier.proofs.Values.{value-high, value-low}
 use Rattle.boxes.specs.Records.{recordLength}
 use Rattle.outline_curves.specs.Curves.{curveAt}
@@ -28,7 +30,7 @@ use Rattle.banding.specs.declared.Banded.{Banded}
 use Rattle.banding.specs.declared.Banded.the-variants.{Done, Refused as NotBanded}
 use Rattle.banding.specs.Banding.{banded, written}
 use Rattle.banding.specs.Outcomes.{Flat}
-use Rattle.banding.proofs.Theorems.{refused-unaltered as banding-unaltered}
+use Rattle.banding.proofs.Theorems.{done-exactly, refused-unaltered as banding-unaltered}
 use Rattle.judging.specs.declared.Judgement.{Judgement}
 use Rattle.judging.specs.Judging.{pointFault, Verdict, Judged as JudgedSo}
 use Rattle.engine.specs.declared.Outcome.the-variants.{Refused, Judged}
@@ -90,12 +92,13 @@ near-in-reach T d p r cs each nonzero z near =
       *ℤ-cancel positive (le-by (w ∷ v ∷ z ∷ T ∷ []) (gap (near .above) +₀ natural 16 ×₀ gap high) (search sides depth 20) refl),
     )
 
-pub somewhere-in-reach : (most : ℕ) (T : ℤ) (ns : List ℤ) (x y : ℤ) → Somewhere most T ns x y → Reach T x × Reach T y
-somewhere-in-reach most T ns x y s =
+pub somewhere-in-reach : (most : ℕ) (T : ℤ) (ns : List ℤ) (x y : ℤ) → NonNeg T → Somewhere most T ns x y → Reach T x × Reach T y
+somewhere-in-reach most T ns x y nonneg s =
     let c = s .curve in
-    let small = curve-small most ns (s .of) in (
-      near-in-reach T (c .degree) (s .p) (s .r) (c .x) (small .0) (s .some) x (s .near .in-x),
-      near-in-reach T (c .degree) (s .p) (s .r) (c .y) (small .1) (s .some) y (s .near .in-y),
+    let small = curve-small most ns (s .of) in
+    let near = within-near nonneg (s .near) in (
+      near-in-reach T (c .degree) (s .p) (s .r) (c .x) (small .0) (s .some) x (near .0),
+      near-in-reach T (c .degree) (s .p) (s .r) (c .y) (small .1) (s .some) y (near .1),
     )
 
 -- ---- an outline that is banded, and whatever judging answers to its leaves
@@ -109,7 +112,9 @@ module _ (most : ℕ) (T : ℤ) (ns old : List ℤ) (a b c : ℕ) (done : banded
 
     -- a point beyond the reach is never judged on
     pub on-in-reach : IsOn answer → Reach T x × Reach T y
-    on-in-reach on = somewhere-in-reach most T ns x y (claim .every-on-near on)
+    on-in-reach on =
+        let least = between-low (pos 2) (pos 1048576) T (done-exactly most T ns (length old) a b c .0 done .1 .tolerance) in
+        somewhere-in-reach most T ns x y (nonneg-by (T ∷ []) (gap least +₀ natural 2) (search sides depth 20) refl) (claim .every-on-near on)
 
     -- the node that stands in a leaf's record has depth at most j
     pub leaf-depth : (i : ℕ) → recordLength * i < length leaves → (k : ℕ) (c : Curve) → CurveOf most ns k c → entry leaves (recordLength * i) ≡ pos k
@@ -138,10 +143,14 @@ pub half-way-on : (T : ℤ) (old : List ℤ) (a b c : ℕ) → banded 64 T A (le
 half-way-on T old a b c done answer judged =
     claim 64 T A old a b c done (pos 240) (pos 360) answer judged .every-point-on 0 curveA of-a 1 1 (lit< tt) half-way
 
--- ---- the premise of the depth claim where both its sides are equal: y 0, 0, 125 has M = 125, and 178 × 125 = 125 × (180 − 2)
+-- ---- the premise of the depth claim: y 0, 0, 125 has M = 125, and 2 × (178 × 125 + 250)² = 1,012,500,000 lies between (125 × 254)² and (125 × 255)²
 abbrev bow : Curve
 bow = record { degree = 2; x = pos 0 ∷ pos 0 ∷ pos 0 ∷ pos 0 ∷ []; y = pos 0 ∷ pos 0 ∷ pos 125 ∷ pos 0 ∷ [] }
 
-pub flat-at-equality : Flat (pos 180) bow 0
+pub flat-from-255 : Flat (pos 255) bow 0
 unfolding largest bend largestOf
-flat-at-equality = le-by [] (natural 0) (search sides depth 20) refl
+flat-from-255 = leZ-yes tt
+
+pub not-flat-at-254 : Flat (pos 254) bow 0 → ⊥
+unfolding largest bend largestOf
+not-flat-at-254 f = f .le

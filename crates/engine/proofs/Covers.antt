@@ -1,5 +1,5 @@
--- The covers of a leaf: a point of the curve at a parameter of the leaf is held by one of them, and what one of them holds is near the curve. Both coordinates
--- take the same parameter, since the place of a parameter on a piece does not depend on the control values.
+-- The covers of a leaf: a point of the curve at a parameter of the leaf is held by one of them, and what one of them holds is within the tolerance
+-- of the curve. Both coordinates take the same parameter, since the place of a parameter on a piece does not depend on the control values.
 use mathlib.Core.Path.{_≡_, sym, _∙_, ap, subst}
 use mathlib.Core.Bool.{true}
 use mathlib.Core.List.{List}
@@ -27,7 +27,7 @@ use Rattle.records.specs.Records.{boxNumbers, recordOf}
 use Rattle.records.proofs.Sound.{record-box}
 use Rattle.records.proofs.Standing.{Stands}
 use Rattle.held.specs.Covers.{Holds}
-use Rattle.mixtures.proofs.Mixtures.{upP, upR, down-sum, point-mixed, mixed-near}
+use Rattle.mixtures.proofs.Mixtures.{upP, upR, down-sum, point-mixed, mixed-within}
 
 -- one of the covers between these boxes holds the point
 pub record Held (box : ℕ → Box) (x y : ℤ) : Type 0 where
@@ -93,7 +93,4 @@ module _ (c : Curve) (s : Sized 0 c) (n : ℕ) (hn : 0 < n) where
       → Within T c (upP n i (h .a) (h .b)) (upR n i (h .a) (h .b)) x y
   held-near T meet i hi x y h =
       let narrow = subst (Narrow T (depth n)) (node-curve c n hn) (meets-narrow T (depth n) (nodeCurve c n) meet) in
-      record {
-        in-x = mixed-near (c .degree) (s .least) (s .most) (c .x) n hn i (h .a) (h .b) hi T x (narrow .x i (omega arith)) (narrow .x (suc i) hi) (h .in-x);
-        in-y = mixed-near (c .degree) (s .least) (s .most) (c .y) n hn i (h .a) (h .b) hi T y (narrow .y i (omega arith)) (narrow .y (suc i) hi) (h .in-y);
-      }
+      mixed-within c (s .least) (s .most) n hn i (h .a) (h .b) hi T x y (narrow .each i (omega arith)) (narrow .each (suc i) hi) (h .in-x) (h .in-y)

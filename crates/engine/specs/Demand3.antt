@@ -28,7 +28,8 @@ pub record IsOn (answer : Judgement) : Type 0 where
   pub cover : ℕ
   pub is : answer ≡ On leaf cover
 
--- one curve of the outline and one rational parameter p / (p + r) at which that curve is within T of the point, in x and in y alike
+-- one curve of the outline and one rational parameter p / (p + r) at which that curve is within T of the point: the
+-- square of their distance is at most T squared
 pub record Somewhere (most : ℕ) (T : ℤ) (ns : List ℤ) (x y : ℤ) : Type 0 where
   pub number : ℕ
   pub curve : Curve
@@ -50,6 +51,7 @@ pub record Demand3 (most : ℕ) (T : ℤ) (ns rs : List ℤ) (x y : ℤ) (answer
   pub every-point-on : (k : ℕ) (c : Curve) → CurveOf most ns k c → (p r : ℕ) → 0 < p + r → Equals c p r x y → IsOn answer
   -- for every point judged on there are one curve and one rational parameter at which that curve is within T
   pub every-on-near : IsOn answer → Somewhere most T ns x y
-  -- every leaf of a curve with largest second difference M has depth at most j, for every j with 178 × M ≤ 125 × (T − 2) × 4^j
+  -- every leaf of a curve with largest second difference M has depth at most j, for every j with
+  -- 2 × (178 × M + 250 × 4^j)² ≤ (125 × T × 4^j)²
   pub every-leaf-shallow : (i : ℕ) → recordLength * i < length rs → (k : ℕ) (c : Curve) → CurveOf most ns k c → entry rs (recordLength * i) ≡ pos k
       → (j : ℕ) → Flat T c j → Shallow rs i j

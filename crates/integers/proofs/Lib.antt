@@ -3,6 +3,7 @@ pub mod RingLaws
 pub mod Polynomial
 pub mod Ring
 pub mod Order
+pub mod Squares
 pub mod Ranges
 pub mod Linear
 pub mod Rounding

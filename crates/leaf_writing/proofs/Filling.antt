@@ -1,14 +1,13 @@
 -- The second pass over an outline: what the list holds after each curve.
 use mathlib.Core.Path.{_≡_, refl, sym, _∙_, ap, ap₂, subst}
 use mathlib.Core.List.{List, [], _∷_, _++_, append-assoc, append-nil}
-use Prim.Native.Nat.{ℕ, suc, _+_, _*_, _^_, _≤_, _<_}
+use Prim.Native.Nat.{ℕ, suc, _+_, _*_, _≤_, _<_}
 use native.Mathlib.Nat.{zero-add}
 use native.Mathlib.Numerals.{add-one}
 use native.Mathlib.Omega.{arith}
 use lib.ListN.{length, length-append}
 use lib.Seq.{sets, length-sets}
-use lib.IntN.{ℤ, pos}
-use lib.Signed.{_≤ℤ_}
+use lib.IntN.{ℤ}
 use Rattle.integers.proofs.Stores.{sets-append}
 use Rattle.bezier.specs.declared.Curve.{Curve}
 use Rattle.outline_curves.specs.Curves.{nextAt, curveAt}
@@ -75,8 +74,11 @@ module _ {T : ℤ} {ns : List ℤ} {n : ℕ} {l : List ℤ} where
       room-here = let x = rest-next (f .rest) (f .ahead) h in
           omega (arith, f .room, ap (leavesOf T) (x .is) ∙ more-leaves T (curveAt ns at) (x .more))
 
-      pub filled-ready : T ≤ℤ pos (2 ^ 20) → Ready T (curveAt ns at)
-      filled-ready s = record { sized = rest-next (f .rest) (f .ahead) h .sized; small = s; passing = passing-none (nodeMeets T (curveAt ns at)) (endsOf T (curveAt ns at)) (meet-head T passing-here) }
+      pub filled-ready : Ready T (curveAt ns at)
+      filled-ready = record {
+        sized = rest-next (f .rest) (f .ahead) h .sized;
+        passing = passing-none (nodeMeets T (curveAt ns at)) (endsOf T (curveAt ns at)) (meet-head T passing-here);
+      }
 
       pub filled-room : place + 18 * length (endsOf T (curveAt ns at)) ≤ length l′
       filled-room = omega (arith, room-here, filled-length)

@@ -1,4 +1,4 @@
--- A walk that writes a record at each leaf: what the list holds at each step, from place `at` on, and that a leaf's boxes fit 32 bits.
+-- A walk that writes a record at each leaf: what the list holds at each step, from place `at` on, and that a node's boxes fit 32 bits.
 use mathlib.Core.Path.{_≡_, refl, sym, _∙_, ap, ap₂}
 use mathlib.Core.Bool.{true, false}
 use mathlib.Core.List.{List, [], _∷_, _++_}
@@ -14,7 +14,7 @@ use Rattle.bezier.specs.declared.Curve.{Curve}
 use Rattle.bezier.specs.Nodes.{depth, nodeCurve, after}
 use Rattle.bezier.proofs.Sizes.{node-sized}
 use Rattle.node_boxes.specs.Boxes.{Sides, boxAt}
-use Rattle.node_test.proofs.Leaf.{leaf-box}
+use Rattle.node_test.proofs.Sound.{node-box}
 use Rattle.walk.specs.Walked.{deepest, nodeMeets, endsOf}
 use Rattle.records.specs.Records.{boxesTo, nodeNumbers, recordOf, recordsOf}
 use Rattle.records.specs.Writing.{Writable}
@@ -23,16 +23,16 @@ use Rattle.passes.specs.Writing.{Ready}
 use Rattle.tree.proofs.Failing.{none-passing}
 use Rattle.tree.proofs.Walking.{Walking, walking-start, walking-half, walking-halvable, walking-leaf, walking-done, fewer-passed}
 
--- ---- a leaf's boxes fit
+-- ---- a node's boxes fit
 module _ {T : ℤ} {c : Curve} (r : Ready T c) {passed : List ℕ} {n : ℕ} (w : Walking (nodeMeets T c) deepest passed n) where
-  pub writable-leaf : nodeMeets T c n ≡ true → Writable (depth n) (nodeCurve c n)
-  writable-leaf e = record { sized = node-sized (r .sized) n (w .node); shallow = w .within; boxes = fits }
+  pub writable-node : Writable (depth n) (nodeCurve c n)
+  writable-node = record { sized = node-sized (r .sized) n (w .node); shallow = w .within; boxes = fits }
     where
-      small : {m : ℕ} → m ≤ 2 ^ 24 + 2 ^ 20 → m ≤ 2 ^ 29
+      small : {m : ℕ} → m ≤ 2 ^ 24 + 2 ^ 23 → m ≤ 2 ^ 29
       small h = le-trans h (lit≤ tt)
 
       fits : (i : ℕ) → i < 4 → Sides (2 ^ 29) (boxAt (depth n) (nodeCurve c n) i)
-      fits i h = let b = leaf-box T (depth n) (nodeCurve c n) (node-sized (r .sized) n (w .node)) (r .small) e i (le-of-suc-le-suc h) in record {
+      fits i h = let b = node-box (depth n) (nodeCurve c n) (node-sized (r .sized) n (w .node)) i (le-of-suc-le-suc h) in record {
         x-low = small (b .x .low-size);
         x-high = small (b .x .high-size);
         y-low = small (b .y .low-size);

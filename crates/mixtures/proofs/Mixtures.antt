@@ -1,19 +1,22 @@
 -- One coordinate of a node against the mixtures of its lows and highs. A point of the curve at a parameter of the node lies in a mixture, by the enclosure;
 -- and what lies in a mixture is within the widths at the two break points of the curve at the parameter with the same weights.
-use mathlib.Core.Path.{_≡_, refl, sym, _∙_, ap, ap₂, subst₂}
+use mathlib.Core.Path.{_≡_, refl, sym, _∙_, ap, ap₂, subst, subst₂}
 use mathlib.Core.List.{List, [], _∷_}
 use Prim.Native.Nat.{ℕ, zero, suc, _+_, _*_, _-_, _^_, _≤_, _<_}
 use native.Mathlib.Nat.{one-le-pow, zero-lt-suc}
 use native.Mathlib.Omega.{arith}
 use lib.IntN.{ℤ, pos, negℤ, natAbs, _+ℤ_, _-ℤ_, _*ℤ_, pow, one}
 use lib.Signed.{_≤ℤ_, _<ℤ_}
+use Rattle.integers.specs.Squares.{squared}
+use Rattle.integers.proofs.Squares.{square-within}
 use Rattle.integers.proofs.RingLaws.{pow-last}
 use Rattle.integers.proofs.Ring.{ring, sides}
-use Rattle.integers.proofs.Order.{gap, natural, balance, le-by, pos-lt, pow-nonneg, pow-positive, times-positive, *ℤ-cancel, _+₀_, _×₀_}
+use Rattle.integers.proofs.Order.{gap, natural, square, balance, le-by, ≤ℤ-trans, +ℤ-mono, pos-lt, pow-nonneg, pow-positive, times-positive, *ℤ-cancel, _+₀_, _×₀_}
 use Rattle.bernstein.specs.Value.{value}
 use Rattle.halves.proofs.Values.{denominator}
+use Rattle.bezier.specs.declared.Curve.{Curve}
 use Rattle.bezier.specs.Nodes.{depth, start}
-use Rattle.bezier.specs.Points.{scaled, sixteenths, Near}
+use Rattle.bezier.specs.Points.{scaled, sixteenths, offset, Within}
 use Rattle.bezier.proofs.Coordinates.{nodeValues}
 use Rattle.bezier.proofs.Spans.{remaining}
 use Rattle.bezier.proofs.Parameters.{values-up, up-sum, pAt, rAt, same-sum, values-down}
@@ -48,10 +51,10 @@ upR n i a b = remaining n * (atP i a b + atR i a b) + atR i a b
 pub up-some : (n i a b : ℕ) → i < pieces → 0 < a + b → 0 < upP n i a b + upR n i a b
 up-some n i a b hi some = let e = place-at pieces i a b hi .whole in omega (arith, e, some)
 
--- w · z is within w · T of 16 · v
-record Close (T w v z : ℤ) : Type 0 where
-  above : (w *ℤ z -ℤ pos 16 *ℤ v) ≤ℤ (w *ℤ T)
-  below : (pos 16 *ℤ v -ℤ w *ℤ z) ≤ℤ (w *ℤ T)
+-- w · z is within e of 16 · v
+record Close (e w v z : ℤ) : Type 0 where
+  above : (w *ℤ z -ℤ pos 16 *ℤ v) ≤ℤ e
+  below : negℤ e ≤ℤ (w *ℤ z -ℤ pos 16 *ℤ v)
 
 -- ---- any enclosed coordinate, over the denominator D
 module _ (m d D : ℕ) (ρs : List Row) (cs : List ℤ) (hd : 0 < d) (hD : 0 < D) (i a b p r : ℕ) where
@@ -93,20 +96,20 @@ module _ (m d D : ℕ) (ρs : List Row) (cs : List ℤ) (hd : 0 < d) (hD : 0 < D
             (search sides depth 40 fits 9999) refl);
       }
 
-  mixed-close : Place m i (m * a) (m * b) p r → Encloses m ρs (pos D) d cs i (m * a) (m * b) p r → (T z : ℤ) → (h₀ -ℤ l₀) ≤ℤ T → (h₁ -ℤ l₁) ≤ℤ T
-      → Mixed a b l₀ h₀ l₁ h₁ z → Close T (pos D *ℤ whole) here z
-  mixed-close w e T z narrow₀ narrow₁ mixed =
-      let ρ = pos D ∷ factor ∷ whole ∷ here ∷ pos m ∷ pos a ∷ pos b ∷ pos p ∷ pos r ∷ l₀ ∷ h₀ ∷ l₁ ∷ h₁ ∷ T ∷ z ∷ [] in
+  -- what a mixture holds is off by the mixture of the widths at most
+  mixed-close : Place m i (m * a) (m * b) p r → Encloses m ρs (pos D) d cs i (m * a) (m * b) p r → (z : ℤ) → Mixed a b l₀ h₀ l₁ h₁ z
+      → Close (pos D *ℤ factor *ℤ pos m *ℤ (pos a *ℤ (h₀ -ℤ l₀) +ℤ pos b *ℤ (h₁ -ℤ l₁))) (pos D *ℤ whole) here z
+  mixed-close w e z mixed =
+      let ρ = pos D ∷ factor ∷ whole ∷ here ∷ pos m ∷ pos a ∷ pos b ∷ pos p ∷ pos r ∷ l₀ ∷ h₀ ∷ l₁ ∷ h₁ ∷ z ∷ [] in
       let k = natural D ×₀ pow-nonneg (p + r) (d - 1) ×₀ natural m in
-      let narrow = natural a ×₀ gap narrow₀ +₀ natural b ×₀ gap narrow₁ in
       record {
         above = le-by ρ
-            (gap (e .below) +₀ k ×₀ (gap (mixed .high) +₀ narrow)
-            +₀ balance (pos D *ℤ (T -ℤ z)) last +₀ balance (negℤ (pos D *ℤ factor *ℤ (T -ℤ z))) (ap pos (w .whole)))
+            (gap (e .below) +₀ k ×₀ gap (mixed .high)
+            +₀ balance (negℤ (pos D *ℤ z)) last +₀ balance (pos D *ℤ factor *ℤ z) (ap pos (w .whole)))
             (search sides depth 40 fits 9999) refl;
         below = le-by ρ
-            (gap (e .above) +₀ k ×₀ (gap (mixed .low) +₀ narrow)
-            +₀ balance (pos D *ℤ (T +ℤ z)) last +₀ balance (negℤ (pos D *ℤ factor *ℤ (T +ℤ z))) (ap pos (w .whole)))
+            (gap (e .above) +₀ k ×₀ gap (mixed .low)
+            +₀ balance (pos D *ℤ z) last +₀ balance (negℤ (pos D *ℤ factor *ℤ z)) (ap pos (w .whole)))
             (search sides depth 40 fits 9999) refl;
       }
 
@@ -144,17 +147,76 @@ module _ (d : ℕ) (least : 1 ≤ d) (most : d ≤ 3) (cs : List ℤ) (n : ℕ) 
       down = ap₂ (λ x y. value x y d (nodeValues d cs n)) eP eR ∙ values-down d most cs n hn (pos p) (pos r)
           ∙ ap (λ x. x *ℤ value (pos p) (pos r) d cs) (denominator d (depth n))
 
-  -- P / (P + R) at node n is this parameter at node 1
-  pub mixed-near : (i a b : ℕ) → i < pieces → (T z : ℤ) → (highs i -ℤ lows i) ≤ℤ T → (highs (suc i) -ℤ lows (suc i)) ≤ℤ T
-      → Mixed a b (lows i) (highs i) (lows (suc i)) (highs (suc i)) z → Near T d (upP n i a b) (upR n i a b) cs z
-  mixed-near i a b hi T z narrow₀ narrow₁ mixed =
-      let P = atP i a b in
-      let R = atR i a b in
-      let s = subst₂ (λ w v. Close T w v z) (sym power) (sym (values-up d most cs n hn (pos P) (pos R)))
-      (mixed-close pieces d D (thirds d) (nodeValues d cs n) least some-D i a b P R (place-at pieces i a b hi)
-      (enclosure-between d least most (pos D) (pos-lt some-D) (nodeValues d cs n) i a b hi) T z narrow₀ narrow₁ mixed) in
-      record { above = s .above; below = s .below }
+  -- P / (P + R) at node n is this parameter at node 1: a point of a mixture is off by the mixture of the widths at most
+  module _ (i a b : ℕ) (hi : i < pieces) where
+    abbrev P : ℕ
+    P = atP i a b
+
+    abbrev R : ℕ
+    R = atR i a b
+
+    -- (p + r)^d at node 1 is this times a + b
+    abbrev unit : ℤ
+    unit = pos D *ℤ pow (pos (P + R)) (d - 1) *ℤ pos pieces
+
+    power : pow (pos (upP n i a b + upR n i a b)) d ≡ pos D *ℤ pow (pos (P + R)) d
+    power = ap (λ x. pow x d) (up-sum n hn (pos P) (pos R)) ∙ pow-times (pos (2 ^ depth n)) (pos (P + R)) d
+        ∙ ap (λ x. x *ℤ pow (pos (P + R)) d) (denominator d (depth n))
+
+    unit-power : pow (pos (upP n i a b + upR n i a b)) d ≡ unit *ℤ (pos a +ℤ pos b)
+    unit-power = power ∙ ap (λ x. pos D *ℤ x) (pow-last (pos (P + R)) d least)
+        ∙ ap (λ x. pos D *ℤ (pow (pos (P + R)) (d - 1) *ℤ x)) (ap pos (sym (place-at pieces i a b hi .whole)))
+        ∙ ring (pos D ∷ pow (pos (P + R)) (d - 1) ∷ pos a ∷ pos b ∷ []) (search sides depth 20) refl
+
+    mixed-off : (z : ℤ) → Mixed a b (lows i) (highs i) (lows (suc i)) (highs (suc i)) z → squared (offset d (upP n i a b) (upR n i a b) cs z)
+        ≤ℤ squared (unit *ℤ (pos a *ℤ (highs i -ℤ lows i) +ℤ pos b *ℤ (highs (suc i) -ℤ lows (suc i))))
+    mixed-off z mixed =
+        let e = unit *ℤ (pos a *ℤ (highs i -ℤ lows i) +ℤ pos b *ℤ (highs (suc i) -ℤ lows (suc i))) in
+        let s = subst₂ (λ w v. Close e w v z) (sym power) (sym (values-up d most cs n hn (pos P) (pos R)))
+        (mixed-close pieces d D (thirds d) (nodeValues d cs n) least some-D i a b P R (place-at pieces i a b hi)
+        (enclosure-between d least most (pos D) (pos-lt some-D) (nodeValues d cs n) i a b hi) z mixed) in
+        square-within (s .below) (s .above)
+
+-- ---- both coordinates: boxes with a diagonal within T have mixtures with one within T, since 2 × w₀ × w₁ ≤ w₀² + w₁²
+mixed-squares : (k : ℤ) (a b : ℕ) (T w₀ h₀ w₁ h₁ : ℤ) → (squared w₀ +ℤ squared h₀) ≤ℤ squared T → (squared w₁ +ℤ squared h₁) ≤ℤ squared T
+    → (squared (k *ℤ (pos a *ℤ w₀ +ℤ pos b *ℤ w₁)) +ℤ squared (k *ℤ (pos a *ℤ h₀ +ℤ pos b *ℤ h₁))) ≤ℤ squared (k *ℤ (pos a +ℤ pos b) *ℤ T)
+mixed-squares k a b T w₀ h₀ w₁ h₁ first second = le-by (k ∷ pos a ∷ pos b ∷ T ∷ w₀ ∷ h₀ ∷ w₁ ∷ h₁ ∷ [])
+    (square k ×₀ (natural a ×₀ natural a ×₀ gap first +₀ natural b ×₀ natural b ×₀ gap second
+    +₀ natural a ×₀ natural b ×₀ (gap first +₀ gap second +₀ square (w₀ -ℤ w₁) +₀ square (h₀ -ℤ h₁))))
+    (search sides depth 40 fits 9999) refl
+
+-- the width of a coordinate of node n at break point i
+abbrev pub widthAt : ℕ → List ℤ → ℕ → ℕ → ℤ
+widthAt d cs n i = highOf d (depth n) (nodeValues d cs n) i -ℤ lowOf d (depth n) (nodeValues d cs n) i
+
+module _ (c : Curve) (least : 1 ≤ c .degree) (most : c .degree ≤ 3) (n : ℕ) (hn : 0 < n) (i a b : ℕ) (hi : i < pieces) (T x y : ℤ) where
+  abbrev w : ℕ → ℤ
+  w = widthAt (c .degree) (c .x) n
+
+  abbrev h : ℕ → ℤ
+  h = widthAt (c .degree) (c .y) n
+
+  abbrev lowX : ℕ → ℤ
+  lowX = lowOf (c .degree) (depth n) (nodeValues (c .degree) (c .x) n)
+
+  abbrev highX : ℕ → ℤ
+  highX = highOf (c .degree) (depth n) (nodeValues (c .degree) (c .x) n)
+
+  abbrev lowY : ℕ → ℤ
+  lowY = lowOf (c .degree) (depth n) (nodeValues (c .degree) (c .y) n)
+
+  abbrev highY : ℕ → ℤ
+  highY = highOf (c .degree) (depth n) (nodeValues (c .degree) (c .y) n)
+
+  pub mixed-within : (squared (w i) +ℤ squared (h i)) ≤ℤ squared T → (squared (w (suc i)) +ℤ squared (h (suc i))) ≤ℤ squared T
+      → Mixed a b (lowX i) (highX i) (lowX (suc i)) (highX (suc i)) x → Mixed a b (lowY i) (highY i) (lowY (suc i)) (highY (suc i)) y
+      → Within T c (upP n i a b) (upR n i a b) x y
+  mixed-within first second in-x in-y = record {
+    distance = ≤ℤ-trans
+        (+ℤ-mono (mixed-off (c .degree) least most (c .x) n hn i a b hi x in-x) (mixed-off (c .degree) least most (c .y) n hn i a b hi y in-y))
+        (subst (λ z. (squared (k *ℤ (pos a *ℤ w i +ℤ pos b *ℤ w (suc i))) +ℤ squared (k *ℤ (pos a *ℤ h i +ℤ pos b *ℤ h (suc i)))) ≤ℤ squared (z *ℤ T))
+        (sym (unit-power (c .degree) least most (c .x) n hn i a b hi)) (mixed-squares k a b T (w i) (h i) (w (suc i)) (h (suc i)) first second));
+  }
     where
-      power : pow (pos (upP n i a b + upR n i a b)) d ≡ pos D *ℤ pow (pos (atP i a b + atR i a b)) d
-      power = ap (λ x. pow x d) (up-sum n hn (pos (atP i a b)) (pos (atR i a b))) ∙ pow-times (pos (2 ^ depth n)) (pos (atP i a b + atR i a b)) d
-          ∙ ap (λ x. x *ℤ pow (pos (atP i a b + atR i a b)) d) (denominator d (depth n))
+      k : ℤ
+      k = unit (c .degree) least most (c .x) n hn i a b hi

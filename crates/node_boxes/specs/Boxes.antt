@@ -1,9 +1,10 @@
--- The boxes of a node, and the test that it meets the tolerance (document 01, "Enclosure rows").
+-- The boxes of a node, and the test that it meets the tolerance (document 01, "Enclosure rows"; request 04).
 use mathlib.Core.Bool.{Bool, true, _&&_}
 use Prim.Native.Nat.{ℕ, zero, suc, _≤_}
-use lib.IntN.{ℤ, natAbs, _-ℤ_}
+use lib.IntN.{ℤ, natAbs, _+ℤ_, _-ℤ_}
 use lib.Signed.{leZ}
 use Rattle.integers.specs.Entry.{entry}
+use Rattle.integers.specs.Squares.{squared}
 use Rattle.bezier.specs.declared.Curve.{Curve}
 use Rattle.halves.specs.Sizes.{Each}
 use Rattle.halves.specs.Halves.{listed}
@@ -47,9 +48,9 @@ pub record Sides (B : ℕ) (b : Box) : Type 0 where
   pub y-low : natAbs (b .«y_low») ≤ B
   pub y-high : natAbs (b .«y_high») ≤ B
 
--- high − low is at most T in both coordinates
+-- width squared plus height squared is at most T squared: the diagonal is at most T
 abbrev pub narrow : ℤ → Box → Bool
-narrow T b = leZ (b .«x_high» -ℤ b .«x_low») T && leZ (b .«y_high» -ℤ b .«y_low») T
+narrow T b = leZ (squared (b .«x_high» -ℤ b .«x_low») +ℤ squared (b .«y_high» -ℤ b .«y_low»)) (squared T)
 
 -- the first n boxes are all narrow
 abbrev pub allNarrow : ℕ → ℤ → (ℕ → Box) → Bool

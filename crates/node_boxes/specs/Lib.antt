@@ -1,4 +1,2 @@
--- What a reader must believe of a node's boxes: the boxes, and the test that a node meets the tolerance. `Widths` is only for the contracts of
--- private functions.
+-- What a reader must believe of a node's boxes: the boxes, and the test that a node meets the tolerance.
 pub mod Boxes
-pub mod Widths

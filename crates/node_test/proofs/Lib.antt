@@ -1,4 +1,4 @@
--- Laws of the test of a node, and of the boxes of a node that meets it.
+-- Laws of the boxes of a node, of the test of a node, and of the spreads that decide it.
+pub mod Sound
 pub mod Narrow
-pub mod Leaf
 pub mod Apart

@@ -1,9 +1,6 @@
 // The band of an outline without faults: checks 7 and 8, and the records.
 ghost use mathlib.Core.Path.{_≡_};
-ghost use Prim.Native.Nat.{_≤_, _^_};
 ghost use lib.ListN.{length};
-ghost use lib.IntN.{pos};
-ghost use lib.Signed.{_≤ℤ_};
 ghost use Rattle.outline.specs.Checks.{outlineFrom};
 ghost use Rattle.records.specs.Records.{allRecords};
 ghost use Rattle.passes.specs.Leaves.{curvesOf};
@@ -17,7 +14,7 @@ use refusals::Refusal;
 
 // Checks 7 and 8, and the records, of an outline without faults that has this many curves.
 pub fn band_curves(ns: &[i32], t: i64, curves: usize, records: &mut [i32]) -> Banded
-    requires { ⌜ (Readable (now ns) curves) × (t ≤ℤ pos (2 ^ 20)) ⌝ }
+    requires { ⌜ Readable (now ns) curves ⌝ }
     ensures { λ r. ⌜ (r ≡ bandCurves t (curvesOf (outlineFrom curves (now (ns .entry)) 0)) (length (now (records .entry)))) × (now (records .exit) ≡ writtenBy r (allRecords t 0 (curvesOf (outlineFrom curves (now (ns .entry)) 0))) (now (records .entry))) ⌝ }
 {
     match count(ns, t, curves) {

@@ -2,9 +2,8 @@
 use mathlib.Core.Path.{_≡_}
 use mathlib.Core.List.{List}
 use mathlib.Core.Option.{none}
-use Prim.Native.Nat.{ℕ, _*_, _≤_, _^_}
-use lib.IntN.{ℤ, pos}
-use lib.Signed.{_≤ℤ_}
+use Prim.Native.Nat.{ℕ, _*_, _≤_}
+use lib.IntN.{ℤ}
 use Rattle.bezier.specs.declared.Curve.{Curve}
 use Rattle.bezier.specs.Bounds.{Sized}
 use Rattle.tree.specs.Tree.{firstFailing}
@@ -15,12 +14,10 @@ use Rattle.passes.specs.Counted.{Readable}
 -- every end of the walk of curve c is a leaf at T
 pub record Ready (T : ℤ) (c : Curve) : Type 0 where
   pub sized : Sized 0 c
-  pub small : T ≤ℤ pos (2 ^ 20)
   pub passing : firstFailing (nodeMeets T c) (endsOf T c) ≡ none
 
 -- every leaf of the n curves of an outline has its place in a list of `room` numbers
 pub record Fillable (T : ℤ) (ns : List ℤ) (n room : ℕ) : Type 0 where
   pub readable : Readable ns n
-  pub small : T ≤ℤ pos (2 ^ 20)
   pub passing : firstTooWide T 0 (readable .all) ≡ none
   pub enough : 18 * leavesOf T (readable .all) ≤ room

@@ -1,6 +1,5 @@
 -- The record of a leaf is sound, and so is a list of them: they pass checks 9 and 10.
 use mathlib.Core.Path.{_≡_, refl, sym, _∙_, ap, subst, subst₂}
-use mathlib.Core.Bool.{true}
 use mathlib.Core.Logic.{⊎-elim}
 use mathlib.Core.List.{List, [], _∷_, _++_, List·Memᴰ, List·Memᴰ·head, List·Memᴰ·tail}
 use Prim.Native.Nat.{ℕ, zero, suc, _+_, _-_, _*_, _/_, _%_, _^_, _≤_, _<_}
@@ -20,7 +19,7 @@ use Rattle.bezier.specs.Nodes.{depth, nodeCurve}
 use Rattle.bezier.proofs.Sizes.{node-sized}
 use Rattle.rows.specs.Rows.{pieces}
 use Rattle.node_boxes.specs.Boxes.{boxAt}
-use Rattle.node_test.proofs.Leaf.{Sound, leaf-box}
+use Rattle.node_test.proofs.Sound.{Sound, node-box}
 use Rattle.walk.specs.Walked.{deepest, nodeMeets, endsOf}
 use Rattle.records.specs.Records.{boxNumbers, boxesTo, recordOf, recordsOf}
 use Rattle.boxes.specs.Records.{recordLength}
@@ -56,19 +55,19 @@ module _ (k : ℕ) (c : Curve) (n : ℕ) where
       ap (entry (recordOf k c n)) {x = 4 * i + (2 + s)} {y = suc (suc (4 * i + s))} (omega arith)
       ∙ box-at (suc pieces) (depth n) (nodeCurve c n) i s (omega arith) hs
 
-interval : {l h a b : ℤ} → a ≡ l → b ≡ h → Sound (2 ^ 24 + 2 ^ 20) l h → Interval a b
+interval : {l h a b : ℤ} → a ≡ l → b ≡ h → Sound (2 ^ 24 + 2 ^ 23) l h → Interval a b
 interval {l} {h} e f s = rw (e, f) (record {
   from = abs-low {B = farthest} l (le-trans (s .low-size) (lit≤ tt));
   order = s .order;
   to = abs-high {B = farthest} h (le-trans (s .high-size) (lit≤ tt));
 })
 
-pub leaf-sound : (most : ℕ) (T : ℤ) (k : ℕ) (c : Curve) (n : ℕ) → k < most → T ≤ℤ pos (2 ^ 20) → Sized 0 c → List·Memᴰ n (endsOf T c) → nodeMeets T c n ≡ true
+pub leaf-sound : (most : ℕ) (T : ℤ) (k : ℕ) (c : Curve) (n : ℕ) → k < most → Sized 0 c → List·Memᴰ n (endsOf T c)
     → SoundRecord most (entry (recordOf k c n))
 unfolding recordOf
-leaf-sound most T k c n hk small s i met =
+leaf-sound most T k c n hk s i =
     let f = end-facts (nodeMeets T c) deepest n i in
-    let b = leaf-box T (depth n) (nodeCurve c n) (node-sized s n (f .node)) small met in
+    let b = node-box (depth n) (nodeCurve c n) (node-sized s n (f .node)) in
     record {
       curve-from = pos-le (omega arith);
       curve-below = pos-lt hk;

@@ -4,17 +4,16 @@
 use mathlib.Core.Path.{_≡_, refl, sym, _∙_, ap, ap₂, subst}
 use mathlib.Core.Bool.{Bool, true, false, _&&_, cond}
 use mathlib.Core.List.{List, [], _∷_}
-use Prim.Native.Nat.{ℕ, zero, suc, _+_, _*_, _%_, _^_, _≤_, _<_, zero-le}
-use native.Mathlib.Nat.{le-trans, lt-of-le-of-lt, mul-le-mul, one-mul, mod-eq-of-lt}
+use Prim.Native.Nat.{ℕ, zero, suc, _+_, _*_, _^_, _≤_, _<_, zero-le}
+use native.Mathlib.Nat.{le-trans, mul-le-mul}
 use native.Mathlib.Omega.{arith}
 use native.Mathlib.Numerals.{add-one, add-two}
 use lib.Dec.{T, leb, ltb, leb→le, lit<}
-use lib.Pow.{pow-mono, pow-pos}
+use lib.Pow.{pow-pos}
 use lib.IntN.{ℤ, pos, natAbs, negℤ, _+ℤ_, _-ℤ_, _*ℤ_, +ℤ-idl, +ℤ-idr}
 use lib.Signed.{ltZ, shrZ, quotZ, _<ℤ_, ltZ-yes}
 use mir.Syntax.{w64}
-use mir.Val.{toZ}
-use mir.Facts.{toZ-ofZ, toZ-pos}
+use mir.Facts.{toZ-ofZ}
 use Rattle.integers.specs.Entry.{entry}
 use Rattle.integers.specs.Rounding.{floor, ceiling}
 use Rattle.integers.proofs.Table.{and-left, and-right}
@@ -26,17 +25,15 @@ use Rattle.integers.proofs.Order.{gap, nonneg-by, le-by, pos-lt}
 use Rattle.integers.proofs.Machine.{Held, Count, abs-shift, tests}
 use Rattle.bezier.specs.Differences.{difference}
 use Rattle.halves.specs.Sizes.{Each}
-use Rattle.halves.specs.Halves.{listed, four}
+use Rattle.halves.specs.Halves.{listed}
 use Rattle.halves.proofs.Values.{listed-ext}
 use Rattle.bezier.proofs.Sizes.{each-wider}
 use Rattle.halves.proofs.Halving.{held-entry}
-use Rattle.rows.specs.Rows.{pieces, thirds}
-use Rattle.enclosure.specs.Bounds.{rowSum, high}
+use Rattle.rows.specs.Rows.{thirds}
+use Rattle.enclosure.specs.Bounds.{exchanged, rowSum}
 use Rattle.enclosure.specs.Thirds.{over, highOf, lowOf}
-use Rattle.row_sums.specs.Terms.{Readable, Small, Holds, HoldsFour, numerator, term, opposite}
-use Rattle.rows.proofs.Negated.{negated, entry-negated}
-use Rattle.enclosure.proofs.Negation.{low-is}
-use Rattle.enclosure.proofs.Reduced.{high-reduced}
+use Rattle.row_sums.specs.Terms.{Small, Holds, HoldsFour, numerator, term}
+use Rattle.enclosure.proofs.Reduced.{low-reduced, high-reduced}
 
 pub holds! : {B : ℕ} {z r : ℤ} (s : Held r) → T (s .test && leb (s .bound) B) → s .value ≡ z → Holds B z r
 holds! {B} {z} {r} s t e =
@@ -144,21 +141,9 @@ module _ (h l : List ℤ) (i : ℕ) (cs : List ℤ) where
   unfolding rowSum term
   sum-two h₁ l₁ = ap (λ z. term h l i (difference cs 0) +ℤ z) (sym (+ℤ-idr (term h₁ l₁ i (difference cs 1))))
 
--- ---- the denominator: a power of 2 by a shift
+-- ---- the shift by which the code divides
 pub shift-small : {d k : ℕ} → d ≤ 3 → k ≤ 8 → d * k ≤ 24
 shift-small h l = mul-le-mul h l
-
-pub shifted : (s : ℕ) → s ≤ 24 → (1 * 2 ^ s) % 2 ^ 64 ≡ 2 ^ s
-shifted s h = ap (λ (x : ℕ). x % 2 ^ 64) (one-mul (2 ^ s)) ∙ mod-eq-of-lt (lt-of-le-of-lt (pow-mono h) (lit< tt))
-
-abbrev pub held-shift : (s : ℕ) → s ≤ 24 → Held (toZ w64 ((1 * 2 ^ s) % 2 ^ 64))
-held-shift s h = record {
-  value = pos (2 ^ s);
-  bound = 2 ^ 24;
-  test = true;
-  is = λ t. ap (toZ w64) (shifted s h) ∙ toZ-pos w64 (lt-of-le-of-lt (pow-mono h) (lit< tt));
-  under = λ t. pow-mono h;
-}
 
 -- ---- what a caller holds of a result, and a quotient by 1875
 pub restored : {B : ℕ} {z r : ℤ} → Holds B z r → T (ltb B (2 ^ 63)) → Holds B z (stored w64 r)
@@ -169,75 +154,39 @@ quotient-size B n h = floor-size B {d = pos 1875} (ltZ-yes tt)
     (le-by (pos B ∷ n ∷ []) (gap (abs-high n h)) (search sides depth 20) refl)
     (le-by (pos B ∷ n ∷ []) (gap (abs-low n h)) (search sides depth 20) refl)
 
--- the ceiling that the code computes: by a shift, then by 1875
-pub ceiling-shifted : (n : ℤ) (k : ℕ) → 0 < k → pos 0 -ℤ floor (shrZ (pos 0 -ℤ n) k) (pos 1875) ≡ ceiling n (pos 1875 *ℤ pos k)
-unfolding ceiling
-ceiling-shifted n k some =
-    +ℤ-idl (negℤ (floor (shrZ (pos 0 -ℤ n) k) (pos 1875)))
-    ∙ ap negℤ (ap (λ z. floor (shrZ z k) (pos 1875)) (+ℤ-idl (negℤ n)) ∙ ap (λ z. floor z (pos 1875)) (shift-floor (negℤ n) k)
-    ∙ floor-floor {d = pos k} {e = pos 1875} (pos-lt some) (ltZ-yes tt) (negℤ n))
+-- the floor that the code computes: by a shift, then by 1875
+pub floor-shifted : (n : ℤ) (k : ℕ) → 0 < k → floor (shrZ n k) (pos 1875) ≡ floor n (pos 1875 *ℤ pos k)
+floor-shifted n k some = ap (λ z. floor z (pos 1875)) (shift-floor n k) ∙ floor-floor {d = pos k} {e = pos 1875} (pos-lt some) (ltZ-yes tt) n
 
 -- raised by B times 1875 the dividend is not negative, and the quotient towards zero is the floor
-pub ceiling-raised : (B : ℕ) (n : ℤ) (k : ℕ) → 0 < k → natAbs (shrZ (pos 0 -ℤ n) k) ≤ B * 1875
-    → pos B -ℤ quotZ (pos B *ℤ pos 1875 +ℤ shrZ (pos 0 -ℤ n) k) (pos 1875) ≡ ceiling n (pos 1875 *ℤ pos k)
-ceiling-raised B n k some h =
-    let x = shrZ (pos 0 -ℤ n) k in
+pub raised-holds : (B : ℕ) (n : ℤ) {r : ℤ} → natAbs n ≤ B * 1875 → (k : ℕ) → 0 < k → r ≡ quotZ (pos B *ℤ pos 1875 +ℤ shrZ n k) (pos 1875) -ℤ pos B
+    → Holds B (floor n (pos 1875 *ℤ pos k)) r
+raised-holds B n {r} h k some e =
+    let x = shrZ n k in
     let q = floor x (pos 1875) in
-    ap (λ z. pos B -ℤ z) (quotient-floor (pos B *ℤ pos 1875 +ℤ x) 1875 (nonneg-by (pos B ∷ x ∷ []) (gap (abs-low x h)) (search sides depth 20) refl) ∙ floor-raised {d = pos 1875} (ltZ-yes tt) (pos B) x)
-    ∙ ring (pos B ∷ q ∷ []) (search sides depth 20) refl
-    ∙ ceiling-shifted n k some
+    let l = le-trans (abs-shift n k) h in
+    let f : r ≡ q = e
+    ∙ ap (λ z. z -ℤ pos B) (quotient-floor (pos B *ℤ pos 1875 +ℤ x) 1875 (nonneg-by (pos B ∷ x ∷ []) (gap (abs-low x l)) (search sides depth 20) refl)
+    ∙ floor-raised {d = pos 1875} (ltZ-yes tt) (pos B) x)
+    ∙ ring (pos B ∷ q ∷ []) (search sides depth 20) refl in
+    record { is = f ∙ floor-shifted n k some; size = subst (λ z. natAbs z ≤ B) (sym f) (quotient-size B x l) }
 
-pub raised-holds : (B : ℕ) {m r : ℤ} (s : Held m) → T (s .test && leb (s .bound) (B * 1875)) → (k : ℕ) → 0 < k
-    → r ≡ pos B -ℤ quotZ (pos B *ℤ pos 1875 +ℤ shrZ (pos 0 -ℤ s .value) k) (pos 1875) → Holds B (ceiling (s .value) (pos 1875 *ℤ pos k)) r
-raised-holds B {m} {r} s t k some e =
-    let n = s .value in
-    let x = shrZ (pos 0 -ℤ n) k in
-    let u = and-left (s .test) (leb (s .bound) (B * 1875)) t in
-    let h = le-trans (s .under u) (leb→le (s .bound) (B * 1875) (and-right (s .test) (leb (s .bound) (B * 1875)) t)) in
-    let l = le-trans (abs-shift (pos 0 -ℤ n) k) (subst (λ z. natAbs z ≤ B * 1875) (sym (+ℤ-idl (negℤ n))) (rw abs-neg h)) in
-    let f = e ∙ ceiling-raised B n k some l in
+-- minus the floor of the negated number is the ceiling
+pub ceiling-holds : {B : ℕ} (n d : ℤ) {r s : ℤ} → Holds B (floor (pos 0 -ℤ n) d) r → s ≡ pos 0 -ℤ floor (pos 0 -ℤ n) d → Holds B (ceiling n d) s
+unfolding ceiling
+ceiling-holds {B} n d h e =
+    let q = floor (pos 0 -ℤ n) d in
+    let f = e ∙ +ℤ-idl (negℤ q) in
     record {
-      is = f;
-      size = subst (λ z. natAbs z ≤ B) (sym (f ∙ sym (ceiling-shifted n k some) ∙ +ℤ-idl (negℤ (floor x (pos 1875))))) (rw abs-neg (quotient-size B x l));
+      is = f ∙ ap (λ z. negℤ (floor z d)) (+ℤ-idl (negℤ n));
+      size = subst (λ z. natAbs z ≤ B) (sym f) (rw abs-neg (subst (λ z. natAbs z ≤ B) (h .is) (h .size)));
     }
 
 -- the denominator of the control values is positive
 pub over-positive : (d k : ℕ) → pos 0 <ℤ over d k
 over-positive d k = pos-lt (pow-pos (d * k))
 
--- ---- the control values negated
-pub each-opposite : {B : ℕ} {cs : List ℤ} → Each B cs → Each B (opposite cs)
-each-opposite {B} {cs} h = each-four (size 0) (size 1) (size 2) (size 3)
-  where
-    size : (k : ℕ) → natAbs (negℤ (entry cs k)) ≤ B
-    size k = rw abs-neg (h .under k)
-
-pub readable-opposite : {cs : List ℤ} {d : ℕ} → Readable cs d → Readable (opposite cs) d
-readable-opposite h = record { least = h .least; most = h .most; values = each-opposite (h .values) }
-
--- a high looks at no control value past the fourth
-high-four : (d k : ℕ) (cs : List ℤ) (i : ℕ) → d ≤ 3 → highOf d k (four cs) i ≡ highOf d k cs i
-unfolding high rowSum
-high-four zero k cs i h = refl
-high-four (suc zero) k cs i h = refl
-high-four (suc (suc zero)) k cs i h = refl
-high-four (suc (suc (suc zero))) k cs i h = refl
-high-four (suc (suc (suc (suc d)))) k cs i h = absurd (omega arith)
-
-pub low-opposite : (d k : ℕ) (cs : List ℤ) (i : ℕ) → d ≤ 3 → negℤ (highOf d k (opposite cs) i) ≡ lowOf d k cs i
-low-opposite d k cs i h =
-    ap negℤ (ap (λ xs. highOf d k xs i) (listed-ext 4 (λ j. negℤ (entry cs j)) (entry (negated cs)) (λ j l. sym (entry-negated cs j))) ∙ high-four d k (negated cs) i h)
-    ∙ sym (low-is pieces (thirds d) (over d k) d cs i)
-
 -- ---- from what the code called
-pub lows-from : {B : ℕ} (d k : ℕ) (cs : List ℤ) {os hs rs : List ℤ} → d ≤ 3
-    → os ≡ opposite cs → HoldsFour B (highOf d k os) hs → rs ≡ opposite hs → HoldsFour B (lowOf d k cs) rs
-lows-from {B} d k cs {os} {hs} {rs} l e h f = record {
-  is = f ∙ ap opposite (h .is) ∙ listed-ext 4 (λ i. negℤ (highOf d k os i)) (lowOf d k cs)
-      (λ i _. ap (λ xs. negℤ (highOf d k xs i)) e ∙ low-opposite d k cs i l);
-  size = subst (Each B) (sym f) (each-opposite (h .size));
-}
-
 high-from : {B : ℕ} (d k : ℕ) (cs : List ℤ) (i : ℕ) {first last sum r : ℤ} → first ≡ entry cs 0 → last ≡ entry cs d → sum ≡ rowSum (thirds d) i 0 cs
     → Holds B (ceiling (numerator i first last sum) (pos 1875 *ℤ over d k)) r → Holds B (highOf d k cs i) r
 high-from d k cs i {first} {last} {sum} e f g = holds-as
@@ -250,3 +199,18 @@ pub high-at : (d k : ℕ) (cs : List ℤ) (i : ℕ) → i < 4 → Each (2 ^ 44) 
     → Holds (2 ^ 51) (highOf d k cs i) (stored w64 r)
 high-at d k cs i l v e h =
     restored (high-from d k cs i (each-stored v 0 tt) (each-stored v d tt) (stored-is (one-of e i l) tt) h) tt
+
+low-from : {B : ℕ} (d k : ℕ) (cs : List ℤ) (i : ℕ) {first last sum r : ℤ} → first ≡ entry cs 0 → last ≡ entry cs d
+    → sum ≡ rowSum (exchanged (thirds d)) i 0 cs
+    → Holds B (floor (numerator i first last sum) (pos 1875 *ℤ over d k)) r → Holds B (lowOf d k cs i) r
+low-from d k cs i {first} {last} {sum} e f g = holds-as
+    (ap (λ x. floor (numerator i x last sum) (pos 1875 *ℤ over d k)) e
+    ∙ ap₂ (λ y z. floor (numerator i (entry cs 0) y z) (pos 1875 *ℤ over d k)) f g
+    ∙ sym (low-reduced (lit< tt) (over-positive d k) (thirds d) d cs i))
+
+pub low-at : (d k : ℕ) (cs : List ℤ) (i : ℕ) → i < 4 → Each (2 ^ 44) cs
+    → {sums : List ℤ} → HoldsFour (8800 * 2 ^ 46) (λ j. rowSum (exchanged (thirds d)) j 0 cs) sums → {r : ℤ}
+    → Holds (2 ^ 51) (floor (numerator i (stored w64 (entry cs 0)) (stored w64 (entry cs d)) (stored w64 (entry sums i))) (pos 1875 *ℤ over d k)) r
+    → Holds (2 ^ 51) (lowOf d k cs i) (stored w64 r)
+low-at d k cs i l v e h =
+    restored (low-from d k cs i (each-stored v 0 tt) (each-stored v d tt) (stored-is (one-of e i l) tt) h) tt

@@ -3,7 +3,7 @@ use mathlib.Core.Path.{_≡_}
 use mathlib.Core.Bool.{cond}
 use mathlib.Core.List.{List}
 use Prim.Native.Nat.{ℕ, _≤_, _^_}
-use lib.IntN.{ℤ, pos, natAbs, negℤ, _+ℤ_, _-ℤ_, _*ℤ_}
+use lib.IntN.{ℤ, pos, natAbs, _+ℤ_, _-ℤ_, _*ℤ_}
 use lib.Signed.{ltZ}
 use Rattle.integers.specs.Entry.{entry}
 use Rattle.halves.specs.Halves.{listed}
@@ -34,10 +34,7 @@ pub record HoldsFour (B : ℕ) (f : ℕ → ℤ) (rs : List ℤ) : Type 0 where
 abbrev pub numerator : ℕ → (first last sum : ℤ) → ℤ
 numerator i first last sum = pos 10000 *ℤ ((pos pieces -ℤ pos i) *ℤ first +ℤ pos i *ℤ last) +ℤ pos pieces *ℤ sum
 
--- row × difference for a high at break point i: the difference chooses its row by its own sign
+-- row × difference at break point i for a high: the difference chooses its row by its own sign. For a low the rows are
+-- exchanged.
 unfoldable pub term : (high low : List ℤ) → ℕ → ℤ → ℤ
 term high low i δ = cond (ltZ δ (pos 0)) (entry low i) (entry high i) *ℤ δ
-
--- four control values, each negated
-abbrev pub opposite : List ℤ → List ℤ
-opposite cs = listed 4 (λ k. negℤ (entry cs k))

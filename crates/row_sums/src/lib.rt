@@ -5,7 +5,7 @@ ghost use Rattle.integers.specs.Entry.{entry};
 ghost use Rattle.halves.specs.Sizes.{Each};
 ghost use Rattle.bezier.specs.Differences.{difference};
 ghost use Rattle.rows.specs.Rows.{thirds};
-ghost use Rattle.enclosure.specs.Bounds.{rowSum};
+ghost use Rattle.enclosure.specs.Bounds.{exchanged, rowSum};
 ghost use Rattle.row_sums.specs.Terms.{Readable, Small, Holds, HoldsFour, term};
 
 // The rows, high and low, at the four break points: of degree 2, and the first and the second of degree 3.
@@ -42,7 +42,7 @@ fn row_times(row: [i64; 4], difference: i64) -> [i64; 4]
     ]
 }
 
-// Row times difference for a high: the difference chooses its row by its own sign.
+// Row times difference: the difference chooses its row by its own sign.
 fn row_terms(high: [i64; 4], low: [i64; 4], difference: i64) -> [i64; 4]
     requires { ⌜ (Each 4400 high) × (Each 4400 low) × (Small (2 ^ 46) difference) ⌝ }
     ensures { λ r. ⌜ HoldsFour (4400 * 2 ^ 46) (λ i. term high low i difference) r ⌝ }
@@ -62,8 +62,8 @@ fn added(a: [i64; 4], b: [i64; 4]) -> [i64; 4]
     [a[0] + b[0], a[1] + b[1], a[2] + b[2], a[3] + b[3]]
 }
 
-// The sum of row times difference at each break point.
-pub fn row_sums(c: [i64; 4], degree: u32) -> [i64; 4]
+// The sum of row times difference at each break point, for the highs.
+pub fn high_sums(c: [i64; 4], degree: u32) -> [i64; 4]
     requires { ⌜ Readable c degree ⌝ }
     ensures { λ r. ⌜ HoldsFour (8800 * 2 ^ 46) (λ i. rowSum (thirds degree) i 0 c) r ⌝ }
 {
@@ -73,6 +73,21 @@ pub fn row_sums(c: [i64; 4], degree: u32) -> [i64; 4]
         _ => added(
             row_terms(HIGH_FIRST, LOW_FIRST, difference_at(c, 0)),
             row_terms(HIGH_SECOND, LOW_SECOND, difference_at(c, 1)),
+        ),
+    }
+}
+
+// The sum of row times difference at each break point, for the lows: the rows are exchanged.
+pub fn low_sums(c: [i64; 4], degree: u32) -> [i64; 4]
+    requires { ⌜ Readable c degree ⌝ }
+    ensures { λ r. ⌜ HoldsFour (8800 * 2 ^ 46) (λ i. rowSum (exchanged (thirds degree)) i 0 c) r ⌝ }
+{
+    match degree {
+        1 => [0, 0, 0, 0],
+        2 => row_terms(LOW, HIGH, difference_at(c, 0)),
+        _ => added(
+            row_terms(LOW_FIRST, HIGH_FIRST, difference_at(c, 0)),
+            row_terms(LOW_SECOND, HIGH_SECOND, difference_at(c, 1)),
         ),
     }
 }

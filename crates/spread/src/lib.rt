@@ -1,55 +1,52 @@
-// How far apart the low and the high of a node are before rounding, at the break point where they are furthest apart: no division.
-ghost use Prim.Native.Nat.{_^_, _*_};
+// How far apart the low and the high of a coordinate are before rounding, at its inner break points.
+ghost use mathlib.Core.Path.{_≡_};
+ghost use Prim.Native.Nat.{_≤_, _^_, _*_, _-_};
 ghost use lib.IntN.{pos, natAbs};
-ghost use Rattle.bezier.specs.Bounds.{Halvable};
 ghost use Rattle.row_sums.specs.Terms.{Readable, Small, Holds};
-ghost use Rattle.spread.specs.Spread.{larger, spread, widest};
-use bezier::Curve;
+ghost use Rattle.spread.specs.Spread.{up, Spreads};
 use row_sums::difference_at;
 
 // The size of a second difference.
-fn size(difference: i64) -> i64
+fn size(difference: i64) -> u64
     requires { ⌜ Small (2 ^ 46) difference ⌝ }
-    ensures { λ r. ⌜ Holds (2 ^ 46) (pos (natAbs difference)) r ⌝ }
+    ensures { λ r. ⌜ (r ≡ natAbs difference) × (r ≤ 2 ^ 46) ⌝ }
 {
     if difference < 0 {
-        -difference
+        (-difference) as u64
     } else {
-        difference
+        difference as u64
     }
 }
 
-// The larger of two numbers.
-fn larger(a: i64, b: i64) -> i64
-    requires { ⌜ (Small (2 ^ 60) a) × (Small (2 ^ 60) b) ⌝ }
-    ensures { λ r. ⌜ Holds (2 ^ 60) (larger a b) r ⌝ }
+// The fraction of what is apart over 625 times a power of 2, rounded up: one less than the denominator is added.
+fn whole(apart: u64, more: u64, shift: u32) -> i64
+    requires { ⌜ (apart ≤ 2 ^ 60) × (more ≡ 625 * 2 ^ shift - 1) × (shift ≤ 24) ⌝ }
+    ensures { λ r. ⌜ Holds (2 ^ 61) (pos (up apart (625 * 2 ^ shift))) r ⌝ }
 {
-    if a < b { b } else { a }
+    (((apart + more) >> shift) / 625) as i64
 }
 
-// The spread of one coordinate: the gaps of its rows at break points 1 and 2, times the sizes of the second differences.
-fn spread(c: [i64; 4], degree: u32) -> i64
-    requires { ⌜ Readable c degree ⌝ }
-    ensures { λ r. ⌜ Holds (2 ^ 60) (spread degree c) r ⌝ }
+// The spread of one coordinate at break points 1 and 2: the gaps of its rows there times the sizes of its second
+// differences, in sixteenths rounded up.
+pub fn spread(c: [i64; 4], degree: u32, depth: u32) -> [i64; 2]
+    requires { ⌜ (Readable c degree) × (depth ≤ 8) ⌝ }
+    ensures { λ r. ⌜ Spreads degree depth c r ⌝ }
 {
+    let shift = degree * depth;
+    let more = (625u64 << shift) - 1;
     match degree {
-        1 => 0,
-        2 => 278 * size(difference_at(c, 0)),
+        1 => [0, 0],
+        2 => {
+            let both = whole(278 * size(difference_at(c, 0)), more, shift);
+            [both, both]
+        }
         _ => {
             let a = size(difference_at(c, 0));
             let b = size(difference_at(c, 1));
-            larger(697 * a + 193 * b, 193 * a + 697 * b)
+            [
+                whole(697 * a + 193 * b, more, shift),
+                whole(193 * a + 697 * b, more, shift),
+            ]
         }
     }
-}
-
-// The spread of a curve, over both coordinates, in parts of the denominator of its bounds.
-pub fn widest(curve: Curve) -> i64
-    requires { ⌜ Halvable curve ⌝ }
-    ensures { λ r. ⌜ Holds (3 * 2 ^ 60) (widest curve) r ⌝ }
-{
-    let degree = curve.degree;
-    let x = curve.x;
-    let y = curve.y;
-    3 * larger(spread(x, degree), spread(y, degree))
 }

@@ -12,10 +12,10 @@ pub fn run() {
         "Banding. Times are medians in microseconds, with the least in brackets; both engines take turns."
     );
     println!("{:<28} {:>6} {:>7} {:>7} {}  buffers", "input", "curves", "leaves", "nodes", heading("plain"));
-    for tolerance in [2, 16, 256, 65_536] {
+    for tolerance in [3, 16, 256, 65_536] {
         row(&format!("64 cubic curves, T {tolerance}"), &cubics, tolerance);
     }
-    for tolerance in [2, 16] {
+    for tolerance in [3, 16] {
         row(&format!("nominal, 20 curves, T {tolerance}"), &nominal, tolerance);
     }
 }

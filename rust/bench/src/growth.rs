@@ -13,7 +13,7 @@ pub fn run() {
     for curves in [1, 2, 4, 8, 16, 32, 64] {
         row(&format!("curves: {curves} cubic, T 16"), &cubics[..9 * curves], 16);
     }
-    for tolerance in [65_536, 4_096, 1_024, 256, 64, 16, 4, 2] {
+    for tolerance in [65_536, 4_096, 1_024, 256, 64, 16, 4, 3] {
         row(&format!("leaves: 64 cubic, T {tolerance}"), &cubics, tolerance);
     }
     for depth in 0..=8 {

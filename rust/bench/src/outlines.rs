@@ -2,7 +2,7 @@
 
 use std::f64::consts::TAU;
 
-/// 64 cubic curves round a circle that swing in and out, nearly as far as T 2 accepts: at T 2 most
+/// 64 cubic curves round a circle that swing in and out, nearly as far as T 3 accepts: at T 3 most
 /// leaves are at depth 8.
 pub fn cubics() -> Vec<i32> {
     let mut outline = Vec::new();

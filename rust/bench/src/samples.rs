@@ -21,10 +21,10 @@ pub fn run() {
     let (cubics, nominal) = (cubics(), nominal());
     println!("Against {SAMPLES} samples of each curve in binary64, with as many leaves for each curve.");
     println!("{:<28} {:>7} {}", "input", "leaves", heading("sampled"));
-    for tolerance in [2, 16, 256, 65_536] {
+    for tolerance in [3, 16, 256, 65_536] {
         row(&format!("64 cubic curves, T {tolerance}"), &cubics, tolerance);
     }
-    for tolerance in [2, 16] {
+    for tolerance in [3, 16] {
         row(&format!("nominal, 20 curves, T {tolerance}"), &nominal, tolerance);
     }
     println!();

@@ -18,8 +18,8 @@ pub struct Report {
 ///
 /// `outline` has for each curve its degree d (1, 2 or 3), then x and y of its d + 1 control points
 /// in stage units, each from −1,048,576 to 1,048,576. There are 1 to 64 curves, and each begins where
-/// the one before it ends; the outline may stay open at its ends. `tolerance` is the greatest width
-/// of a box in x and in y, 2 to 1,048,576 sixteenths of a unit.
+/// the one before it ends; the outline may stay open at its ends. `tolerance` is the greatest diagonal
+/// of a box, 2 to 1,048,576 sixteenths of a unit.
 ///
 /// The leaves are written to the front of `records`, [`RECORD`](crate::RECORD) numbers each, by
 /// curve and then by parameter; [`leaves`](crate::leaves) reads them. The numbers past them stay

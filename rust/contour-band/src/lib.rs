@@ -1,8 +1,8 @@
 //! Contour bands of Bézier outlines, by the proved engine.
 //!
 //! An outline is a list of numbers: for each curve its degree d (1, 2 or 3), then x and y of its
-//! d + 1 control points in stage units. [`band`] encloses it in boxes that are nowhere wider than
-//! a tolerance, and writes them to a list that the caller lends. [`leaves`] reads them. [`judge`]
+//! d + 1 control points in stage units. [`band`] encloses it in boxes whose diagonals are at most a
+//! tolerance long, and writes them to a list that the caller lends. [`leaves`] reads them. [`judge`]
 //! says of a measured point whether it lies on what the boxes cover, and [`band_and_judge`] does both.
 //! [`draw`] draws the convex hull of two boxes.
 //!

@@ -36,7 +36,7 @@ pub enum Refusal {
     },
     /// 6: the outline has no curve.
     EmptyOutline,
-    /// 7: a stretch is still wider than the tolerance after the last halving.
+    /// 7: a box still has a diagonal longer than the tolerance after the last halving.
     TooWide {
         /// The number of the curve, from 0.
         curve: usize,

@@ -50,12 +50,12 @@ impl Curve<'_> {
         (x % scale == 0 && y % scale == 0).then(|| ((x / scale) as i32, (y / scale) as i32))
     }
 
-    /// Whether the curve at p/q is within a tolerance of a point, in x and in y.
+    /// Whether the curve at p/q is within a tolerance of a point, as a distance.
     pub fn within(&self, p: i128, q: i128, tolerance: i32, x: i32, y: i32) -> bool {
         let scale = q.pow(self.degree());
         let [at_x, at_y] = self.sixteenths(p, q);
-        let near = |at: i128, z: i32| (at - i128::from(z) * scale).abs() <= i128::from(tolerance) * scale;
-        near(at_x, x) && near(at_y, y)
+        let off = |at: i128, z: i32| square(at - i128::from(z) * scale);
+        sum(off(at_x, x), off(at_y, y)) <= square(i128::from(tolerance) * scale)
     }
 }
 
@@ -67,6 +67,20 @@ pub fn parameter(node: i32, cover: usize, s: Fraction) -> (i128, i128) {
     let (p, q) = (thirds * s.below + s.above, (3 * s.below) << depth);
     let common = gcd(p, q);
     (p / common, q / common)
+}
+
+/// The square of a number below 2^126 in size, in 256 bits: the upper half, then the lower.
+fn square(n: i128) -> (u128, u128) {
+    let n = n.unsigned_abs();
+    let (upper, lower) = (n >> 64, n & u128::from(u64::MAX));
+    let middle = upper * lower;
+    let (low, carry) = (lower * lower).overflowing_add(middle << 65);
+    (upper * upper + (middle >> 63) + u128::from(carry), low)
+}
+
+fn sum(a: (u128, u128), b: (u128, u128)) -> (u128, u128) {
+    let (low, carry) = a.1.overflowing_add(b.1);
+    (a.0 + b.0 + u128::from(carry), low)
 }
 
 /// The greatest common divisor. The second is not 0.
@@ -96,10 +110,11 @@ mod tests {
     }
 
     #[test]
-    fn within_counts_both_coordinates_and_their_edges() {
+    fn within_is_a_distance_with_its_edge() {
         let curve = curves(&OUTLINE)[0];
-        assert!(curve.within(1, 2, 4, 244, 356) && curve.within(1, 2, 4, 236, 364));
-        assert!(!curve.within(1, 2, 4, 245, 360) && !curve.within(1, 2, 4, 240, 365));
+        assert!(curve.within(1, 2, 5, 243, 356) && curve.within(1, 2, 5, 236, 363));
+        assert!(curve.within(1, 2, 5, 245, 360) && curve.within(1, 2, 5, 240, 355));
+        assert!(!curve.within(1, 2, 5, 244, 364) && !curve.within(1, 2, 5, 240, 366));
     }
 
     #[test]

@@ -32,7 +32,7 @@ pub fn tolerance(random: &mut Random) -> i32 {
     random.magnitude().max(2)
 }
 
-/// 64 cubics, each from where the one before ends, with 256 leaves at a tolerance of 2: their second
+/// 64 cubics, each from where the one before ends, with 256 leaves at a tolerance of 3: their second
 /// differences are 0 and 0 in x, -40,000 and -40,000 in y.
 pub fn deepest(random: &mut Random) -> Vec<i32> {
     let mut outline: Vec<i32> = Vec::new();

@@ -35,8 +35,8 @@ pub struct Bounds {
 }
 
 impl Bounds {
-    fn meets(self, tolerance: i64) -> bool {
-        self.high - self.low <= tolerance
+    fn width(self) -> i64 {
+        self.high - self.low
     }
 }
 
@@ -47,15 +47,22 @@ pub struct BoxBounds {
     pub y: Bounds,
 }
 
+impl BoxBounds {
+    /// Whether the diagonal is at most the tolerance.
+    fn meets(self, tolerance: i64) -> bool {
+        self.x.width().pow(2) + self.y.width().pow(2) <= tolerance.pow(2)
+    }
+}
+
 impl Curve {
-    /// The four boxes, or nothing where one of them is wider than the tolerance.
+    /// The four boxes, or nothing where the diagonal of one of them is longer than the tolerance.
     pub fn boxes_within(&self, tolerance: i64) -> Option<[BoxBounds; BREAK_POINTS]> {
         let x = Enclosure::new(&self.x, self.degree, self.shift);
         let y = Enclosure::new(&self.y, self.degree, self.shift);
         let mut boxes = [BoxBounds::default(); BREAK_POINTS];
         for (i, at) in boxes.iter_mut().enumerate() {
             *at = BoxBounds { x: x.bounds(i), y: y.bounds(i) };
-            if !at.x.meets(tolerance) || !at.y.meets(tolerance) {
+            if !at.meets(tolerance) {
                 return None;
             }
         }

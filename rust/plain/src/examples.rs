@@ -89,6 +89,16 @@ fn a_line_0_1() {
 }
 
 #[test]
+fn the_tolerance_is_the_diagonal_of_a_box() {
+    // Boxes 44 wide and 44 high: 2 × 44² = 3872, between 62² and 63².
+    let across = [3, 0, 0, 30, 30, 30, 30, 0, 0];
+    assert_eq!(accepted(&across, 63).0.leaves, 1);
+    assert_eq!(accepted(&across, 62).0.leaves, 2);
+    // At T 2 a box 2 wide and 1 high is too long, so a small curve can be refused.
+    assert_eq!(number_and_spot(refused(&across, 2, 18 * 256)), (7, 277));
+}
+
+#[test]
 fn tolerance_2_passes_and_1_is_refused() {
     accepted(&upright(&[0, 1]), 2);
     assert_eq!(number_and_spot(refused(&upright(&[0, 1]), 1, 18)), (1, 0));
@@ -141,7 +151,7 @@ fn lively() -> Vec<i32> {
 
 #[test]
 fn nodes_are_twice_the_leaves_less_the_curves() {
-    for tolerance in [2, 3, 5, 16, 100, 1_000, 100_000] {
+    for tolerance in [3, 5, 16, 100, 1_000, 100_000] {
         let (report, _) = accepted(&lively(), tolerance);
         assert_eq!(report.curves, 4);
         assert_eq!(report.nodes, 2 * report.leaves - report.curves);
@@ -176,7 +186,10 @@ fn no_leaf_is_deeper_than_its_second_differences_say() {
         for leaf in records.chunks_exact(RECORD) {
             let depth = (leaf[1] as u32).ilog2();
             let m = largest[leaf[0] as usize];
-            let allows = |j: u32| 178 * m <= 125 * (i64::from(tolerance) - 2) * 4_i64.pow(j);
+            let allows = |j: u32| {
+                let bound = 178 * i128::from(m) + 250 * 4_i128.pow(j);
+                2 * bound.pow(2) <= (125 * i128::from(tolerance) * 4_i128.pow(j)).pow(2)
+            };
             let least = (0..=8).find(|&j| allows(j)).unwrap_or(8);
             assert!(depth <= least, "depth {depth} of curve {} at {tolerance}", leaf[0]);
         }

@@ -5,9 +5,7 @@ use borrow.Author.Needs.{needs}
 use borrow.Author.Tests.{not-true, not-false}
 use mir.Syntax.{w64}
 use mir.Facts.{toZ-ofZ, sfits-widen}
-use lib.IntN.{pos}
 use Rattle.outline.specs.Checks.{toleranceFine}
-use Rattle.integers.proofs.Between.{between-high}
 use Rattle.banding.proofs.Answers.{readable, banded-read, written-curves, banded-tolerance, banded-faulty, written-refused}
 use Rattle.band.proofs.band_most.Statement.{statement}
 use Rattle.band.proofs.band_most.Tie as tie
@@ -46,10 +44,8 @@ cast-band-curves c =
 band-curves-requires : tie.Need-band-curves-requires
 band-curves-requires c κs =
     let k = c .before .before .before .before in
-    let s = k .before .before .before in (
-      readable (s .args .most) (s .args .ns .now) (sym (c .before .before .curves .given .1) ∙ k .check-outline .ensures) (s .pre),
-      rw (toZ-ofZ (s .fits .tolerance), toZ-ofZ (sfits-widen {w′ = w64} tt (s .fits .tolerance))) (between-high (pos 2) (pos 1048576) (s .args .tolerance) (fine k)),
-    )
+    let s = k .before .before .before in
+    readable (s .args .most) (s .args .ns .now) (sym (c .before .before .curves .given .1) ∙ k .check-outline .ensures) (s .pre)
 
 returns-2 : tie.Need-returns-2
 returns-2 c =

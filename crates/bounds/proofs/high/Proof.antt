@@ -1,85 +1,45 @@
--- The high of one coordinate at a break point: the reduced fraction, rounded up.
-use Prim.Native.Nat.{_^_}
-use lib.Dec.{lit<}
-use lib.IntN.{pos, _+ℤ_, _-ℤ_, _*ℤ_}
-use lib.Pow.{pow-pos}
-use mir.Syntax.{w64}
-use mir.Val.{toZ}
-use Rattle.integers.proofs.Machine.{Held, fits!, is! }
-use Rattle.row_sums.proofs.Coordinates.{bounded, point, raised-holds}
+-- The high of one coordinate at a break point: the reduced fraction, rounded up, as minus its negation rounded down.
+use mathlib.Core.Path.{ap}
+use Prim.Native.Nat.{_^_, _*_}
+use lib.IntN.{pos, _-ℤ_, _*ℤ_}
+use mir.Facts.{toZ-ofZ}
+use Rattle.integers.specs.Rounding.{floor}
+use Rattle.integers.proofs.Machine.{fits!, is! }
+use Rattle.row_sums.specs.Terms.{Holds, numerator}
+use Rattle.row_sums.proofs.Coordinates.{bounded, holds-as, small!, ceiling-holds}
 use borrow.Author.Needs.{needs}
 use Rattle.bounds.proofs.high.Statement.{statement}
 use Rattle.bounds.proofs.high.Tie as tie
 
-cast-t : tie.Need-cast-t
-cast-t c = search needs
+numerator-requires : tie.Need-numerator-requires
+numerator-requires c κs = search needs
 
-sub-n : tie.Need-sub-n
-sub-n c = let p = c .pre in fits! (search (point (p .4), bounded) depth 40) tt
+-- the numerator, of the numbers as they were handed over
+whole : (c : tie.After-numerator) → let a = c .before .args in
+    Holds (2 ^ 51 * 1875) (numerator (a .i) (a .first) (a .last) (a .sum)) (c .numerator .result)
+whole c = let f = c .before .fits in rw (toZ-ofZ (f .first), toZ-ofZ (f .last), toZ-ofZ (f .sum)) at (c .numerator .ensures)
 
-mul-n : tie.Need-mul-n
-mul-n c = let p = c .pre in fits! (search (p .0, point (p .4), bounded) depth 40) tt
+sub-floor-over : tie.Need-sub-floor-over
+sub-floor-over c = fits! (search (whole c, bounded) depth 40) tt
 
-mul-n-2 : tie.Need-mul-n-2
-mul-n-2 c = let p = c .pre in fits! (search (p .1, point (p .4), bounded) depth 40) tt
+floor-over-requires : tie.Need-floor-over-requires
+floor-over-requires c κs = (small! (search (whole c, bounded) depth 40) tt, c .before .pre .3)
 
-add-n : tie.Need-add-n
-add-n c = let p = c .pre in fits! (search (p .0, p .1, point (p .4), bounded) depth 40) tt
-
-mul-n-3 : tie.Need-mul-n-3
-mul-n-3 c = let p = c .pre in fits! (search (p .0, p .1, point (p .4), bounded) depth 40) tt
-
-mul-n-4 : tie.Need-mul-n-4
-mul-n-4 c = let p = c .pre in fits! (search (p .2, bounded) depth 40) tt
-
-add-n-2 : tie.Need-add-n-2
-add-n-2 c = let p = c .pre in fits! (search (p .0, p .1, p .2, point (p .4), bounded) depth 40) tt
-
-mul-raised : tie.Need-mul-raised
-mul-raised c = fits! (search bounded depth 40) tt
-
-sub-raised : tie.Need-sub-raised
-sub-raised c = let p = c .pre in fits! (search (p .0, p .1, p .2, point (p .4), bounded) depth 40) tt
-
-cast-raised : tie.Need-cast-raised
-cast-raised c = search needs
-
-shr-raised : tie.Need-shr-raised
-shr-raised c = search needs
-
-add-raised : tie.Need-add-raised
-add-raised c = let p = c .pre in fits! (search (p .0, p .1, p .2, point (p .4), bounded) depth 40) tt
-
-div-result : tie.Need-div-result
-div-result c = let p = c .pre in (lit< tt, fits! (search (p .0, p .1, p .2, point (p .4), bounded) depth 40) tt)
+-- the negated numerator rounded down
+down : (c : tie.After-floor-over) → let a = c .before .before .args in
+    Holds (2 ^ 51) (floor (pos 0 -ℤ numerator (a .i) (a .first) (a .last) (a .sum)) (pos 1875 *ℤ pos (2 ^ a .shift))) (c .floor-over .result)
+down c =
+    let d = pos 1875 *ℤ pos (2 ^ c .before .before .args .shift) in
+    holds-as (ap (λ n. floor n d) (is! (search (whole (c .before), bounded) depth 40) tt)) (c .floor-over .ensures)
 
 sub-result : tie.Need-sub-result
-sub-result c = let p = c .pre in fits! (search (p .0, p .1, p .2, point (p .4), bounded) depth 40) tt
+sub-result c = fits! (search (down c, bounded) depth 40) tt
 
 returns : tie.Need-returns
 returns c =
-    let p = c .pre in
-    let a = c .args in
-    let n : Held (pos 10000 *ℤ ((pos 3 -ℤ toZ w64 (a .i)) *ℤ a .first +ℤ toZ w64 (a .i) *ℤ a .last) +ℤ pos 3 *ℤ a .sum) = search (p .0, p .1, p .2, point (p .4), bounded) depth 40 in
-    raised-holds (2 ^ 51) n tt (2 ^ a .shift) (pow-pos (a .shift)) (is! (search (p .0, p .1, p .2, point (p .4), bounded) depth 40) tt)
+    let a = c .before .before .args in
+    ceiling-holds (numerator (a .i) (a .first) (a .last) (a .sum)) (pos 1875 *ℤ pos (2 ^ a .shift))
+    (down c) (is! (search (down c, bounded) depth 40) tt)
 
 pub high-spec : {M : Type 1} → statement M
-high-spec =
-    tie.close
-    (tie.spec
-    cast-t
-    sub-n
-    mul-n
-    mul-n-2
-    add-n
-    mul-n-3
-    mul-n-4
-    add-n-2
-    mul-raised
-    sub-raised
-    cast-raised
-    shr-raised
-    add-raised
-    div-result
-    sub-result
-    returns)
+high-spec = tie.close (tie.spec numerator-requires sub-floor-over floor-over-requires sub-result returns)

@@ -31,7 +31,7 @@ write-curve-requires c κs =
     let f = c .before .before .before .loop .inv in
     let h = c .before .before .loop-test .taken in
     let s = c .before .before .before .before in
-    rw (c .curve-at .ensures) (filled-ready f h (rw (toZ-ofZ (s .fits .t)) (s .pre .small)), omega (arith, s .pre .readable .few), filled-room f h)
+    rw (c .curve-at .ensures) (filled-ready f h, omega (arith, s .pre .readable .few), filled-room f h)
 
 next-at-requires : tie.Need-next-at-requires Inv-loop μ-loop
 next-at-requires c κs =

@@ -18,7 +18,7 @@ use Rattle.records.specs.Records.{recordOf}
 use Rattle.tree.proofs.Rank.{rank}
 use Rattle.tree.proofs.Walking.{walking-halvable, half-falls, leaf-falls}
 use Rattle.tree.proofs.Failing.{none-passing}
-use Rattle.leaf_writing.proofs.Recording.{Recorded, recorded-start, recorded-length, recorded-room, recorded-half, recorded-leaf, recorded-done, writable-leaf, put}
+use Rattle.leaf_writing.proofs.Recording.{Recorded, recorded-start, recorded-length, recorded-room, recorded-half, recorded-leaf, recorded-done, writable-node, put}
 use Rattle.leaf_writing.proofs.write_curve.Statement.{statement}
 use Rattle.leaf_writing.proofs.write_curve.Tie as tie
 
@@ -56,7 +56,7 @@ put-record-requires : tie.Need-put-record-requires Inv-loop μ-loop
 put-record-requires c κs =
     let l = c .before .before .before .before .before in
     let p = l .loop .inv .1 in
-    (room l, l .before .pre .1, p .deep, p .some, rw (p .is) (writable-leaf (ready (l .before)) (l .loop .inv .0 .walking) (passes (c .before))))
+    (room l, l .before .pre .1, p .deep, p .some, rw (p .is) (writable-node (ready (l .before)) (l .loop .inv .0 .walking)))
 
 add-place : tie.Need-add-place Inv-loop μ-loop
 add-place c = let l = c .before .before .before .before .before .before .before in omega (arith, room l, recorded-length (l .loop .inv .0))

@@ -31,7 +31,7 @@ counted c =
 mul-if1 : tie.Need-mul-if1
 mul-if1 c =
     let s = c .before .before .before .before in
-    let r = s .pre .0 in
+    let r = s .pre in
     omega (arith, answer-few (s .args .t) (curvesOf (outlineFrom (s .args .curves) (s .args .ns .now) 0)) (counted c) (omega (arith, read-count r, r .few)))
 
 returns : tie.Need-returns
@@ -42,7 +42,7 @@ returns c =
 write-all-requires : tie.Need-write-all-requires
 write-all-requires c κs =
     let s = c .before .before .before .before .before .before in
-    rw (toZ-ofZ (s .fits .t)) (fillable (s .pre .0) (s .pre .1) (counted (c .before .before)) (c .before .if1 .left))
+    rw (toZ-ofZ (s .fits .t)) (fillable (s .pre) (s .args .t) (counted (c .before .before)) (c .before .if1 .left))
 
 mul-nodes : tie.Need-mul-nodes
 mul-nodes c = search needs
@@ -50,7 +50,8 @@ mul-nodes c = search needs
 sub-nodes : tie.Need-sub-nodes
 sub-nodes c =
     let s = c .before .before .before .before .before .before .before .before in
-    omega (arith, answer-nodes (s .args .t) (curvesOf (outlineFrom (s .args .curves) (s .args .ns .now) 0)) (counted (c .before .before .before .before)), read-count (s .pre .0))
+    let cs = curvesOf (outlineFrom (s .args .curves) (s .args .ns .now) 0) in
+    omega (arith, answer-nodes (s .args .t) cs (counted (c .before .before .before .before)), read-count (s .pre))
 
 returns-2 : tie.Need-returns-2
 returns-2 c =
@@ -68,7 +69,7 @@ returns-3 c =
     let s = c .before .before .before .before .before .before .before .before in
     let e = counted (c .before .before .before .before) in
     let h = c .before .before .before .if1 .left in (
-      report-done (s .pre .0) (s .args .t) e h,
+      report-done (s .pre) (s .args .t) e h,
       (rw (toZ-ofZ (s .fits .t)) at (c .before .write-all .ensures))
           ∙ answer-list (s .args .t) (curvesOf (outlineFrom (s .args .curves) (s .args .ns .now) 0)) e (s .args .records .now) h,
     )

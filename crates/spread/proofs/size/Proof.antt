@@ -1,18 +1,38 @@
 -- The size of a second difference, by its sign.
-use Rattle.integers.proofs.Machine.{fits!, flag! }
-use Rattle.row_sums.proofs.Coordinates.{bounded, holds! }
-use Rattle.spread.proofs.Spreads.{size-negative, size-other}
+use mathlib.Core.Path.{_∙_, ap}
+use mir.Syntax.{w64}
+use lib.IntN.{pos, _-ℤ_, negℤ, natAbs, +ℤ-idl}
+use Rattle.integers.proofs.Order.{gap, lt-le, nonneg}
+use Rattle.integers.proofs.Ranges.{stored, lt-yes, lt-no}
+use Rattle.integers.proofs.Size.{abs-neg}
+use Rattle.integers.proofs.Machine.{fits!, unsigned!, unsigned-is!, flag! }
+use Rattle.row_sums.proofs.Coordinates.{bounded}
+use Rattle.spread.proofs.Spreads.{same-size}
 use Rattle.spread.proofs.size.Statement.{statement}
 use Rattle.spread.proofs.size.Tie as tie
 
 sub-result : tie.Need-sub-result
 sub-result c = fits! (search (c .before .pre, bounded) depth 40) tt
 
+cast-result : tie.Need-cast-result
+cast-result c =
+    let δ = c .before .args .difference in
+    unsigned! (stored w64 (pos 0 -ℤ stored w64 δ)) (search (c .before .pre, bounded) depth 40) tt
+    (gap {a = δ} {b = pos 0} (lt-le (lt-yes (flag! (c .if1 .taken) (search (c .before .pre, bounded) depth 40) tt))))
+
+cast-result-2 : tie.Need-cast-result-2
+cast-result-2 c = unsigned! (stored w64 (c .before .args .difference)) (search (c .before .pre, bounded) depth 40) tt
+    (nonneg (lt-no (flag! (c .if1 .left) (search (c .before .pre, bounded) depth 40) tt)))
+
 returns : tie.Need-returns
-returns c = holds! (search (c .before .pre, bounded) depth 40) tt (size-negative (c .before .args .difference) (flag! (c .if1 .taken) (search (c .before .pre, bounded) depth 40) tt))
+returns c =
+    let δ = c .before .args .difference in
+    same-size
+    (unsigned-is! (stored w64 (pos 0 -ℤ stored w64 δ)) (search (c .before .pre, bounded) depth 40) tt ∙ ap natAbs (+ℤ-idl (negℤ δ)) ∙ abs-neg δ)
+    (c .before .pre)
 
 returns-2 : tie.Need-returns-2
-returns-2 c = holds! (search (c .before .pre, bounded) depth 40) tt (size-other (c .before .args .difference) (flag! (c .if1 .left) (search (c .before .pre, bounded) depth 40) tt))
+returns-2 c = same-size (unsigned-is! (stored w64 (c .before .args .difference)) (search (c .before .pre, bounded) depth 40) tt) (c .before .pre)
 
 pub size-spec : {M : Type 1} → statement M
-size-spec = tie.close (tie.spec sub-result returns returns-2)
+size-spec = tie.close (tie.spec sub-result cast-result cast-result-2 returns returns-2)

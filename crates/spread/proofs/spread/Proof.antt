@@ -1,14 +1,28 @@
 -- The spread of one coordinate, by the degree.
-use mathlib.Core.Path.{_≡_, _∙_, ap, ap₂}
+use mathlib.Core.Path.{_≡_, ap}
+use Prim.Native.Nat.{ℕ, _-_, _*_, _%_, _^_}
 use native.Mathlib.Omega.{arith}
-use lib.IntN.{pos, natAbs, _+ℤ_, _*ℤ_}
-use Rattle.integers.proofs.Machine.{fits! }
-use Rattle.spread.specs.Spread.{larger}
-use Rattle.row_sums.proofs.Coordinates.{bounded, holds!, small!, stored-is, restored}
-use Rattle.spread.proofs.Spreads.{spread-line, spread-quadratic, spread-cubic, larger-holds}
 use borrow.Author.Needs.{needs}
+use Rattle.row_sums.proofs.Coordinates.{shift-small}
+use Rattle.spread.proofs.Spreads.{unit, unit-is, unit-some, size-is, line-spreads, quadratic-spreads, cubic-spreads}
 use Rattle.spread.proofs.spread.Statement.{statement}
 use Rattle.spread.proofs.spread.Tie as tie
+
+mul-shift : tie.Need-mul-shift
+mul-shift c = omega (arith, shift-small (c .pre .0 .most) (c .pre .1))
+
+cast-more : tie.Need-cast-more
+cast-more c = omega (arith, shift-small (c .pre .0 .most) (c .pre .1))
+
+shl-more : tie.Need-shl-more
+shl-more c = omega (arith, shift-small (c .pre .0 .most) (c .pre .1))
+
+sub-more : tie.Need-sub-more
+sub-more c = rw (unit-is (shift-small (c .pre .0 .most) (c .pre .1))) (unit-some (c .args .degree * c .args .depth))
+
+-- one less than the denominator, as the code holds it
+less : (s : tie.Start) → unit (s .args .degree * s .args .depth) % 2 ^ 64 - 1 ≡ unit (s .args .degree * s .args .depth) - 1
+less s = ap (λ (q : ℕ). q - 1) (unit-is (shift-small (s .pre .0 .most) (s .pre .1)))
 
 difference-at-requires : tie.Need-difference-at-requires
 difference-at-requires c κs = search needs
@@ -16,8 +30,11 @@ difference-at-requires c κs = search needs
 size-requires : tie.Need-size-requires
 size-requires c κs = search needs
 
-mul-result : tie.Need-mul-result
-mul-result c = fits! (search bounded depth 40) tt
+mul-whole : tie.Need-mul-whole
+mul-whole c = search needs
+
+whole-requires : tie.Need-whole-requires
+whole-requires c κs = let s = c .before .before .before in (omega (arith, c .size .ensures .1), less s, shift-small (s .pre .0 .most) (s .pre .1))
 
 difference-at-requires-2 : tie.Need-difference-at-requires-2
 difference-at-requires-2 c κs = search needs
@@ -31,63 +48,76 @@ difference-at-requires-3 c κs = search needs
 size-requires-3 : tie.Need-size-requires-3
 size-requires-3 c κs = search needs
 
-mul-larger : tie.Need-mul-larger
-mul-larger c = fits! (search bounded depth 40) tt
+mul-whole-2 : tie.Need-mul-whole-2
+mul-whole-2 c = search needs
 
-mul-larger-2 : tie.Need-mul-larger-2
-mul-larger-2 c = fits! (search bounded depth 40) tt
+mul-whole-3 : tie.Need-mul-whole-3
+mul-whole-3 c = search needs
 
-add-larger : tie.Need-add-larger
-add-larger c = fits! (search bounded depth 40) tt
+add-whole : tie.Need-add-whole
+add-whole c = search needs
 
-mul-larger-3 : tie.Need-mul-larger-3
-mul-larger-3 c = fits! (search bounded depth 40) tt
+whole-requires-2 : tie.Need-whole-requires-2
+whole-requires-2 c κs =
+    let s = c .before .before .before .before .before in
+    (omega (arith, c .before .before .size2 .ensures .1, c .size3 .ensures .1), less s, shift-small (s .pre .0 .most) (s .pre .1))
 
-mul-larger-4 : tie.Need-mul-larger-4
-mul-larger-4 c = fits! (search bounded depth 40) tt
+mul-whole-4 : tie.Need-mul-whole-4
+mul-whole-4 c = search needs
 
-add-larger-2 : tie.Need-add-larger-2
-add-larger-2 c = fits! (search bounded depth 40) tt
+mul-whole-5 : tie.Need-mul-whole-5
+mul-whole-5 c = search needs
 
-larger-requires : tie.Need-larger-requires
-larger-requires c κs = (small! (search bounded depth 40) tt, small! (search bounded depth 40) tt)
+add-whole-2 : tie.Need-add-whole-2
+add-whole-2 c = search needs
+
+whole-requires-3 : tie.Need-whole-requires-3
+whole-requires-3 c κs =
+    let s = c .before .before .before .before .before .before in
+    (omega (arith, c .before .before .before .size2 .ensures .1, c .before .size3 .ensures .1), less s, shift-small (s .pre .0 .most) (s .pre .1))
 
 returns : tie.Need-returns
-returns c = rw (c .match .keys1) (holds! (search bounded depth 40) tt (spread-line (c .before .args .c)))
+returns c = line-spreads (c .before .args .depth) (c .before .args .c) (c .match .keys1)
 
 returns-2 : tie.Need-returns-2
 returns-2 c =
-    let b = c .before .before in
-    rw (b .match .keys2) (holds! (search bounded depth 40) tt
-    (ap (λ δ. pos 278 *ℤ pos (natAbs δ)) (stored-is (c .before .difference-at .ensures) tt) ∙ spread-quadratic (b .before .args .c)))
+    let m = c .before .before .before in
+    let size = size-is (c .before .before .difference-at .ensures) (c .before .size .ensures .0) in
+    quadratic-spreads (m .before .args .depth) (m .before .args .c) (m .match .keys2) size (c .whole .ensures)
 
 returns-3 : tie.Need-returns-3
 returns-3 c =
-    let b = c .before .before .before .before .before in
-    let e : b .before .args .degree ≡ 3 = omega arith in
-    rw e (restored (larger-holds (c .larger .ensures) (search bounded depth 40) (search bounded depth 40) tt
-    (ap₂ (λ x y. larger (pos 697 *ℤ pos (natAbs x) +ℤ pos 193 *ℤ pos (natAbs y)) (pos 193 *ℤ pos (natAbs x) +ℤ pos 697 *ℤ pos (natAbs y)))
-    (stored-is (c .before .before .before .before .difference-at2 .ensures) tt) (stored-is (c .before .before .difference-at3 .ensures) tt)
-    ∙ spread-cubic (b .before .args .c))) tt)
+    let b = c .before .before in
+    let m = b .before .before .before .before in
+    let a = m .before .args in
+    let e : a .degree ≡ 3 = omega (arith, m .before .pre .0 .most, m .before .pre .0 .least) in
+    cubic-spreads (a .depth) (a .c) e (size-is (b .before .before .before .difference-at2 .ensures) (b .before .before .size2 .ensures .0))
+    (size-is (b .before .difference-at3 .ensures) (b .size3 .ensures .0)) (c .before .whole2 .ensures) (c .whole3 .ensures)
 
 pub spread-spec : {M : Type 1} → statement M
 spread-spec =
     tie.close
     (tie.spec
+    mul-shift
+    cast-more
+    shl-more
+    sub-more
     difference-at-requires
     size-requires
-    mul-result
+    mul-whole
+    whole-requires
     difference-at-requires-2
     size-requires-2
     difference-at-requires-3
     size-requires-3
-    mul-larger
-    mul-larger-2
-    add-larger
-    mul-larger-3
-    mul-larger-4
-    add-larger-2
-    larger-requires
+    mul-whole-2
+    mul-whole-3
+    add-whole
+    whole-requires-2
+    mul-whole-4
+    mul-whole-5
+    add-whole-2
+    whole-requires-3
     returns
     returns-2
     returns-3)

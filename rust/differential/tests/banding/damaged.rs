@@ -50,7 +50,7 @@ impl Fault {
 /// Every fault's number.
 const NUMBERS: [u32; 9] = [1, 2, 3, 4, 5, 6, 7, 8, 17];
 
-/// Curves that are accepted at every tolerance from 2, each from where the one before ends; the first is
+/// Curves that are accepted at every tolerance from 3, each from where the one before ends; the first is
 /// from where the last ends.
 const CURVES: [&[i32]; 4] = [
     &[3, 0, 0, 10, 30, 20, 30, 30, 0],
@@ -59,7 +59,7 @@ const CURVES: [&[i32]; 4] = [
     &[3, -20, 5, 800, -700, -600, 500, 0, 0],
 ];
 
-/// A curve with the ends of another whose first node at depth 8 does not meet 2.
+/// A curve with the ends of another whose first node at depth 8 does not meet 3.
 fn wide(curve: &[i32]) -> Vec<i32> {
     let ([_, x, y, ..], [.., end_x, end_y]) = (curve, curve) else { panic!("a curve has two points") };
     vec![3, *x, *y, *x, EDGE, *x, EDGE, *end_x, *end_y]
@@ -86,7 +86,7 @@ fn plant(count: usize, faults: &[Fault]) -> Option<Planted> {
     if empty && faults.iter().any(|fault| !matches!(fault, Empty | Tolerance(_))) {
         return None;
     }
-    let (mut count, mut tolerance, mut room) = (if empty { 0 } else { count }, 2, Room::Enough);
+    let (mut count, mut tolerance, mut room) = (if empty { 0 } else { count }, 3, Room::Enough);
     for &fault in faults {
         match fault {
             Tolerance(bad) => tolerance = bad,

@@ -6,21 +6,24 @@ use differential::random::Random;
 
 const OUTLINES: u64 = 10_000;
 
-/// The widest box side of one record.
-fn width(record: &[i32]) -> i32 {
-    let sides = record[2..].chunks_exact(2).map(|bounds| bounds[1] - bounds[0]);
-    sides.max().expect("a record has boxes")
+/// The least tolerance that one record meets: its longest diagonal, rounded up.
+fn least_tolerance(record: &[i32]) -> i32 {
+    let square = |low: i32, high: i32| i64::from(high - low).pow(2);
+    let diagonals = record[2..].chunks_exact(4).map(|b| square(b[0], b[1]) + square(b[2], b[3]));
+    let longest = diagonals.max().expect("a record has boxes");
+    let down = longest.isqrt();
+    (if down * down < longest { down + 1 } else { down }) as i32
 }
 
 #[test]
-fn tolerances_equal_to_a_width_and_one_less() {
+fn tolerances_that_a_node_just_meets_and_one_less() {
     let seed = 301;
-    let mut comparison = Comparison::new("banding, tolerances at the widths of nodes, seed 301", seed);
+    let mut comparison = Comparison::new("banding, tolerances at the diagonals of nodes, seed 301", seed);
     let mut random = Random::new(seed);
     for _ in 0..OUTLINES {
         let outline = outline(&mut random);
         comparison.tally.outlines += 1;
-        // From the widest tolerance downwards: the width of a leaf, then one less, which splits it.
+        // From the greatest tolerance downwards: the least that a leaf meets, then one less, which splits it.
         let mut tolerance = EDGE;
         for _ in 0..4 {
             let answer = comparison.band_into_every_length(&outline, tolerance);
@@ -28,7 +31,7 @@ fn tolerances_equal_to_a_width_and_one_less() {
                 break;
             };
             let records: Vec<&[i32]> = comparison.records(leaves).chunks_exact(18).collect();
-            let exact = width(random.pick(&records));
+            let exact = least_tolerance(random.pick(&records));
             if exact < 3 {
                 break;
             }

@@ -13,7 +13,7 @@ fn the_most_leaves() {
     for _ in 0..5 {
         let mut outline = deepest(&mut random);
         comparison.tally.outlines += 1;
-        let answer = comparison.band_into_every_length(&outline, 2);
+        let answer = comparison.band_into_every_length(&outline, 3);
         assert_eq!(answer, Accepted { curves: 64, leaves: 16_384, nodes: 32_704 });
         // The last curve alone is too wide: that comes before the list, however short.
         let last = outline.len() - 9;
@@ -21,7 +21,7 @@ fn the_most_leaves() {
         let far = if y > 0 { -EDGE } else { EDGE };
         outline[last..].copy_from_slice(&[3, x, y, x, far, x, far, x, y]);
         comparison.tally.outlines += 1;
-        let answer = comparison.band_into_every_length(&outline, 2);
+        let answer = comparison.band_into_every_length(&outline, 3);
         assert_eq!(answer, Refused(7, 512 * 63 + 256));
     }
     comparison.report();

@@ -12,17 +12,17 @@ fn the_most_leaves() {
     let mut random = Random::new(731);
     let outline = deepest(&mut random);
     let mut records = vec![0; 18 * 64 * 256];
-    let report = contour_band::band(&outline, 2, &mut records).expect("the outline is accepted");
+    let report = contour_band::band(&outline, 3, &mut records).expect("the outline is accepted");
     assert_eq!(report.leaves, 16_384);
     let list = LeafList::new(records);
     for _ in 0..200 {
         let (x, y) = list.point(&mut random);
-        comparison.judge_band(&outline, 2, &list.numbers, x, y);
+        comparison.judge_band(&outline, 3, &list.numbers, x, y);
     }
     for curve in curves(&outline) {
         for p in 0..=4 {
             let point = curve.whole_point(p, 4).expect("quarters of these are whole");
-            comparison.judge_of_curve(&outline, 2, &list.numbers, point);
+            comparison.judge_of_curve(&outline, 3, &list.numbers, point);
         }
     }
     // The last number of all.

@@ -1,4 +1,4 @@
--- The sums of row times difference, by the degree.
+-- The sums of row times difference for the highs, by the degree.
 use mathlib.Core.Path.{_≡_, _∙_, ap, ap₂}
 use Prim.Native.Nat.{zero-le}
 use native.Mathlib.Omega.{arith}
@@ -8,8 +8,8 @@ use Rattle.rows.specs.Rows.{thirds}
 use Rattle.enclosure.specs.Bounds.{rowSum}
 use Rattle.row_sums.specs.Terms.{term}
 use Rattle.row_sums.proofs.Coordinates.{each-by, four-hold, four-as, one-of, stored-is, sum-line, sum-one, sum-two}
-use Rattle.row_sums.proofs.row_sums.Statement.{statement}
-use Rattle.row_sums.proofs.row_sums.Tie as tie
+use Rattle.row_sums.proofs.high_sums.Statement.{statement}
+use Rattle.row_sums.proofs.high_sums.Tie as tie
 
 difference-at-requires : tie.Need-difference-at-requires
 difference-at-requires c κs = search needs
@@ -36,25 +36,29 @@ returns : tie.Need-returns
 returns c =
     let a = c .before .args in
     rw (c .match .keys1) (four-hold (λ i. rowSum (thirds 1) i 0 (a .c))
-    (record { is = sum-line 0 (a .c); size = zero-le }) (record { is = sum-line 1 (a .c); size = zero-le }) (record { is = sum-line 2 (a .c); size = zero-le }) (record { is = sum-line 3 (a .c); size = zero-le }))
+    (record { is = sum-line 0 (a .c); size = zero-le }) (record { is = sum-line 1 (a .c); size = zero-le })
+    (record { is = sum-line 2 (a .c); size = zero-le }) (record { is = sum-line 3 (a .c); size = zero-le }))
 
 returns-2 : tie.Need-returns-2
 returns-2 c =
     let b = c .before .before in
-    rw (b .match .keys2) (four-as tt (λ i h. ap (term _ _ i) (stored-is (c .before .difference-at .ensures) tt) ∙ sum-one _ _ i (b .before .args .c)) (c .row-terms .ensures))
+    let δ = stored-is (c .before .difference-at .ensures) tt in
+    rw (b .match .keys2) (four-as tt (λ i h. ap (term _ _ i) δ ∙ sum-one _ _ i (b .before .args .c)) (c .row-terms .ensures))
 
 returns-3 : tie.Need-returns-3
 returns-3 c =
     let b = c .before .before .before .before .before in
     let e : b .before .args .degree ≡ 3 = omega arith in
+    let δ₀ = stored-is (c .before .before .before .before .difference-at2 .ensures) tt in
+    let δ₁ = stored-is (c .before .before .difference-at3 .ensures) tt in
     rw e (four-as tt (λ i h.
     ap₂ _+ℤ_
-    (one-of (c .before .before .before .row-terms2 .ensures) i h .is ∙ ap (term _ _ i) (stored-is (c .before .before .before .before .difference-at2 .ensures) tt))
-    (one-of (c .before .row-terms3 .ensures) i h .is ∙ ap (term _ _ i) (stored-is (c .before .before .difference-at3 .ensures) tt))
+    (one-of (c .before .before .before .row-terms2 .ensures) i h .is ∙ ap (term _ _ i) δ₀)
+    (one-of (c .before .row-terms3 .ensures) i h .is ∙ ap (term _ _ i) δ₁)
     ∙ sum-two _ _ i (b .before .args .c) _ _) (c .added .ensures))
 
-pub row-sums-spec : {M : Type 1} → statement M
-row-sums-spec =
+pub high-sums-spec : {M : Type 1} → statement M
+high-sums-spec =
     tie.close
     (tie.spec
     difference-at-requires
