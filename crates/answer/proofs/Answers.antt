@@ -14,23 +14,23 @@ use Rattle.integers.proofs.Clash.{clash}
 use Rattle.refusals.specs.declared.Refusal.{Refusal}
 use Rattle.refusals.specs.declared.Refusal.the-variants.{TextTooLong}
 use Rattle.boxes.specs.Records.{recordLength}
-use Rattle.banding.specs.declared.Banded.{Banded}
-use Rattle.banding.specs.declared.Banded.the-variants.{Done, Refused}
-use Rattle.banding.specs.Banding.{written}
-use Rattle.banding.proofs.Theorems.{done-exactly, written-some, written-sound}
+use Rattle.band.specs.declared.banding.Banded.{Banded}
+use Rattle.band.specs.declared.banding.Banded.the-variants.{Done, Refused}
+use Rattle.band.specs.Banding.{written}
+use Rattle.band.proofs.Theorems.{done-exactly, written-some, written-sound}
 use Rattle.engine.proofs.Outcomes.{done-room}
 use Rattle.engine.proofs.Passing.{length-fine, no-bad-number}
-use Rattle.appends.specs.Appends.{Appended, Within}
-use Rattle.appends.proofs.Appends.{append-both, within}
-use Rattle.forms.specs.declared.Form.{Form}
-use Rattle.forms.specs.declared.Form.the-variants.{Tolerance, Curve, Point, NoForm}
-use Rattle.text.specs.Lines.{linesOf, gather}
-use Rattle.text.specs.Meaning.{Meaning, refused, means, meaning, meaningOf, mostBytes, unless, faultFrom, curveNumbers, pointOf}
-use Rattle.render.specs.Answers.{refusedLine}
-use Rattle.band_answers.specs.Bands.{bandOf, recordsOf}
-use Rattle.band_lines.specs.BandLines.{bandLines}
-use Rattle.point_answers.specs.Points.{LeavesFine, pointLines, lineAnswer}
-use Rattle.point_answers.proofs.Judging.{points-gathered}
+use Rattle.write_numbers.specs.Appends.{Appended, Within}
+use Rattle.write_numbers.proofs.Appends.{append-both, within}
+use Rattle.text_forms.specs.declared.forms.Form.{Form}
+use Rattle.text_forms.specs.declared.forms.Form.the-variants.{Tolerance, Curve, Point, NoForm}
+use Rattle.text_lines.specs.Lines.{linesOf, gather}
+use Rattle.text_lines.specs.Meaning.{Meaning, refused, means, meaning, meaningOf, mostBytes, unless, faultFrom, curveNumbers, pointOf}
+use Rattle.write_lines.specs.Answers.{refusedLine}
+use Rattle.answer.specs.Bands.{bandOf, recordsOf}
+use Rattle.write_lines.specs.BandLines.{bandLines}
+use Rattle.answer.specs.Points.{LeavesFine, pointLines, lineAnswer}
+use Rattle.answer.proofs.Judging.{points-gathered}
 use Rattle.answer.specs.Answers.{lent, pointsOf, lines, answerTo, answerOf}
 
 -- ---- where a band is done

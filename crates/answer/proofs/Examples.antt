@@ -4,37 +4,37 @@ use mathlib.Core.List.{List, [], _∷_}
 use Prim.Native.Nat.{ℕ}
 use lib.IntN.{pow, one}
 use Rattle.integers.specs.Rounding.{floor, ceiling}
-use Rattle.halves.specs.Halves.{triangle, left, right}
-use Rattle.bezier.specs.Halves.{leftHalf, rightHalf}
-use Rattle.bezier.specs.Nodes.{descendIn, descend, depth, nodeCurve}
-use Rattle.enclosure.specs.Bounds.{rowSum, high, low}
-use Rattle.node_boxes.specs.Boxes.{boxAt, meets}
-use Rattle.outline_curves.specs.Curves.{curveAt}
+use Rattle.curve_halves.specs.Halves.{triangle, left, right}
+use Rattle.curve_nodes.specs.Halves.{leftHalf, rightHalf}
+use Rattle.curve_nodes.specs.Nodes.{descendIn, descend, depth, nodeCurve}
+use Rattle.bound_enclosure.specs.Bounds.{rowSum, high, low}
+use Rattle.bound_node.specs.Boxes.{boxAt, meets}
+use Rattle.outline.specs.Curves.{curveAt}
 use Rattle.integers.specs.First.{firstBad}
-use Rattle.curve_faults.specs.Faults.{faultAt}
+use Rattle.outline.specs.Faults.{faultAt}
 use Rattle.outline.specs.Checks.{outlineFrom, outlined}
-use Rattle.tree.specs.Tree.{ends, met, firstFailing}
-use Rattle.records.specs.Records.{recordOf, allRecords}
-use Rattle.records.specs.Records as Records
-use Rattle.passes.specs.Leaves.{firstTooWide, leavesOf, nodesOf}
-use Rattle.banding.specs.Banding.{bandCurves, banded, written}
-use Rattle.numerals.specs.Numerals.{valueFrom, digitCount, naturalAt, numberAt}
-use Rattle.pairs.specs.Pairs as Pairs
-use Rattle.forms.specs.Forms as Forms
-use Rattle.text.specs.Lines.{linesFrom, linesOf, gather}
-use Rattle.text.specs.Meaning.{numbersOf, faultFrom, meaningOf, meaning}
-use Rattle.text.proofs.Examples.{listing}
-use Rattle.digits.specs.Digits.{digits}
-use Rattle.decimals.specs.Decimals.{decimal, spaced, spacedNatural}
-use Rattle.render.specs.Answers.{doneLine, refusedLine, onLine}
-use Rattle.box_bytes.specs.Boxes.{fourNumbers, boxBytes, boxesBytes}
-use Rattle.leaf_lines.specs.Leaves.{leafLine, leafLines}
-use Rattle.leaf_list.specs.Checks.{numberFault}
-use Rattle.held.specs.Deciding.{held}
-use Rattle.judging.specs.Judging.{judgingFault}
-use Rattle.judging.specs.Judgements.{firstHeld, judgement}
-use Rattle.band_lines.specs.BandLines.{bandLines}
-use Rattle.point_answers.specs.Points.{pointLine, pointLines}
+use Rattle.walk_tree.specs.Tree.{ends, met, firstFailing}
+use Rattle.band_records.specs.Records.{recordOf, allRecords}
+use Rattle.band_records.specs.Records as Records
+use Rattle.band_passes.specs.Leaves.{firstTooWide, leavesOf, nodesOf}
+use Rattle.band.specs.Banding.{bandCurves, banded, written}
+use Rattle.text_numbers.specs.Numerals.{valueFrom, digitCount, naturalAt, numberAt}
+use Rattle.text_forms.specs.Pairs as Pairs
+use Rattle.text_forms.specs.Forms as Forms
+use Rattle.text_lines.specs.Lines.{linesFrom, linesOf, gather}
+use Rattle.text_lines.specs.Meaning.{numbersOf, faultFrom, meaningOf, meaning}
+use Rattle.text_lines.proofs.Examples.{listing}
+use Rattle.write_numbers.specs.Digits.{digits}
+use Rattle.write_numbers.specs.Decimals.{decimal, spaced, spacedNatural}
+use Rattle.write_lines.specs.Answers.{doneLine, refusedLine, onLine}
+use Rattle.write_leaves.specs.Boxes.{fourNumbers, boxBytes, boxesBytes}
+use Rattle.write_leaves.specs.Leaves.{leafLine, leafLines}
+use Rattle.judge_list.specs.Checks.{numberFault}
+use Rattle.judge_cover.specs.Deciding.{held}
+use Rattle.judge.specs.Judging.{judgingFault}
+use Rattle.judge.specs.Judgements.{firstHeld, judgement}
+use Rattle.write_lines.specs.BandLines.{bandLines}
+use Rattle.answer.specs.Points.{pointLine, pointLines}
 use Rattle.answer.specs.Answers.{answerTo, answerOf}
 
 -- what the examples compute through

@@ -8,22 +8,22 @@ use native.Mathlib.Omega.{arith}
 use lib.ListN.{length, replicate, length-replicate, getD}
 use lib.IntN.{ℤ, pos}
 use Rattle.boxes.specs.Records.{recordLength}
-use Rattle.banding.specs.declared.Banded.the-variants.{Done}
-use Rattle.banding.specs.Banding.{banded}
-use Rattle.banding.proofs.Theorems.{done-exactly, written-sound}
-use Rattle.judging.specs.declared.Judgement.{Judgement}
-use Rattle.judging.specs.declared.Judgement.the-variants.{On, Off, Refused}
-use Rattle.judging.specs.Judging.{pointFault, judgingFault, Verdict, Judged}
-use Rattle.judging.specs.Judgements.{judgement}
-use Rattle.judging.proofs.Answers.{judged-found}
-use Rattle.judging.proofs.Judgements.{is-judged}
+use Rattle.band.specs.declared.banding.Banded.the-variants.{Done}
+use Rattle.band.specs.Banding.{banded}
+use Rattle.band.proofs.Theorems.{done-exactly, written-sound}
+use Rattle.judge.specs.declared.judging.Judgement.{Judgement}
+use Rattle.judge.specs.declared.judging.Judgement.the-variants.{On, Off, Refused}
+use Rattle.judge.specs.Judging.{pointFault, judgingFault, Verdict, Judged}
+use Rattle.judge.specs.Judgements.{judgement}
+use Rattle.judge.proofs.Answers.{judged-found}
+use Rattle.judge.proofs.Judgements.{is-judged}
 use Rattle.engine.specs.Demand3.{IsOn, Demand3}
 use Rattle.engine.proofs.Demand3.{demand-3}
-use Rattle.text.specs.Meaning.{means, meaning}
-use Rattle.render.specs.Answers.{refusedLine, onLine, offLine}
-use Rattle.band_lines.specs.BandLines.{bandLines}
-use Rattle.point_answers.specs.Points.{lineOf, pointLine, pointLines}
-use Rattle.point_answers.proofs.Judging.{line-said, fault-fine}
+use Rattle.text_lines.specs.Meaning.{means, meaning}
+use Rattle.write_lines.specs.Answers.{refusedLine, onLine, offLine}
+use Rattle.write_lines.specs.BandLines.{bandLines}
+use Rattle.answer.specs.Points.{lineOf, pointLine, pointLines}
+use Rattle.answer.proofs.Judging.{line-said, fault-fine}
 use Rattle.answer.specs.Answers.{lent, lines, answerTo, answerOf}
 use Rattle.answer.proofs.Answers.{leaves-fine}
 use Rattle.answer.specs.TextDemand.{SaysOn, textRecords, textLeaves, PointAnswered, TextDemand3}

@@ -5,13 +5,13 @@ use Prim.Native.Nat.{ℕ, _*_}
 use lib.ListN.{take, replicate}
 use lib.IntN.{ℤ, pos}
 use Rattle.boxes.specs.Records.{recordLength}
-use Rattle.banding.specs.declared.Banded.{Banded}
-use Rattle.banding.specs.declared.Banded.the-variants.{Done, Refused}
-use Rattle.text.specs.Meaning.{Meaning, refused, means, meaning}
-use Rattle.render.specs.Answers.{refusedLine}
-use Rattle.band_answers.specs.Bands.{bandOf, recordsOf}
-use Rattle.band_lines.specs.BandLines.{bandLines}
-use Rattle.point_answers.specs.Points.{pointLines}
+use Rattle.band.specs.declared.banding.Banded.{Banded}
+use Rattle.band.specs.declared.banding.Banded.the-variants.{Done, Refused}
+use Rattle.text_lines.specs.Meaning.{Meaning, refused, means, meaning}
+use Rattle.write_lines.specs.Answers.{refusedLine}
+use Rattle.answer.specs.Bands.{bandOf, recordsOf}
+use Rattle.write_lines.specs.BandLines.{bandLines}
+use Rattle.answer.specs.Points.{pointLines}
 
 -- how many numbers are lent for records
 abbrev pub lent : ℕ

@@ -10,16 +10,16 @@ use lib.ListN.{take, replicate}
 use lib.IntN.{ℤ, pos}
 use Rattle.integers.specs.Entry.{entry}
 use Rattle.boxes.specs.Records.{recordLength}
-use Rattle.bezier.specs.declared.Curve.{Curve}
-use Rattle.bezier.specs.Points.{Equals}
-use Rattle.banding.specs.Banding.{written}
-use Rattle.banding.specs.Outcomes.{Flat}
-use Rattle.judging.specs.declared.Judgement.the-variants.{Off}
-use Rattle.judging.specs.Judging.{pointFault, FirstHolder, Verdict}
+use Rattle.curve_nodes.specs.declared.Curve.{Curve}
+use Rattle.curve_nodes.specs.Points.{Equals}
+use Rattle.band.specs.Banding.{written}
+use Rattle.band.specs.Outcomes.{Flat}
+use Rattle.judge.specs.declared.judging.Judgement.the-variants.{Off}
+use Rattle.judge.specs.Judging.{pointFault, FirstHolder, Verdict}
 use Rattle.engine.specs.Demand3.{CurveOf, Somewhere, Shallow}
-use Rattle.render.specs.Answers.{onLine, offLine}
-use Rattle.band_lines.specs.BandLines.{bandLines}
-use Rattle.point_answers.specs.Points.{pointLines}
+use Rattle.write_lines.specs.Answers.{onLine, offLine}
+use Rattle.write_lines.specs.BandLines.{bandLines}
+use Rattle.answer.specs.Points.{pointLines}
 use Rattle.answer.specs.Answers.{lent, answerOf}
 
 -- the line of a point says that it is on, with a record and a cover

@@ -3,12 +3,15 @@ ghost use mathlib.Core.Path.{_≡_};
 ghost use Prim.Native.Nat.{_≤_};
 ghost use lib.ListN.{length, replicate};
 ghost use lib.IntN.{pos};
-ghost use Rattle.appends.specs.Appends.{Within};
+ghost use Rattle.write_numbers.specs.Appends.{Within};
 ghost use Rattle.answer.specs.Answers.{lent, answerOf};
-use band_answers::band_text;
-use band_lines::put_band;
-use banding::Banded;
-use point_answers::put_points;
+use crate::band_answers::band_text;
+use crate::point_answers::put_points;
+use band::banding::Banded;
+use write_lines::band_lines::put_band;
+
+pub mod band_answers;
+pub mod point_answers;
 
 // Answers a text: the lines of its band and of its points, or of its first refusal, stand at the front of the list afterwards, as many bytes as are returned. Every
 // text may be asked about. Records are lent as document 01 says, 16,380 numbers.
@@ -27,7 +30,7 @@ fn answer_in(text: &[u8], numbers: &mut [i32], records: &mut [i32], out: &mut [u
 {
     let band = band_text(text, numbers, records);
     match band {
-        Banded::Refused(refusal) => render::put_refused(out, 0, refusal),
+        Banded::Refused(refusal) => write_lines::render::put_refused(out, 0, refusal),
         Banded::Done {
             curves,
             leaves,

@@ -2,11 +2,14 @@
 ghost use mathlib.Core.Path.{_≡_};
 ghost use Prim.Native.Nat.{_≤_};
 ghost use lib.ListN.{length};
-ghost use Rattle.banding.specs.Banding.{banded, written};
-use banding::Banded;
+ghost use Rattle.band.specs.Banding.{banded, written};
+use crate::banding::Banded;
+use crate::outline_band::band_curves;
 use outline::Checked;
-use outline_band::band_curves;
 use refusals::Refusal;
+
+pub mod banding;
+pub mod outline_band;
 
 // Puts a band round an outline, at a tolerance in sixteenths: the leaves' records stand at the front of the list afterwards, and what stood behind
 // them stays. A refusal alters nothing. Every outline, tolerance and list may be asked about.

@@ -9,11 +9,11 @@ use lib.IntN.{ℤ}
 use Rattle.refusals.specs.declared.Refusal.{Refusal}
 use Rattle.refusals.specs.Refusals.{numberOf, spotOf}
 use Rattle.boxes.specs.Records.{recordLength}
-use Rattle.judging.specs.declared.Judgement.{Judgement}
-use Rattle.judging.specs.declared.Judgement.the-variants.{On, Off, Refused}
-use Rattle.judging.specs.Judging.{judgingFault, FirstHolder, Verdict}
-use Rattle.c_answers.specs.declared.JudgingAnswer.{JudgingAnswer}
-use Rattle.c_answers.specs.Answers.{judgingAnswerOf}
+use Rattle.judge.specs.declared.judging.Judgement.{Judgement}
+use Rattle.judge.specs.declared.judging.Judgement.the-variants.{On, Off, Refused}
+use Rattle.judge.specs.Judging.{judgingFault, FirstHolder, Verdict}
+use Rattle.contour.specs.declared.c_answers.JudgingAnswer.{JudgingAnswer}
+use Rattle.contour.specs.CAnswers.{judgingAnswerOf}
 use Rattle.engine.specs.declared.Outcome.{Outcome}
 use Rattle.engine.specs.declared.Outcome.the-variants.{Refused as Outright, Judged}
 use Rattle.engine.specs.Outcomes.{writtenFor, Answered}

@@ -3,10 +3,10 @@ use mathlib.Core.Path.{_≡_}
 use mathlib.Core.List.{List}
 use lib.IntN.{ℤ}
 use Rattle.refusals.specs.Refusals.{numberOf, spotOf}
-use Rattle.judging.specs.declared.Judgement.{Judgement}
-use Rattle.judging.specs.Judging.{Judged}
-use Rattle.c_answers.specs.declared.JudgingAnswer.{JudgingAnswer}
-use Rattle.c_answers.specs.Answers.{judgingAnswerOf}
+use Rattle.judge.specs.declared.judging.Judgement.{Judgement}
+use Rattle.judge.specs.Judging.{Judged}
+use Rattle.contour.specs.declared.c_answers.JudgingAnswer.{JudgingAnswer}
+use Rattle.contour.specs.CAnswers.{judgingAnswerOf}
 use Rattle.engine.specs.declared.Outcome.{Outcome}
 use Rattle.engine.specs.declared.Outcome.the-variants.{Refused, Judged as WithJudgement}
 use Rattle.contour.specs.declared.OutcomeAnswer.{OutcomeAnswer}

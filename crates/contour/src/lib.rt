@@ -1,21 +1,23 @@
 // The C interface: what a program in another language calls. include/contour_band.h says the same for C.
 ghost use mathlib.Core.Path.{_≡_};
 ghost use lib.ListN.{length};
-ghost use Rattle.banding.specs.Banding.{banded, written};
-ghost use Rattle.drawing.specs.Drawing.{drawn, drawnInto};
-ghost use Rattle.c_answers.specs.Answers.{answerOf};
-ghost use Rattle.c_answers.specs.Drawings.{drawingOf};
+ghost use Rattle.band.specs.Banding.{banded, written};
+ghost use Rattle.draw.specs.Drawing.{drawn, drawnInto};
+ghost use Rattle.contour.specs.CAnswers.{answerOf};
+ghost use Rattle.contour.specs.Drawings.{drawingOf};
 ghost use Rattle.engine.specs.Outcomes.{writtenFor};
 ghost use Rattle.contour.specs.Answers.{outcomeAnswerOf, JudgedInNumbers, AnsweredInNumbers};
+use crate::c_answers::Answer;
+use crate::c_answers::Drawing;
+use crate::c_answers::JudgingAnswer;
+use crate::c_answers::drawing_in_numbers;
+use crate::c_answers::in_numbers;
+use crate::c_answers::judgement_in_numbers;
 use boxes::Box;
-use c_answers::Answer;
-use c_answers::Drawing;
-use c_answers::JudgingAnswer;
-use c_answers::drawing_in_numbers;
-use c_answers::in_numbers;
-use c_answers::judgement_in_numbers;
 use engine::Outcome;
 use engine::band_and_judge;
+
+pub mod c_answers;
 
 // Puts a band round an outline at a tolerance in sixteenths, and writes the leaves' records to the front of the list.
 #[no_mangle]
@@ -106,6 +108,6 @@ fn outcome_in_numbers(outcome: Outcome) -> OutcomeAnswer
 pub extern "C" fn contour_draw(first: Box, second: Box, vertices: &mut [i32]) -> Drawing
     ensures { λ r. ⌜ (r ≡ drawingOf (drawn first second (length (now (vertices .entry))))) × (now (vertices .exit) ≡ drawnInto first second (now (vertices .entry))) ⌝ }
 {
-    let drawn = cover::draw(first, second, vertices);
+    let drawn = draw::cover::draw(first, second, vertices);
     drawing_in_numbers(drawn)
 }

@@ -14,25 +14,25 @@ use Rattle.integers.proofs.Ring.{sides}
 use Rattle.integers.proofs.Between.{between-low}
 use Rattle.integers.proofs.Order.{NonNeg, gap, natural, nonneg-by, le-by, pos-lt, pow-positive, *ℤ-cancel, _+₀_, _×₀_}
 use Rattle.refusals.specs.declared.Refusal.{Refusal}
-use Rattle.bernstein.specs.Value.{choose, sum, value}
-use Rattle.halves.specs.Sizes.{Each}
-use Rattle.bezier.specs.declared.Curve.{Curve}
-use Rattle.bezier.specs.Nodes.{depth}
-use Rattle.bezier.specs.Points.{Equals, Near}
-use Rattle.bezier.specs.Differences.{largestOf, bend, largest}
-use Rattle.bezier.proofs.Points.{within-near}
-use Rattle.bezier.proofs.Values.{value-high, value-low}
+use Rattle.curve_bernstein.specs.Value.{choose, sum, value}
+use Rattle.curve_halves.specs.Sizes.{Each}
+use Rattle.curve_nodes.specs.declared.Curve.{Curve}
+use Rattle.curve_nodes.specs.Nodes.{depth}
+use Rattle.curve_nodes.specs.Points.{Equals, Near}
+use Rattle.curve_nodes.specs.Differences.{largestOf, bend, largest}
+use Rattle.curve_nodes.proofs.Points.{within-near}
+use Rattle.curve_nodes.proofs.Values.{value-high, value-low}
 use Rattle.boxes.specs.Records.{recordLength}
-use Rattle.outline_curves.specs.Curves.{curveAt}
-use Rattle.curve_faults.specs.Faults.{faultAt}
+use Rattle.outline.specs.Curves.{curveAt}
+use Rattle.outline.specs.Faults.{faultAt}
 use Rattle.outline.specs.Checks.{outlineFrom, outlined}
-use Rattle.banding.specs.declared.Banded.{Banded}
-use Rattle.banding.specs.declared.Banded.the-variants.{Done, Refused as NotBanded}
-use Rattle.banding.specs.Banding.{banded, written}
-use Rattle.banding.specs.Outcomes.{Flat}
-use Rattle.banding.proofs.Theorems.{done-exactly, refused-unaltered as banding-unaltered}
-use Rattle.judging.specs.declared.Judgement.{Judgement}
-use Rattle.judging.specs.Judging.{pointFault, Verdict, Judged as JudgedSo}
+use Rattle.band.specs.declared.banding.Banded.{Banded}
+use Rattle.band.specs.declared.banding.Banded.the-variants.{Done, Refused as NotBanded}
+use Rattle.band.specs.Banding.{banded, written}
+use Rattle.band.specs.Outcomes.{Flat}
+use Rattle.band.proofs.Theorems.{done-exactly, refused-unaltered as banding-unaltered}
+use Rattle.judge.specs.declared.judging.Judgement.{Judgement}
+use Rattle.judge.specs.Judging.{pointFault, Verdict, Judged as JudgedSo}
 use Rattle.engine.specs.declared.Outcome.the-variants.{Refused, Judged}
 use Rattle.engine.specs.Demand3.{CurveOf, IsOn, Somewhere, Shallow, Demand3}
 use Rattle.engine.specs.Outcomes.{JudgedAs, writtenFor, Answered}

@@ -9,25 +9,25 @@ use native.Mathlib.Omega.{arith}
 use lib.IntN.{ℤ}
 use Rattle.integers.specs.Entry.{entry}
 use Rattle.integers.proofs.Order.{gap, nonneg-natural, pos-le}
-use Rattle.bezier.specs.declared.Curve.{Curve}
-use Rattle.bezier.specs.Bounds.{Sized}
-use Rattle.bezier.specs.Nodes.{depth, start, nodeCurve}
-use Rattle.bezier.specs.Points.{Equals, Within}
-use Rattle.bezier.proofs.Coordinates.{nodeValues, node-curve}
-use Rattle.rows.specs.Rows.{pieces}
-use Rattle.enclosure.specs.Thirds.{lowOf, highOf}
-use Rattle.node_boxes.specs.Boxes.{boxAt}
-use Rattle.rows.proofs.Places.{located}
-use Rattle.node_test.proofs.Narrow.{Narrow, meets-narrow}
-use Rattle.tree.specs.Leaves.{Covers}
-use Rattle.walk.specs.Walked.{nodeMeets}
+use Rattle.curve_nodes.specs.declared.Curve.{Curve}
+use Rattle.curve_nodes.specs.Bounds.{Sized}
+use Rattle.curve_nodes.specs.Nodes.{depth, start, nodeCurve}
+use Rattle.curve_nodes.specs.Points.{Equals, Within}
+use Rattle.curve_nodes.proofs.Coordinates.{nodeValues, node-curve}
+use Rattle.bound_rows.specs.Rows.{pieces}
+use Rattle.bound_enclosure.specs.Thirds.{lowOf, highOf}
+use Rattle.bound_node.specs.Boxes.{boxAt}
+use Rattle.bound_rows.proofs.Places.{located}
+use Rattle.bound_node.proofs.Narrow.{Narrow, meets-narrow}
+use Rattle.walk_tree.specs.Leaves.{Covers}
+use Rattle.walk_curve.specs.Walked.{nodeMeets}
 use Rattle.boxes.specs.declared.Box.{Box}
 use Rattle.boxes.specs.Records.{recordLength, boxIndex, boxAtIndex}
-use Rattle.records.specs.Records.{boxNumbers, recordOf}
-use Rattle.records.proofs.Sound.{record-box}
-use Rattle.records.proofs.Standing.{Stands}
-use Rattle.held.specs.Covers.{Holds}
-use Rattle.mixtures.proofs.Mixtures.{upP, upR, down-sum, point-mixed, mixed-within}
+use Rattle.band_records.specs.Records.{boxNumbers, recordOf}
+use Rattle.band_records.proofs.Sound.{record-box}
+use Rattle.band_records.proofs.Standing.{Stands}
+use Rattle.judge_cover.specs.Covers.{Holds}
+use Rattle.engine.proofs.Mixtures.{upP, upR, down-sum, point-mixed, mixed-within}
 
 -- one of the covers between these boxes holds the point
 pub record Held (box : ℕ → Box) (x y : ℤ) : Type 0 where

@@ -11,34 +11,34 @@ use lib.IntN.{ℤ, pos}
 use Rattle.integers.specs.Entry.{entry}
 use Rattle.integers.proofs.Clash.{clash}
 use Rattle.refusals.specs.declared.Refusal.{Refusal}
-use Rattle.bezier.specs.declared.Curve.{Curve}
-use Rattle.halves.specs.Sizes.{Each}
-use Rattle.bezier.specs.Bounds.{Sized}
-use Rattle.bezier.specs.Points.{Equals}
-use Rattle.bezier.proofs.Sizes.{each-wider}
+use Rattle.curve_nodes.specs.declared.Curve.{Curve}
+use Rattle.curve_halves.specs.Sizes.{Each}
+use Rattle.curve_nodes.specs.Bounds.{Sized}
+use Rattle.curve_nodes.specs.Points.{Equals}
+use Rattle.curve_nodes.proofs.Sizes.{each-wider}
 use Rattle.boxes.specs.Records.{covers, recordLength}
 use Rattle.outline.specs.Checks.{Outlined, curves}
 use Rattle.outline.proofs.Accepted.{outlined-from, accepted-all}
-use Rattle.walk.specs.Walked.{deepest, nodeMeets}
-use Rattle.tree.proofs.Leaves.{end-facts}
-use Rattle.banding.specs.declared.Banded.the-variants.{Done}
-use Rattle.records.specs.Records.{recordOf, allRecords}
-use Rattle.banding.specs.Banding.{banded, written}
-use Rattle.records.specs.Ranges.{SoundList}
-use Rattle.passes.specs.Meeting.{AllMeet}
-use Rattle.banding.specs.Outcomes.{Faultless, Flat}
-use Rattle.records.proofs.Sound.{record-curve, record-node}
-use Rattle.records.proofs.Standing.{Found, every-end-stands, every-record-stands}
-use Rattle.banding.proofs.Theorems.{done-exactly, records-written, written-some, written-sound, leaves-exactly, every-parameter, leaf-at-most}
-use Rattle.held.specs.Covers.{Holds, CoverHolds}
-use Rattle.judging.specs.declared.Judgement.{Judgement}
-use Rattle.judging.specs.declared.Judgement.the-variants.{On, Off, Refused}
-use Rattle.judging.specs.Judging.{Verdict, Judged}
-use Rattle.judging.proofs.Judgements.{judged-on}
+use Rattle.walk_curve.specs.Walked.{deepest, nodeMeets}
+use Rattle.walk_tree.proofs.Leaves.{end-facts}
+use Rattle.band.specs.declared.banding.Banded.the-variants.{Done}
+use Rattle.band_records.specs.Records.{recordOf, allRecords}
+use Rattle.band.specs.Banding.{banded, written}
+use Rattle.band_records.specs.Ranges.{SoundList}
+use Rattle.band_passes.specs.Meeting.{AllMeet}
+use Rattle.band.specs.Outcomes.{Faultless, Flat}
+use Rattle.band_records.proofs.Sound.{record-curve, record-node}
+use Rattle.band_records.proofs.Standing.{Found, every-end-stands, every-record-stands}
+use Rattle.band.proofs.Theorems.{done-exactly, records-written, written-some, written-sound, leaves-exactly, every-parameter, leaf-at-most}
+use Rattle.judge_cover.specs.Covers.{Holds, CoverHolds}
+use Rattle.judge.specs.declared.judging.Judgement.{Judgement}
+use Rattle.judge.specs.declared.judging.Judgement.the-variants.{On, Off, Refused}
+use Rattle.judge.specs.Judging.{Verdict, Judged}
+use Rattle.judge.proofs.Judgements.{judged-on}
 use Rattle.engine.specs.Meeting.{HeldAt}
 use Rattle.engine.specs.Demand3.{CurveOf, IsOn, Somewhere, Shallow, Demand3}
 use Rattle.engine.proofs.Passing.{coordinate-fine, none-refused}
-use Rattle.mixtures.proofs.Mixtures.{upP, upR, up-some}
+use Rattle.engine.proofs.Mixtures.{upP, upR, up-some}
 use Rattle.engine.proofs.Covers.{nodeBox, box-there, point-held, held-near}
 
 -- ---- what an answer of judging says

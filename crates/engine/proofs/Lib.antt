@@ -1,3 +1,5 @@
+-- The laws that take a point of a node's curve to a mixture of its boxes, and back.
+pub mod Mixtures
 -- Demand 3, the laws behind it and what follows from it, and the starred examples. Each file opens with what it holds.
 pub mod Passing
 pub mod Covers

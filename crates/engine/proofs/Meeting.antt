@@ -7,18 +7,18 @@ use lib.ListN.{length, take}
 use lib.IntN.{ℤ, pos, _*ℤ_}
 use Rattle.integers.specs.Entry.{entry}
 use Rattle.integers.proofs.RingLaws.{one-*ℤ}
-use Rattle.bezier.specs.declared.Curve.{Curve}
-use Rattle.bezier.specs.Points.{scaled, sixteenths, Equals}
-use Rattle.bernstein.proofs.Ends.{value-start, value-end, one-powers}
+use Rattle.curve_nodes.specs.declared.Curve.{Curve}
+use Rattle.curve_nodes.specs.Points.{scaled, sixteenths, Equals}
+use Rattle.curve_bernstein.proofs.Ends.{value-start, value-end, one-powers}
 use Rattle.boxes.specs.Records.{recordLength}
-use Rattle.curve_faults.specs.Meeting.{CurvesMeet}
+use Rattle.outline.specs.Meeting.{CurvesMeet}
 use Rattle.outline.specs.Checks.{curves}
 use Rattle.outline.proofs.Meeting.{curves-meet}
-use Rattle.banding.specs.declared.Banded.the-variants.{Done}
-use Rattle.banding.specs.Banding.{banded, written}
-use Rattle.banding.proofs.Theorems.{done-exactly, records-written}
-use Rattle.judging.specs.declared.Judgement.{Judgement}
-use Rattle.judging.specs.Judging.{Judged}
+use Rattle.band.specs.declared.banding.Banded.the-variants.{Done}
+use Rattle.band.specs.Banding.{banded, written}
+use Rattle.band.proofs.Theorems.{done-exactly, records-written}
+use Rattle.judge.specs.declared.judging.Judgement.{Judgement}
+use Rattle.judge.specs.Judging.{Judged}
 use Rattle.engine.specs.Demand3.{CurveOf}
 use Rattle.engine.specs.Meeting.{EndsAt, HeldAt, CoveredTwice}
 use Rattle.engine.proofs.Demand3.{same-curves, held-at, demand-3}

@@ -12,17 +12,17 @@ use lib.IntN.{ℤ}
 use Rattle.integers.proofs.Clash.{clash}
 use Rattle.refusals.specs.declared.Refusal.{Refusal}
 use Rattle.refusals.specs.declared.Refusal.the-variants.{Tolerance, TooFewRecords, PointX, PointY}
-use Rattle.bezier.specs.declared.Curve.{Curve}
+use Rattle.curve_nodes.specs.declared.Curve.{Curve}
 use Rattle.boxes.specs.Ranges.{inRange}
 use Rattle.boxes.specs.Records.{recordLength}
 use Rattle.outline.specs.Checks.{toleranceFine, Outlined, curves, faulty, outlined}
-use Rattle.passes.specs.Leaves.{firstTooWide, leavesOf, nodesOf}
-use Rattle.banding.specs.declared.Banded.{Banded}
-use Rattle.banding.specs.declared.Banded.the-variants.{Done, Refused as NotBanded}
-use Rattle.banding.specs.Banding.{bandCurves, bandOutlined, banded, written}
-use Rattle.banding.proofs.Theorems.{few-exactly, done-exactly, written-some, written-sound}
-use Rattle.judging.specs.declared.Judgement.{Judgement}
-use Rattle.judging.specs.Judging.{pointFault, judgingFault, Verdict, Judged}
+use Rattle.band_passes.specs.Leaves.{firstTooWide, leavesOf, nodesOf}
+use Rattle.band.specs.declared.banding.Banded.{Banded}
+use Rattle.band.specs.declared.banding.Banded.the-variants.{Done, Refused as NotBanded}
+use Rattle.band.specs.Banding.{bandCurves, bandOutlined, banded, written}
+use Rattle.band.proofs.Theorems.{few-exactly, done-exactly, written-some, written-sound}
+use Rattle.judge.specs.declared.judging.Judgement.{Judgement}
+use Rattle.judge.specs.Judging.{pointFault, judgingFault, Verdict, Judged}
 use Rattle.engine.specs.declared.Outcome.the-variants.{Refused, Judged as WithJudgement}
 use Rattle.engine.specs.Outcomes.{refusalOr, writtenFor, Answered}
 use Rattle.engine.proofs.Passing.{none-refused}

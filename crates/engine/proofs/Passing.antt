@@ -15,17 +15,17 @@ use Rattle.integers.proofs.Ring.{sides}
 use Rattle.integers.proofs.Order.{gap, gap<, natural, balance, le-by, pos-lt, pow-positive, *ℤ-cancel, _+₀_, _×₀_}
 use Rattle.integers.proofs.Ranges.{yes-le, yes-lt}
 use Rattle.integers.proofs.First.{bad-none}
-use Rattle.bernstein.specs.Value.{value}
-use Rattle.halves.specs.Sizes.{Each}
-use Rattle.bezier.specs.Points.{scaled, sixteenths}
-use Rattle.bezier.proofs.Values.{value-high, value-low}
+use Rattle.curve_bernstein.specs.Value.{value}
+use Rattle.curve_halves.specs.Sizes.{Each}
+use Rattle.curve_nodes.specs.Points.{scaled, sixteenths}
+use Rattle.curve_nodes.proofs.Values.{value-high, value-low}
 use Rattle.boxes.specs.Ranges.{farthest, inRange, lowFine, boxNumberFine}
 use Rattle.boxes.specs.Records.{recordLength}
 use Rattle.boxes.proofs.Faults.{interval-low, interval-high}
-use Rattle.records.specs.Ranges.{SoundRecord, SoundList}
-use Rattle.records.proofs.Sound.{each-side}
-use Rattle.leaf_list.specs.Checks.{lengthFine, numberFine, numberFault}
-use Rattle.judging.specs.Judging.{pointFault, judgingFault}
+use Rattle.band_records.specs.Ranges.{SoundRecord, SoundList}
+use Rattle.band_records.proofs.Sound.{each-side}
+use Rattle.judge_list.specs.Checks.{lengthFine, numberFine, numberFault}
+use Rattle.judge.specs.Judging.{pointFault, judgingFault}
 
 -- ---- 9
 pub length-fine : (n : ℕ) → 0 < n → n % recordLength ≡ 0 → lengthFine n ≡ true

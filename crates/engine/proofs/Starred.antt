@@ -14,31 +14,31 @@ use Rattle.integers.specs.First.{firstBad}
 use Rattle.integers.specs.Rounding.{floor, ceiling}
 use Rattle.integers.proofs.Ranges.{yes-le, no-lt}
 use Rattle.refusals.specs.declared.Refusal.the-variants.{Tolerance, Coordinate, EmptyOutline, TooWide}
-use Rattle.halves.specs.Halves.{triangle, left, right}
-use Rattle.bezier.specs.Halves.{leftHalf, rightHalf}
-use Rattle.bezier.specs.Nodes.{descendIn, descend, depth, nodeCurve}
-use Rattle.enclosure.specs.Bounds.{rowSum, high, low}
-use Rattle.node_boxes.specs.Boxes.{boxAt, meets}
-use Rattle.outline_curves.specs.Curves.{curveAt}
-use Rattle.curve_faults.specs.Faults.{faultAt}
+use Rattle.curve_halves.specs.Halves.{triangle, left, right}
+use Rattle.curve_nodes.specs.Halves.{leftHalf, rightHalf}
+use Rattle.curve_nodes.specs.Nodes.{descendIn, descend, depth, nodeCurve}
+use Rattle.bound_enclosure.specs.Bounds.{rowSum, high, low}
+use Rattle.bound_node.specs.Boxes.{boxAt, meets}
+use Rattle.outline.specs.Curves.{curveAt}
+use Rattle.outline.specs.Faults.{faultAt}
 use Rattle.outline.specs.Checks.{outlineFrom, outlined}
-use Rattle.tree.specs.Tree.{ends, met, firstFailing}
-use Rattle.records.specs.Records.{recordOf, recordsOf, allRecords}
-use Rattle.passes.specs.Leaves.{firstTooWide, leavesOf, nodesOf}
-use Rattle.banding.specs.Banding.{bandCurves, banded, written}
+use Rattle.walk_tree.specs.Tree.{ends, met, firstFailing}
+use Rattle.band_records.specs.Records.{recordOf, recordsOf, allRecords}
+use Rattle.band_passes.specs.Leaves.{firstTooWide, leavesOf, nodesOf}
+use Rattle.band.specs.Banding.{bandCurves, banded, written}
 use Rattle.boxes.specs.declared.Box.{Box}
-use Rattle.polygon.specs.declared.Span.{Span}
-use Rattle.polygon.specs.Polygon.{joined, reached, endsOf, pathPoint, moves, verticesOf, pathOf, vertices, numbers}
-use Rattle.drawing.specs.declared.Drawn.the-variants.{Vertices}
-use Rattle.drawing.specs.Drawing.{twoBoxesFault, drawn, drawnInto}
+use Rattle.draw_polygon.specs.declared.Span.{Span}
+use Rattle.draw_polygon.specs.Polygon.{joined, reached, endsOf, pathPoint, moves, verticesOf, pathOf, vertices, numbers}
+use Rattle.draw.specs.declared.drawing.Drawn.the-variants.{Vertices}
+use Rattle.draw.specs.Drawing.{twoBoxesFault, drawn, drawnInto}
 use Rattle.boxes.specs.Ranges.{inRange}
-use Rattle.leaf_list.specs.Checks.{numberFault}
-use Rattle.held.specs.Deciding.{held}
-use Rattle.judging.specs.declared.Judgement.{Judgement}
-use Rattle.judging.specs.declared.Judgement.the-variants.{On, Off}
-use Rattle.judging.specs.Judging.{judgingFault, Judged}
-use Rattle.judging.specs.Judgements.{firstHeld, judgement}
-use Rattle.judging.proofs.Judgements.{judged-is}
+use Rattle.judge_list.specs.Checks.{numberFault}
+use Rattle.judge_cover.specs.Deciding.{held}
+use Rattle.judge.specs.declared.judging.Judgement.{Judgement}
+use Rattle.judge.specs.declared.judging.Judgement.the-variants.{On, Off}
+use Rattle.judge.specs.Judging.{judgingFault, Judged}
+use Rattle.judge.specs.Judgements.{firstHeld, judgement}
+use Rattle.judge.proofs.Judgements.{judged-is}
 use Rattle.engine.specs.Starred.{box, A, single, Starred}
 
 -- what the examples of banding compute through

@@ -6,14 +6,14 @@ use Prim.Native.Nat.{ℕ, _+_, _*_, _≤_, _<_}
 use lib.ListN.{length}
 use lib.IntN.{ℤ, pos}
 use Rattle.integers.specs.Entry.{entry}
-use Rattle.bezier.specs.declared.Curve.{Curve}
-use Rattle.bezier.specs.Nodes.{depth}
-use Rattle.bezier.specs.Points.{Equals, Within}
+use Rattle.curve_nodes.specs.declared.Curve.{Curve}
+use Rattle.curve_nodes.specs.Nodes.{depth}
+use Rattle.curve_nodes.specs.Points.{Equals, Within}
 use Rattle.boxes.specs.Records.{recordLength}
 use Rattle.outline.specs.Checks.{curves, outlined}
-use Rattle.banding.specs.Outcomes.{Flat}
-use Rattle.judging.specs.declared.Judgement.{Judgement}
-use Rattle.judging.specs.declared.Judgement.the-variants.{On}
+use Rattle.band.specs.Outcomes.{Flat}
+use Rattle.judge.specs.declared.judging.Judgement.{Judgement}
+use Rattle.judge.specs.declared.judging.Judgement.the-variants.{On}
 
 -- number k of the curves that the outline ns describes, from 0, is c
 pub record CurveOf (most : ℕ) (ns : List ℤ) (k : ℕ) (c : Curve) : Type 0 where

@@ -5,11 +5,11 @@ use Prim.Native.Nat.{ℕ, suc, _+_, _*_, _<_}
 use lib.ListN.{length}
 use lib.IntN.{ℤ, pos, _*ℤ_}
 use Rattle.integers.specs.Entry.{entry}
-use Rattle.bezier.specs.declared.Curve.{Curve}
+use Rattle.curve_nodes.specs.declared.Curve.{Curve}
 use Rattle.boxes.specs.Records.{covers, recordLength}
-use Rattle.tree.specs.Leaves.{Covers}
-use Rattle.held.specs.Covers.{CoverHolds}
-use Rattle.judging.specs.declared.Judgement.{Judgement}
+use Rattle.walk_tree.specs.Leaves.{Covers}
+use Rattle.judge_cover.specs.Covers.{CoverHolds}
+use Rattle.judge.specs.declared.judging.Judgement.{Judgement}
 use Rattle.engine.specs.Demand3.{IsOn}
 
 -- (x, y) is the last control point of the curve, in sixteenths

@@ -9,11 +9,11 @@ use lib.ListN.{length, take}
 use lib.IntN.{ℤ}
 use Rattle.boxes.specs.Records.{recordLength}
 use Rattle.refusals.specs.declared.Refusal.{Refusal}
-use Rattle.banding.specs.declared.Banded.{Banded}
-use Rattle.banding.specs.declared.Banded.the-variants.{Done, Refused as NotBanded}
-use Rattle.banding.specs.Banding.{banded, written}
-use Rattle.judging.specs.declared.Judgement.{Judgement}
-use Rattle.judging.specs.Judging.{pointFault, Verdict}
+use Rattle.band.specs.declared.banding.Banded.{Banded}
+use Rattle.band.specs.declared.banding.Banded.the-variants.{Done, Refused as NotBanded}
+use Rattle.band.specs.Banding.{banded, written}
+use Rattle.judge.specs.declared.judging.Judgement.{Judgement}
+use Rattle.judge.specs.Judging.{pointFault, Verdict}
 use Rattle.engine.specs.declared.Outcome.{Outcome}
 use Rattle.engine.specs.declared.Outcome.the-variants.{Refused, Judged}
 use Rattle.engine.specs.Demand3.{Demand3}

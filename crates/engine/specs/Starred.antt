@@ -8,16 +8,16 @@ use lib.ListN.{length, replicate, drop}
 use lib.IntN.{ℤ, pos, negℤ}
 use Rattle.refusals.specs.declared.Refusal.{Refusal}
 use Rattle.refusals.specs.Refusals.{numberOf, spotOf}
-use Rattle.banding.specs.declared.Banded.{Banded}
-use Rattle.banding.specs.declared.Banded.the-variants.{Done, Refused}
-use Rattle.banding.specs.Banding.{banded, written}
-use Rattle.judging.specs.declared.Judgement.{Judgement}
-use Rattle.judging.specs.declared.Judgement.the-variants.{On, Off}
-use Rattle.judging.specs.Judging.{Judged}
+use Rattle.band.specs.declared.banding.Banded.{Banded}
+use Rattle.band.specs.declared.banding.Banded.the-variants.{Done, Refused}
+use Rattle.band.specs.Banding.{banded, written}
+use Rattle.judge.specs.declared.judging.Judgement.{Judgement}
+use Rattle.judge.specs.declared.judging.Judgement.the-variants.{On, Off}
+use Rattle.judge.specs.Judging.{Judged}
 use Rattle.boxes.specs.declared.Box.{Box}
 use Rattle.boxes.specs.Ranges.{inRange}
-use Rattle.drawing.specs.declared.Drawn.the-variants.{Vertices}
-use Rattle.drawing.specs.Drawing.{drawn, drawnInto}
+use Rattle.draw.specs.declared.drawing.Drawn.the-variants.{Vertices}
+use Rattle.draw.specs.Drawing.{drawn, drawnInto}
 
 abbrev zeros : ℕ → List ℤ
 zeros n = replicate n (pos 0)

@@ -1,10 +1,11 @@
+// A coordinate of a node against the mixtures of its lows and highs. There is no code here: demand 3 stands on these laws, in `engine`.
 // Banding and judging together. Demand 3 as one theorem, and the starred examples, stand in `specs/` and `proofs/`.
 ghost use mathlib.Core.Path.{_≡_};
 ghost use lib.ListN.{length};
-ghost use Rattle.banding.specs.Banding.{banded};
+ghost use Rattle.band.specs.Banding.{banded};
 ghost use Rattle.engine.specs.Outcomes.{refusalOr, writtenFor, Answered};
-use banding::Banded;
-use judging::Judgement;
+use band::banding::Banded;
+use judge::judging::Judgement;
 use refusals::Refusal;
 
 // What banding an outline and judging a point answers: the first refusal, the point's after those of banding; or

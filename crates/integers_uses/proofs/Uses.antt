@@ -15,8 +15,8 @@ use Rattle.integers.proofs.Linear.{le-to-ℕ, le-from-ℕ, lt-to-ℕ, lt-from-�
 use Rattle.integers.proofs.Rounding.{floor-scale}
 use Rattle.integers.proofs.Size.{sizes, size-of, fits-size}
 use Rattle.integers.proofs.Table.{below}
-use Rattle.bernstein.specs.Value.{value}
-use Rattle.bernstein.proofs.Nonnegative.{nonnegative-sound}
+use Rattle.curve_bernstein.specs.Value.{value}
+use Rattle.curve_bernstein.proofs.Nonnegative.{nonnegative-sound}
 
 -- ---- equations
 square-of-sum : (a b : ℤ) → (a +ℤ b) *ℤ (a +ℤ b) ≡ a *ℤ a +ℤ pos 2 *ℤ a *ℤ b +ℤ b *ℤ b

@@ -1,8 +1,12 @@
 // Judging: whether a point lies on the band that a leaf list describes.
-ghost use Rattle.judging.specs.Judging.{Judged};
-ghost use Rattle.judging.specs.Searching.{Passed};
-use judging::Judgement;
+ghost use Rattle.judge.specs.Judging.{Judged};
+ghost use Rattle.judge.specs.Searching.{Passed};
+use crate::judging::Judgement;
 use refusals::Refusal;
+
+pub mod beyond;
+pub mod holder;
+pub mod judging;
 
 // Judges the point (x, y), in sixteenths, against a list of leaf records: on, with the first record of the list that holds it and in
 // this the lowest cover; off; or the first fault. Every list and every point may be asked about.
@@ -15,7 +19,7 @@ pub fn judge(leaves: &[i32], x: i32, y: i32) -> Judgement
     if leaves.len() % 18 != 0 {
         return Judgement::Refused(Refusal::LeafListLength(leaves.len()));
     }
-    let bad = leaf_faults::number_fault(leaves);
+    let bad = judge_list::leaf_faults::number_fault(leaves);
     if bad < leaves.len() {
         return Judgement::Refused(Refusal::LeafListNumber(bad));
     }
@@ -33,5 +37,5 @@ pub fn judge_point(leaves: &[i32], x: i32, y: i32) -> Judgement
     if !boxes::in_range(y) {
         return Judgement::Refused(Refusal::PointY);
     }
-    holder::find(leaves, x as i64, y as i64)
+    crate::holder::find(leaves, x as i64, y as i64)
 }

@@ -9,14 +9,14 @@ use native.Mathlib.Omega.{arith}
 use lib.ListN.{length, getD}
 use lib.IntN.{ℤ}
 use Rattle.refusals.specs.declared.Refusal.{Refusal}
-use Rattle.bezier.specs.declared.Curve.{Curve}
-use Rattle.bezier.specs.Bounds.{Sized}
+use Rattle.curve_nodes.specs.declared.Curve.{Curve}
+use Rattle.curve_nodes.specs.Bounds.{Sized}
 use Rattle.outline.specs.declared.Checked.the-variants.{Curves, Refused}
-use Rattle.outline_curves.specs.Curves.{nextAt, curveAt}
-use Rattle.curve_faults.specs.Faults.{faultAt}
+use Rattle.outline.specs.Curves.{nextAt, curveAt}
+use Rattle.outline.specs.Faults.{faultAt}
 use Rattle.outline.specs.Checks.{Outlined, curves, faulty, outlineFrom, outlined, checkedOf}
 use Rattle.integers.proofs.Clash.{clash}
-use Rattle.curve_faults.proofs.Faultless.{Padded, faultless, curve-sized, curve-padded}
+use Rattle.outline.proofs.Faultless.{Padded, faultless, curve-sized, curve-padded}
 use Rattle.outline.proofs.Steps.{outline-begins, outline-ends}
 
 -- ---- what holds of every curve without a fault holds of each curve of an accepted list

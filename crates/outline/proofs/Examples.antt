@@ -6,9 +6,9 @@ use Prim.Native.Nat.{ℕ, zero, suc}
 use lib.ListN.{length}
 use lib.IntN.{ℤ, pos, negsuc, negℤ}
 use Rattle.refusals.specs.Refusals.{numberOf, spotOf}
-use Rattle.outline_curves.specs.Curves.{curveAt}
+use Rattle.outline.specs.Curves.{curveAt}
 use Rattle.integers.specs.First.{firstBad}
-use Rattle.curve_faults.specs.Faults.{faultAt}
+use Rattle.outline.specs.Faults.{faultAt}
 use Rattle.outline.specs.Checks.{Outlined, curves, faulty, toleranceFine, outlineFrom, outlined}
 
 -- the number and the spot of a refusal, or 0 and how many curves there are

@@ -10,12 +10,12 @@ use lib.IntN.{ℤ}
 use Rattle.integers.proofs.Clash.{clash}
 use Rattle.refusals.specs.declared.Refusal.{Refusal}
 use Rattle.refusals.specs.declared.Refusal.the-variants.{TooManyCurves, Gap}
-use Rattle.bezier.specs.declared.Curve.{Curve}
-use Rattle.outline_curves.specs.Curves.{nextAt, curveAt}
-use Rattle.curve_faults.specs.Meeting.{CurvesMeet}
-use Rattle.curve_faults.specs.Faults.{meetsBefore, faultAt}
-use Rattle.curve_faults.proofs.Faultless.{faultless, gap-found}
-use Rattle.curve_faults.proofs.Meeting.{first-meets, meets-exactly}
+use Rattle.curve_nodes.specs.declared.Curve.{Curve}
+use Rattle.outline.specs.Curves.{nextAt, curveAt}
+use Rattle.outline.specs.Meeting.{CurvesMeet}
+use Rattle.outline.specs.Faults.{meetsBefore, faultAt}
+use Rattle.outline.proofs.Faultless.{faultless, gap-found}
+use Rattle.outline.proofs.PointBefore.{first-meets, meets-exactly}
 use Rattle.outline.specs.Checks.{Outlined, curves, faulty, withCurve, outlineFrom, outlined}
 use Rattle.outline.proofs.Steps.{outline-begins}
 use Rattle.outline.proofs.Accepted.{outlined-from}

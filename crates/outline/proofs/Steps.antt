@@ -13,13 +13,13 @@ use lib.ListN.{length}
 use lib.IntN.{ℤ}
 use Rattle.refusals.specs.declared.Refusal.{Refusal}
 use Rattle.refusals.specs.declared.Refusal.the-variants.{TooManyCurves}
-use Rattle.bezier.specs.declared.Curve.{Curve}
-use Rattle.outline_curves.specs.Curves.{nextAt, curveAt}
-use Rattle.curve_faults.specs.Faults.{faultAt}
+use Rattle.curve_nodes.specs.declared.Curve.{Curve}
+use Rattle.outline.specs.Curves.{nextAt, curveAt}
+use Rattle.outline.specs.Faults.{faultAt}
 use Rattle.outline.specs.Checks.{Outlined, curves, faulty, withCurve, outlineFrom}
 use Rattle.integers.proofs.Clash.{clash}
-use Rattle.outline_curves.proofs.Degrees.{degree-inside}
-use Rattle.curve_faults.proofs.Faultless.{faultless}
+use Rattle.outline.proofs.Degrees.{degree-inside}
+use Rattle.outline.proofs.Faultless.{faultless}
 
 -- ---- one step
 module _ (ns : List ℤ) (at : ℕ) where

@@ -10,11 +10,11 @@ use lib.IntN.{ℤ, pos}
 use Rattle.integers.specs.Between.{between}
 use Rattle.refusals.specs.declared.Refusal.{Refusal}
 use Rattle.refusals.specs.declared.Refusal.the-variants.{TooManyCurves, EmptyOutline}
-use Rattle.bezier.specs.declared.Curve.{Curve}
+use Rattle.curve_nodes.specs.declared.Curve.{Curve}
 use Rattle.outline.specs.declared.Checked.{Checked}
 use Rattle.outline.specs.declared.Checked.the-variants.{Curves, Refused}
-use Rattle.outline_curves.specs.Curves.{nextAt, curveAt}
-use Rattle.curve_faults.specs.Faults.{faultAt}
+use Rattle.outline.specs.Curves.{nextAt, curveAt}
+use Rattle.outline.specs.Faults.{faultAt}
 
 -- ---- 1: the tolerance is 2 to 1,048,576
 abbrev pub toleranceFine : ℤ → Bool

@@ -1,11 +1,13 @@
 // Checks 1 to 6 and 17 of a tolerance and an outline, in their order.
 ghost use mathlib.Core.Path.{_≡_};
 ghost use Rattle.outline.specs.Checks.{toleranceFine, outlined, checkedOf};
-use curve_checks::fault_at;
-use curve_faults::Fault;
+use crate::curve_checks::fault_at;
 use outline::Checked;
-use outline_curves::next_at;
+use outline::curve_faults::Fault;
+use outline::outline_curves::next_at;
 use refusals::Refusal;
+
+pub mod curve_checks;
 
 // Check 1: whether a tolerance, in sixteenths of a unit, is in its range. Every number may be asked about.
 pub fn tolerance_fine(t: i32) -> bool

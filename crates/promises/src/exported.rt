@@ -1,17 +1,17 @@
 // Callers of the functions that `contour` exports to programs in other languages.
 ghost use mathlib.Core.Path.{_≡_};
 ghost use lib.ListN.{length};
-ghost use Rattle.banding.specs.Banding.{banded, written};
-ghost use Rattle.drawing.specs.Drawing.{drawn, drawnInto};
-ghost use Rattle.c_answers.specs.Answers.{answerOf};
-ghost use Rattle.c_answers.specs.Drawings.{drawingOf};
+ghost use Rattle.band.specs.Banding.{banded, written};
+ghost use Rattle.draw.specs.Drawing.{drawn, drawnInto};
+ghost use Rattle.contour.specs.CAnswers.{answerOf};
+ghost use Rattle.contour.specs.Drawings.{drawingOf};
 ghost use Rattle.engine.specs.Outcomes.{writtenFor};
 ghost use Rattle.contour.specs.Answers.{JudgedInNumbers, AnsweredInNumbers};
 use boxes::Box;
-use c_answers::Answer;
-use c_answers::Drawing;
-use c_answers::JudgingAnswer;
 use contour::OutcomeAnswer;
+use contour::c_answers::Answer;
+use contour::c_answers::Drawing;
+use contour::c_answers::JudgingAnswer;
 
 pub fn contour_band(outline: &[i32], tolerance: i32, records: &mut [i32]) -> Answer
     ensures { λ r. ⌜ (r ≡ answerOf (banded 64 tolerance (now (outline .entry)) (length (now (records .entry)))))

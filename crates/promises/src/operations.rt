@@ -1,13 +1,13 @@
 // Callers of banding, judging and drawing.
 ghost use mathlib.Core.Path.{_≡_};
 ghost use lib.ListN.{length};
-ghost use Rattle.banding.specs.Banding.{banded, written};
-ghost use Rattle.judging.specs.Judging.{Judged};
-ghost use Rattle.drawing.specs.Drawing.{drawn, drawnInto};
-use banding::Banded;
+ghost use Rattle.band.specs.Banding.{banded, written};
+ghost use Rattle.judge.specs.Judging.{Judged};
+ghost use Rattle.draw.specs.Drawing.{drawn, drawnInto};
+use band::banding::Banded;
 use boxes::Box;
-use drawing::Drawn;
-use judging::Judgement;
+use draw::drawing::Drawn;
+use judge::judging::Judgement;
 
 pub fn band(outline: &[i32], tolerance: i32, records: &mut [i32]) -> Banded
     ensures { λ r. ⌜ (r ≡ banded 64 tolerance (now (outline .entry)) (length (now (records .entry))))
@@ -26,5 +26,5 @@ pub fn draw(first: Box, second: Box, vertices: &mut [i32]) -> Drawn
     ensures { λ r. ⌜ (r ≡ drawn first second (length (now (vertices .entry))))
         × (now (vertices .exit) ≡ drawnInto first second (now (vertices .entry))) ⌝ }
 {
-    cover::draw(first, second, vertices)
+    draw::cover::draw(first, second, vertices)
 }

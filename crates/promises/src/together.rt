@@ -1,6 +1,6 @@
 // Callers of the operations that band and judge: the engine's, and the text program's.
 ghost use mathlib.Core.Path.{_≡_};
-ghost use Rattle.appends.specs.Appends.{Within};
+ghost use Rattle.write_numbers.specs.Appends.{Within};
 ghost use Rattle.engine.specs.Outcomes.{writtenFor, Answered};
 ghost use Rattle.answer.specs.Answers.{answerOf};
 use engine::Outcome;

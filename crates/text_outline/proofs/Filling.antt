@@ -12,16 +12,16 @@ use mir.Syntax.{w32}
 use mir.Val.{SFits}
 use mir.Facts.{toZ-ofZ}
 use Rattle.integers.proofs.Ranges.{stored, read-again}
-use Rattle.forms.specs.declared.Points.{Points}
-use Rattle.forms.specs.declared.Form.{Form}
-use Rattle.forms.specs.declared.Form.the-variants.{Tolerance, Curve, Point, NoForm}
-use Rattle.forms.specs.Forms.{formAt}
-use Rattle.appends.specs.Appends.{Appended}
-use Rattle.appends.proofs.Appends.{append-none, append-both, appended-length}
-use Rattle.text.specs.Lines.{linesFrom, linesOf}
-use Rattle.text.specs.Meaning.{numbersOf}
+use Rattle.text_forms.specs.declared.forms.Points.{Points}
+use Rattle.text_forms.specs.declared.forms.Form.{Form}
+use Rattle.text_forms.specs.declared.forms.Form.the-variants.{Tolerance, Curve, Point, NoForm}
+use Rattle.text_forms.specs.Forms.{formAt}
+use Rattle.write_numbers.specs.Appends.{Appended}
+use Rattle.write_numbers.proofs.Appends.{append-none, append-both, appended-length}
+use Rattle.text_lines.specs.Lines.{linesFrom, linesOf}
+use Rattle.text_lines.specs.Meaning.{numbersOf}
 use Rattle.text_outline.specs.Outlines.{kept, firstNumbers}
-use Rattle.text.proofs.Lines.{linesLeft, lines-over, lines-start, line-none, line-tolerance, line-curve, line-point}
+use Rattle.text_lines.proofs.Lines.{linesLeft, lines-over, lines-start, line-none, line-tolerance, line-curve, line-point}
 
 -- ---- a pair, and a pair after other numbers
 pub put-both : (d o u : List ℤ) (i j k : ℕ) (x y : ℤ) → Appended d i (stored w32 x ∷ []) o j → Appended o j (stored w32 y ∷ []) u k → SFits w32 x → SFits w32 y

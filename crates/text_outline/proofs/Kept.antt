@@ -14,25 +14,25 @@ use lib.Signed.{ltZ}
 use Rattle.integers.specs.Entry.{entry}
 use Rattle.refusals.specs.declared.Refusal.{Refusal}
 use Rattle.refusals.specs.declared.Refusal.the-variants.{TooManyCurves}
-use Rattle.halves.proofs.Values.{listed-ext}
-use Rattle.outline_curves.specs.Curves.{coordinates, degreeAt, nextAt, values, curveAt}
+use Rattle.curve_halves.proofs.Values.{listed-ext}
+use Rattle.outline.specs.Curves.{coordinates, degreeAt, nextAt, values, curveAt}
 use Rattle.integers.specs.Between.{between}
 use Rattle.integers.specs.Equal.{equal}
 use Rattle.integers.specs.First.{firstBad}
-use Rattle.curve_faults.specs.Faults.{coordinateFine, firstBeyond, meetsBefore, faultAt, foundOf, faultOf}
+use Rattle.outline.specs.Faults.{coordinateFine, firstBeyond, meetsBefore, faultAt, foundOf, faultOf}
 use Rattle.outline.specs.Checks.{faulty, withCurve, outlineFrom, outlined}
-use Rattle.curve_faults.proofs.Faultless.{lastFault, fault-degree, fault-last}
+use Rattle.outline.proofs.Faultless.{lastFault, fault-degree, fault-last}
 use Rattle.outline.proofs.Steps.{outline-full, outline-faulty, outline-step}
-use Rattle.forms.specs.declared.Points.{Points}
-use Rattle.forms.specs.declared.Form.{Form}
-use Rattle.forms.specs.declared.Form.the-variants.{Tolerance, Curve as CurveLine, Point, NoForm}
-use Rattle.forms.specs.Forms.{formAt}
-use Rattle.forms.proofs.Reach.{OneToThree, Reaches, form-reaches}
-use Rattle.text.specs.Lines.{onward, linesFrom, linesOf, gather}
-use Rattle.text.specs.Meaning.{numbersOf, curveNumbers, means, meaning}
+use Rattle.text_forms.specs.declared.forms.Points.{Points}
+use Rattle.text_forms.specs.declared.forms.Form.{Form}
+use Rattle.text_forms.specs.declared.forms.Form.the-variants.{Tolerance, Curve as CurveLine, Point, NoForm}
+use Rattle.text_forms.specs.Forms.{formAt}
+use Rattle.text_forms.proofs.FormReach.{OneToThree, Reaches, form-reaches}
+use Rattle.text_lines.specs.Lines.{onward, linesFrom, linesOf, gather}
+use Rattle.text_lines.specs.Meaning.{numbersOf, curveNumbers, means, meaning}
 use Rattle.text_outline.specs.Outlines.{kept}
 use Rattle.text_outline.proofs.Filling.{few-numbers}
-use Rattle.text.proofs.Accepted.{accepted}
+use Rattle.text_lines.proofs.Accepted.{accepted}
 
 -- ---- two lists with the same numbers before index e
 record Agree (ns ms : List ℤ) (e : ℕ) : Type 0 where

@@ -3,10 +3,10 @@
 use mathlib.Core.List.{List, [], _∷_, _++_}
 use Prim.Native.Nat.{ℕ, zero, suc}
 use lib.IntN.{ℤ}
-use Rattle.forms.specs.declared.Points.{Points}
-use Rattle.forms.specs.declared.Form.{Form}
-use Rattle.forms.specs.declared.Form.the-variants.{Tolerance, Curve, Point, NoForm}
-use Rattle.text.specs.Meaning.{numbersOf}
+use Rattle.text_forms.specs.declared.forms.Points.{Points}
+use Rattle.text_forms.specs.declared.forms.Form.{Form}
+use Rattle.text_forms.specs.declared.forms.Form.the-variants.{Tolerance, Curve, Point, NoForm}
+use Rattle.text_lines.specs.Meaning.{numbersOf}
 
 unfoldable pub kept : ℕ → List Form → List ℤ
 kept most [] = []

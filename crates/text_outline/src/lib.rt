@@ -2,12 +2,12 @@
 ghost use mathlib.Core.List.{[], _∷_};
 ghost use Prim.Native.Nat.{_+_, _≤_, _<_};
 ghost use lib.ListN.{length};
-ghost use Rattle.appends.specs.Appends.{Appended};
-ghost use Rattle.text.specs.Lines.{linesOf};
-ghost use Rattle.text.specs.Meaning.{numbersOf};
+ghost use Rattle.write_numbers.specs.Appends.{Appended};
+ghost use Rattle.text_lines.specs.Lines.{linesOf};
+ghost use Rattle.text_lines.specs.Meaning.{numbersOf};
 ghost use Rattle.text_outline.specs.Outlines.{kept, firstNumbers};
-use forms::Form;
-use forms::Points;
+use text_forms::forms::Form;
+use text_forms::forms::Points;
 
 // Puts the outline of a text at the front of a list, as far as the checks of an outline of 64 curves look at it, and answers how many numbers that are. Of a
 // text that is refused these are the curves before the first line that is no form.
@@ -19,7 +19,7 @@ pub fn keep_outline(text: &[u8], numbers: &mut [i32]) -> usize
     let mut i: usize = 0;
     let mut left: usize = 64;
     while i < text.len() {
-        match line_reader::line_from(text, i) {
+        match text_reader::line_from(text, i) {
             Form::NoForm => {
                 return at;
             }

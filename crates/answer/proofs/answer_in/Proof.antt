@@ -7,18 +7,6 @@ use Rattle.answer.proofs.Answers.{zeros-length, answer-refused, done-le
 use Rattle.answer.proofs.answer_in.Statement.{statement}
 use Rattle.answer.proofs.answer_in.Tie as tie
 
-band-text-requires : tie.Need-band-text-requires
-band-text-requires c κs = search needs
-
-enum-known-band : tie.Need-enum-known-band
-enum-known-band c = search needs
-
-put-refused-requires : tie.Need-put-refused-requires
-put-refused-requires c κs = search needs
-
-enum-known-band-2 : tie.Need-enum-known-band-2
-enum-known-band-2 c = search needs
-
 put-band-requires : tie.Need-put-band-requires
 put-band-requires c κs =
     let b = c .before .before .before .before .before .before .before .band-text in
@@ -55,29 +43,11 @@ put-points-requires c κs =
     let short = done-short (s .args .text .now) (s .args .records .now) (s .pre .1) (b .result) (b .ensures .0) _ _ _ (g .1) in
     (omega (arith, few, short, c .before .before .before .before .put-band .ensures .small, c .before .before .before .before .put-band .kept .1 .1 .1 .1 .0, s .pre .2), done-fine (s .args .text .now) (s .args .records .now) (s .pre .1) (b .result) (b .ensures .0) _ _ _ (g .1) _ (b .ensures .1))
 
-same-length : tie.Need-same-length
-same-length c = search needs
-
-same-length-2 : tie.Need-same-length-2
-same-length-2 c = search needs
-
-same-length-3 : tie.Need-same-length-3
-same-length-3 c = search needs
-
 returns : tie.Need-returns
 returns c =
     let b = c .before .before .before .before .before .before .before .before .before .band-text in
     let s = c .before .before .before .before .before .before .before .before .before .before .before .before .before .before in
     answer-refused (s .args .text .now) (s .args .records .now) (s .pre .1) (b .result) (b .ensures .0) _ (c .before .before .before .before .before .band .given .1) _ _ _ (c .before .before .put-refused .ensures)
-
-same-length-4 : tie.Need-same-length-4
-same-length-4 c = search needs
-
-same-length-5 : tie.Need-same-length-5
-same-length-5 c = search needs
-
-same-length-6 : tie.Need-same-length-6
-same-length-6 c = search needs
 
 returns-2 : tie.Need-returns-2
 returns-2 c =
@@ -89,21 +59,7 @@ returns-2 c =
 pub answer-in-spec : {M : Type 1} → statement M
 answer-in-spec =
     tie.close
-    (tie.spec
-    band-text-requires
-    enum-known-band
-    put-refused-requires
-    enum-known-band-2
-    put-band-requires
-    mul-put-points
-    slice-reshare-prefix-put-points
-    slice-aggregate-put-points
-    put-points-requires
-    same-length
-    same-length-2
-    same-length-3
-    returns
-    same-length-4
-    same-length-5
-    same-length-6
+    (tie.spec (λ c κs. search needs) (λ c. search needs) (λ c κs. search needs) (λ c. search needs) put-band-requires
+    mul-put-points slice-reshare-prefix-put-points slice-aggregate-put-points put-points-requires (λ c. search needs)
+    (λ c. search needs) (λ c. search needs) returns (λ c. search needs) (λ c. search needs) (λ c. search needs)
     returns-2)

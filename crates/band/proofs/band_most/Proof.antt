@@ -6,12 +6,9 @@ use borrow.Author.Tests.{not-true, not-false}
 use mir.Syntax.{w64}
 use mir.Facts.{toZ-ofZ, sfits-widen}
 use Rattle.outline.specs.Checks.{toleranceFine}
-use Rattle.banding.proofs.Answers.{readable, banded-read, written-curves, banded-tolerance, banded-faulty, written-refused}
+use Rattle.band.proofs.Answers.{readable, banded-read, written-curves, banded-tolerance, banded-faulty, written-refused}
 use Rattle.band.proofs.band_most.Statement.{statement}
 use Rattle.band.proofs.band_most.Tie as tie
-
-tolerance-fine-requires : tie.Need-tolerance-fine-requires
-tolerance-fine-requires c κs = search needs
 
 returns : tie.Need-returns
 returns c =
@@ -20,21 +17,12 @@ returns c =
     let e = banded-tolerance (a .most) (a .ns .now) (a .tolerance) _ (rw (toZ-ofZ (s .fits .tolerance)) at (sym (c .before .tolerance-fine .ensures) ∙ not-true (c .before .tolerance-fine .result) (c .if1 .taken))) in
     (e, written-refused (a .most) (a .ns .now) (a .tolerance) (a .records .now) e)
 
-check-outline-requires : tie.Need-check-outline-requires
-check-outline-requires c κs = search needs
-
 -- the tolerance is in its range, once its check is behind
 fine : (c : tie.After-check-outline) → toleranceFine (c .before .before .before .args .tolerance) ≡ true
 fine c =
     let s = c .before .before .before in
     rw (toZ-ofZ (s .fits .tolerance)) at
     (sym (c .before .before .tolerance-fine .ensures) ∙ not-false (c .before .before .tolerance-fine .result) (c .before .if1 .left))
-
-enum-known-refusal : tie.Need-enum-known-refusal
-enum-known-refusal c = search needs
-
-enum-known-curves : tie.Need-enum-known-curves
-enum-known-curves c = search needs
 
 cast-band-curves : tie.Need-cast-band-curves
 cast-band-curves c =
@@ -55,9 +43,6 @@ returns-2 c =
     let e = banded-faulty (a .most) (a .ns .now) (a .tolerance) _ (fine k) (sym (c .before .refusal .given .1) ∙ k .check-outline .ensures) in
     (e, written-refused (a .most) (a .ns .now) (a .tolerance) (a .records .now) e)
 
-same-length : tie.Need-same-length
-same-length c = search needs
-
 returns-3 : tie.Need-returns-3
 returns-3 c =
     let k = c .before .before .before .before .before .before in
@@ -71,14 +56,5 @@ returns-3 c =
 pub band-most-spec : {M : Type 1} → statement M
 band-most-spec =
     tie.close
-    (tie.spec
-    tolerance-fine-requires
-    returns
-    check-outline-requires
-    enum-known-refusal
-    enum-known-curves
-    cast-band-curves
-    band-curves-requires
-    returns-2
-    same-length
-    returns-3)
+    (tie.spec (λ c κs. search needs) returns (λ c κs. search needs) (λ c. search needs) (λ c. search needs)
+    cast-band-curves band-curves-requires returns-2 (λ c. search needs) returns-3)

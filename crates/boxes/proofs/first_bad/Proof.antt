@@ -9,17 +9,11 @@ use Rattle.boxes.proofs.Faults.{at-x-low, at-x-high, at-y-low, at-y-hig
 use Rattle.boxes.proofs.first_bad.Statement.{statement}
 use Rattle.boxes.proofs.first_bad.Tie as tie
 
-low-fine-requires : tie.Need-low-fine-requires
-low-fine-requires c κs = search needs
-
 returns : tie.Need-returns
 returns c =
     let e = sym (c .before .low-fine .ensures) ∙ not-true (c .before .low-fine .result) (c .if1 .taken) in
     let f = c .before .before .fits in
     at-x-low _ (rw (toZ-ofZ (f .x-low), toZ-ofZ (f .x-high)) at e)
-
-in-range-requires : tie.Need-in-range-requires
-in-range-requires c κs = search needs
 
 x-low-fine : (c : tie.Else1) → lowFine (c .before .before .args .x-low) (c .before .before .args .x-high) ≡ true
 x-low-fine c =
@@ -33,9 +27,6 @@ returns-2 c =
     let f = c .before .before .before .before .fits in
     at-x-high _ (x-low-fine (c .before .before)) (rw (toZ-ofZ (f .x-high)) at e)
 
-low-fine-requires-2 : tie.Need-low-fine-requires-2
-low-fine-requires-2 c κs = search needs
-
 x-high-fine : (c : tie.Else2) → inRange (c .before .before .before .before .args .x-high) ≡ true
 x-high-fine c =
     let e = sym (c .before .in-range .ensures) ∙ not-false (c .before .in-range .result) (c .if2 .left) in
@@ -48,9 +39,6 @@ returns-3 c =
     let f = c .before .before .before .before .before .before .fits in
     at-y-low _ (x-low-fine (c .before .before .before .before)) (x-high-fine (c .before .before))
     (rw (toZ-ofZ (f .y-low), toZ-ofZ (f .y-high)) at e)
-
-in-range-requires-2 : tie.Need-in-range-requires-2
-in-range-requires-2 c κs = search needs
 
 y-low-fine : (c : tie.Else3)
     → lowFine (c .before .before .before .before .before .before .args .y-low) (c .before .before .before .before .before .before .args .y-high) ≡ true
@@ -78,13 +66,5 @@ returns-5 c =
 pub first-bad-spec : {M : Type 1} → statement M
 first-bad-spec =
     tie.close
-    (tie.spec
-    low-fine-requires
-    returns
-    in-range-requires
-    returns-2
-    low-fine-requires-2
-    returns-3
-    in-range-requires-2
-    returns-4
-    returns-5)
+    (tie.spec (λ c κs. search needs) returns (λ c κs. search needs) returns-2 (λ c κs. search needs) returns-3
+    (λ c κs. search needs) returns-4 returns-5)

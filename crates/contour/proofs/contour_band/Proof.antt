@@ -2,7 +2,7 @@
 use mathlib.Core.Path.{_∙_, ap}
 use borrow.Author.Needs.{needs}
 use mir.Facts.{toZ-ofZ}
-use Rattle.c_answers.specs.Answers.{answerOf}
+use Rattle.contour.specs.CAnswers.{answerOf}
 use Rattle.contour.proofs.contour_band.Statement.{statement}
 use Rattle.contour.proofs.contour_band.Tie as tie
 

@@ -1,7 +1,7 @@
 -- Drawing for programs in other languages.
 use mathlib.Core.Path.{_∙_, ap}
 use borrow.Author.Needs.{needs}
-use Rattle.c_answers.specs.Drawings.{drawingOf}
+use Rattle.contour.specs.Drawings.{drawingOf}
 use Rattle.contour.proofs.contour_draw.Statement.{statement}
 use Rattle.contour.proofs.contour_draw.Tie as tie
 

@@ -2,26 +2,11 @@
 use mathlib.Core.Path.{sym, _∙_, ap, ap₂}
 use borrow.Author.Needs.{needs}
 use Prim.Native.Nat.{ℕ}
-use Rattle.c_answers.specs.declared.JudgingAnswer.{JudgingAnswer}
+use Rattle.contour.specs.declared.c_answers.JudgingAnswer.{JudgingAnswer}
 use Rattle.contour.specs.declared.OutcomeAnswer.{OutcomeAnswer}
 use Rattle.contour.specs.Answers.{outcomeAnswerOf}
 use Rattle.contour.proofs.outcome_in_numbers.Statement.{statement}
 use Rattle.contour.proofs.outcome_in_numbers.Tie as tie
-
-enum-known-outcome : tie.Need-enum-known-outcome
-enum-known-outcome c = search needs
-
-number-requires : tie.Need-number-requires
-number-requires c κs = search needs
-
-spot-requires : tie.Need-spot-requires
-spot-requires c κs = search needs
-
-enum-known-outcome-2 : tie.Need-enum-known-outcome-2
-enum-known-outcome-2 c = search needs
-
-judgement-in-numbers-requires : tie.Need-judgement-in-numbers-requires
-judgement-in-numbers-requires c κs = search needs
 
 -- the report beside the numbers of a judgement
 abbrev reported : ℕ → ℕ → ℕ → JudgingAnswer → OutcomeAnswer
@@ -49,11 +34,5 @@ returns-2 c =
 pub outcome-in-numbers-spec : {M : Type 1} → statement M
 outcome-in-numbers-spec =
     tie.close
-    (tie.spec
-    enum-known-outcome
-    number-requires
-    spot-requires
-    enum-known-outcome-2
-    judgement-in-numbers-requires
-    returns
-    returns-2)
+    (tie.spec (λ c. search needs) (λ c κs. search needs) (λ c κs. search needs) (λ c. search needs)
+    (λ c κs. search needs) returns returns-2)

@@ -14,15 +14,6 @@ use Rattle.engine.proofs.Outcomes.{done-room, x-refused, y-refused, not
 use Rattle.engine.proofs.band_and_judge.Statement.{statement}
 use Rattle.engine.proofs.band_and_judge.Tie as tie
 
-in-range-requires : tie.Need-in-range-requires
-in-range-requires c κs = search needs
-
-refusal-or-requires : tie.Need-refusal-or-requires
-refusal-or-requires c κs = search needs
-
-same-length : tie.Need-same-length
-same-length c = search needs
-
 returns : tie.Need-returns
 returns c =
     let t = c .before .before .before in
@@ -35,15 +26,6 @@ returns c =
 -- past the test of x
 x-fine : (c : tie.Else1) → inRange (c .before .before .args .x) ≡ true
 x-fine c = rw (toZ-ofZ (c .before .before .fits .x)) at (sym (c .before .in-range .ensures) ∙ not-false (c .before .in-range .result) (c .if1 .left))
-
-in-range-requires-2 : tie.Need-in-range-requires-2
-in-range-requires-2 c κs = search needs
-
-refusal-or-requires-2 : tie.Need-refusal-or-requires-2
-refusal-or-requires-2 c κs = search needs
-
-same-length-2 : tie.Need-same-length-2
-same-length-2 c = search needs
 
 returns-2 : tie.Need-returns-2
 returns-2 c =
@@ -59,15 +41,6 @@ y-fine : (c : tie.Else2) → inRange (c .before .before .before .before .args .y
 y-fine c =
     let s = c .before .before .before .before in
     rw (toZ-ofZ (s .fits .y)) at (sym (c .before .in-range2 .ensures) ∙ not-false (c .before .in-range2 .result) (c .if2 .left))
-
-band-requires : tie.Need-band-requires
-band-requires c κs = search needs
-
-enum-known-banded : tie.Need-enum-known-banded
-enum-known-banded c = search needs
-
-enum-known-banded-2 : tie.Need-enum-known-banded-2
-enum-known-banded-2 c = search needs
 
 -- the leaves have room in the lent list
 room : (c : tie.After-known-told2) → recordLength * c .before .banded2 .given .0 .1 .0
@@ -87,12 +60,6 @@ slice-reshare-prefix-judge c = omega (arith, room c, c .before .before .before .
 slice-aggregate-judge : tie.Need-slice-aggregate-judge
 slice-aggregate-judge c = sym (length-take-le _ _ (slice-reshare-prefix-judge (c .before)))
 
-judge-requires : tie.Need-judge-requires
-judge-requires c κs = search needs
-
-same-length-3 : tie.Need-same-length-3
-same-length-3 c = search needs
-
 returns-3 : tie.Need-returns-3
 returns-3 c =
     let b = c .before .before .before .before in
@@ -102,9 +69,6 @@ returns-3 c =
     let r = rw (toZ-ofZ (s .fits .tolerance)) at (b .band .ensures) in
     not-banded 64 (a .tolerance) (a .outline .now) (a .records .now) (a .x) (a .y) (x-fine (e .before .before)) (y-fine e) (r .1)
     (sym (r .0) ∙ c .before .banded .given .1)
-
-same-length-4 : tie.Need-same-length-4
-same-length-4 c = search needs
 
 returns-4 : tie.Need-returns-4
 returns-4 c =
@@ -120,23 +84,7 @@ returns-4 c =
 pub band-and-judge-spec : {M : Type 1} → statement M
 band-and-judge-spec =
     tie.close
-    (tie.spec
-    in-range-requires
-    refusal-or-requires
-    same-length
-    returns
-    in-range-requires-2
-    refusal-or-requires-2
-    same-length-2
-    returns-2
-    band-requires
-    enum-known-banded
-    enum-known-banded-2
-    mul-judge
-    slice-reshare-prefix-judge
-    slice-aggregate-judge
-    judge-requires
-    same-length-3
-    returns-3
-    same-length-4
-    returns-4)
+    (tie.spec (λ c κs. search needs) (λ c κs. search needs) (λ c. search needs) returns (λ c κs. search needs)
+    (λ c κs. search needs) (λ c. search needs) returns-2 (λ c κs. search needs) (λ c. search needs)
+    (λ c. search needs) mul-judge slice-reshare-prefix-judge slice-aggregate-judge (λ c κs. search needs)
+    (λ c. search needs) returns-3 (λ c. search needs) returns-4)

@@ -10,8 +10,8 @@ use lib.ListN.{length}
 use lib.Seq.{length-take-le}
 use lib.IntN.{ℤ}
 use Rattle.refusals.specs.declared.Refusal.the-variants.{TooFewRecords}
-use Rattle.banding.specs.declared.Banded.the-variants.{Refused as NotBanded}
-use Rattle.banding.specs.Banding.{banded}
+use Rattle.band.specs.declared.banding.Banded.the-variants.{Refused as NotBanded}
+use Rattle.band.specs.Banding.{banded}
 use Rattle.engine.proofs.Outcomes.{few-again, few-no-more, other-again, done-some, done-room}
 use Rattle.engine.proofs.refusal_or.Statement.{statement}
 use Rattle.engine.proofs.refusal_or.Tie as tie
@@ -21,18 +21,6 @@ slice-relend-prefix-band c = search needs
 
 slice-aggregate-band : tie.Need-slice-aggregate-band
 slice-aggregate-band c = sym (length-take-le _ (c .before .args .records .now) (slice-relend-prefix-band (c .before)))
-
-band-requires : tie.Need-band-requires
-band-requires c κs = search needs
-
-enum-known-banded : tie.Need-enum-known-banded
-enum-known-banded c = search needs
-
-enum-known-refusal : tie.Need-enum-known-refusal
-enum-known-refusal c = search needs
-
-enum-told : tie.Need-enum-told
-enum-told c = search needs
 
 -- no number is lent, so none is written in front of the list
 none-in-front : (xs ys : List ℤ) → length xs ≡ 0 → xs ++ ys ≡ ys
@@ -51,17 +39,11 @@ few : (c : tie.After-refusal) → let d = c .before .before .before .before .bef
     banded 64 (d .before .before .args .tolerance) (d .before .before .args .ns .now) 0 ≡ NotBanded (TooFewRecords (c .refusal .given .0 .0))
 few c = let b = c .before .before .before in said (b .before .before .before) ∙ b .banded .given .1 ∙ ap NotBanded (c .refusal .given .1)
 
-same-length : tie.Need-same-length
-same-length c = search needs
-
 returns : tie.Need-returns
 returns c =
     let d = c .before .before .before .before .before .before .before .before in
     let a = d .before .before .args in
     (unaltered d, few-again 64 (a .tolerance) (a .ns .now) (length (a .records .now)) (a .point) (few (c .before .before)) (omega (arith, c .if1 .taken)))
-
-same-length-2 : tie.Need-same-length-2
-same-length-2 c = search needs
 
 returns-2 : tie.Need-returns-2
 returns-2 c =
@@ -73,9 +55,6 @@ returns-2 c =
 abbrev others : List ℕ
 others = 0 ∷ 1 ∷ 2 ∷ 3 ∷ 4 ∷ 5 ∷ 6 ∷ 8 ∷ 9 ∷ 10 ∷ 11 ∷ 12 ∷ 13 ∷ 14 ∷ 15 ∷ 16 ∷ 17 ∷ []
 
-same-length-3 : tie.Need-same-length-3
-same-length-3 c = search needs
-
 returns-3 : tie.Need-returns-3
 returns-3 c =
     let b = c .before .before in
@@ -83,9 +62,6 @@ returns-3 c =
     let a = d .before .before .args in
     let other : (l : ℕ) → TooFewRecords l ≡ b .banded .given .0 .0 → ⊥ = λ l e. miss others 7 tt (rw (sym e) at (c .match2 .keys2)) in
     (unaltered d, other-again 64 (a .tolerance) (a .ns .now) (length (a .records .now)) (a .point) other (said d ∙ b .banded .given .1))
-
-same-length-4 : tie.Need-same-length-4
-same-length-4 c = search needs
 
 -- there is a leaf, for which there is no room
 returns-4 : tie.Need-returns-4
@@ -98,18 +74,6 @@ returns-4 c =
 pub refusal-or-spec : {M : Type 1} → statement M
 refusal-or-spec =
     tie.close
-    (tie.spec
-    slice-relend-prefix-band
-    slice-aggregate-band
-    band-requires
-    enum-known-banded
-    enum-known-refusal
-    enum-told
-    same-length
-    returns
-    same-length-2
-    returns-2
-    same-length-3
-    returns-3
-    same-length-4
-    returns-4)
+    (tie.spec slice-relend-prefix-band slice-aggregate-band (λ c κs. search needs) (λ c. search needs)
+    (λ c. search needs) (λ c. search needs) (λ c. search needs) returns (λ c. search needs) returns-2
+    (λ c. search needs) returns-3 (λ c. search needs) returns-4)

@@ -1,7 +1,7 @@
 -- `judge::judge` meets its contract: each return is one of the checks 9 and 10, or what is said of a list that passed them.
 use borrow.Author.Needs.{needs}
 use mir.Facts.{toZ-ofZ}
-use Rattle.judging.proofs.Answers.{list-empty, list-cut, number-bad, passed, judged-refused}
+use Rattle.judge.proofs.Answers.{list-empty, list-cut, number-bad, passed, judged-refused}
 use Rattle.judge.proofs.judge.Statement.{statement}
 use Rattle.judge.proofs.judge.Tie as tie
 

@@ -10,8 +10,8 @@ use lib.IntN.{ℤ}
 use Rattle.integers.proofs.Ranges.{stored}
 use Rattle.integers.proofs.Machine.{machine, fits! }
 use Rattle.boxes.specs.Ranges.{inRange}
-use Rattle.judging.proofs.Holders.{range-size}
-use Rattle.judging.proofs.Answers.{x-bad, y-bad, none-bad, judged-refused, judged-found}
+use Rattle.judge.proofs.Holders.{range-size}
+use Rattle.judge.proofs.Answers.{x-bad, y-bad, none-bad, judged-refused, judged-found}
 use Rattle.judge.proofs.judge_point.Statement.{statement}
 use Rattle.judge.proofs.judge_point.Tie as tie
 

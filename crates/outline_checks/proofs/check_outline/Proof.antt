@@ -11,15 +11,15 @@ use lib.ListN.{length}
 use lib.IntN.{ℤ}
 use Rattle.refusals.specs.declared.Refusal.{Refusal}
 use Rattle.refusals.specs.declared.Refusal.the-variants.{EmptyOutline, TooManyCurves}
-use Rattle.bezier.specs.declared.Curve.{Curve}
+use Rattle.curve_nodes.specs.declared.Curve.{Curve}
 use Rattle.outline.specs.declared.Checked.{Checked}
 use Rattle.outline.specs.declared.Checked.the-variants.{Curves, Refused}
-use Rattle.curve_faults.specs.declared.Fault.the-variants.{Is, Nothing}
-use Rattle.outline_curves.specs.Curves.{nextAt, curveAt}
-use Rattle.curve_faults.specs.Faults.{faultAt, faultOf}
+use Rattle.outline.specs.declared.curve_faults.Fault.the-variants.{Is, Nothing}
+use Rattle.outline.specs.Curves.{nextAt, curveAt}
+use Rattle.outline.specs.Faults.{faultAt, faultOf}
 use Rattle.outline.specs.Checks.{Outlined, curves, faulty, withCurve, outlineFrom, outlined, checkedOf}
 use Rattle.integers.proofs.Clash.{clash}
-use Rattle.curve_faults.proofs.Faultless.{faultless}
+use Rattle.outline.proofs.Faultless.{faultless}
 use Rattle.outline.proofs.Steps.{outline-ended, outline-full, outline-faulty, outline-step}
 use Rattle.outline_checks.proofs.check_outline.Statement.{statement}
 use Rattle.outline_checks.proofs.check_outline.Tie as tie
@@ -101,21 +101,12 @@ loop-holds c = begun (c .before .args .ns .now) (c .before .args .most) (c .if1 
 returns-2 : tie.Need-returns-2 Inv-loop μ-loop
 returns-2 c = too-many (c .before .before .loop .inv) (c .if2 .taken) (c .before .loop-test .taken)
 
-fault-at-requires : tie.Need-fault-at-requires Inv-loop μ-loop
-fault-at-requires c κs = search needs
-
-enum-known-refusal : tie.Need-enum-known-refusal Inv-loop μ-loop
-enum-known-refusal c = search needs
-
 returns-3 : tie.Need-returns-3 Inv-loop μ-loop
 returns-3 c =
     let turn = c .before .before .before in
     let found = c .before .refusal .given in
     stopped (turn .before .before .before .loop .inv) (turn .before .if2 .left) (found .0 .0) (turn .before .before .loop-test .taken)
     (is-fault _ (found .0 .0) (sym (turn .fault-at .ensures) ∙ found .1))
-
-enum-told : tie.Need-enum-told Inv-loop μ-loop
-enum-told c = search needs
 
 -- where the curve has no fault
 clear : (c : tie.After-enum-told Inv-loop μ-loop)
@@ -141,18 +132,5 @@ returns-4 c = over (c .before .loop .inv) (c .loop-test .left)
 pub check-outline-spec : {M : Type 1} → statement M
 check-outline-spec =
     tie.close
-    (tie.spec
-    Inv-loop
-    μ-loop
-    returns
-    loop-holds
-    returns-2
-    fault-at-requires
-    enum-known-refusal
-    returns-3
-    enum-told
-    next-at-requires
-    add-count
-    loop-less
-    loop-again
-    returns-4)
+    (tie.spec Inv-loop μ-loop returns loop-holds returns-2 (λ c κs. search needs) (λ c. search needs) returns-3
+    (λ c. search needs) next-at-requires add-count loop-less loop-again returns-4)

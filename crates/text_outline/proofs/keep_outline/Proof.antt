@@ -2,13 +2,13 @@
 use Prim.Native.Nat.{_-_}
 use borrow.Author.Needs.{needs}
 use Rattle.text_outline.proofs.Filling.{Keeping, keeping-start, keep-no-form, keep-tolerance, keep-last, keep-curve, keep-point, keep-over}
-use Rattle.text.proofs.Lines.{tolerance-less, curve-less, point-less}
+use Rattle.text_lines.proofs.Lines.{tolerance-less, curve-less, point-less}
 use lib.ListN.{length}
 use Rattle.text_outline.proofs.keep_outline.Statement.{statement}
 use Rattle.text_outline.proofs.keep_outline.Tie as tie
 use Rattle.text_outline.proofs.keep_outline.Reads as reads
 use Rattle.text_outline.proofs.keep_outline.Lts as lts
-use Rattle.line_reader.proofs.line_from.Reads as line-from-reads
+use Rattle.text_reader.proofs.line_from.Reads as line-from-reads
 use Rattle.text_outline.proofs.put.Reads as put-reads
 use Rattle.text_outline.proofs.put_curve.Reads as put-curve-reads
 
@@ -21,20 +21,8 @@ abbrev μ-loop : tie.MeasureT-loop
 loop-holds : tie.Need-loop-holds Inv-loop μ-loop
 loop-holds c = keeping-start _ _ (c .before .pre)
 
-line-from-requires : tie.Need-line-from-requires Inv-loop μ-loop
-line-from-requires c κs = search needs
-
-enum-told : tie.Need-enum-told Inv-loop μ-loop
-enum-told c = search needs
-
-same-length : tie.Need-same-length Inv-loop μ-loop
-same-length c = search needs
-
 returns : tie.Need-returns Inv-loop μ-loop
 returns c = search keep-no-form
-
-enum-known-next : tie.Need-enum-known-next Inv-loop μ-loop
-enum-known-next c = search needs
 
 loop-less : tie.Need-loop-less Inv-loop μ-loop
 loop-less c = search tolerance-less
@@ -42,23 +30,8 @@ loop-less c = search tolerance-less
 loop-again : tie.Need-loop-again Inv-loop μ-loop
 loop-again c = search keep-tolerance
 
-enum-known-p : tie.Need-enum-known-p Inv-loop μ-loop
-enum-known-p c = search needs
-
-put-requires : tie.Need-put-requires Inv-loop μ-loop
-put-requires c κs = search needs
-
-same-length-2 : tie.Need-same-length-2 Inv-loop μ-loop
-same-length-2 c = search needs
-
 returns-2 : tie.Need-returns-2 Inv-loop μ-loop
 returns-2 c = search keep-last
-
-put-curve-requires : tie.Need-put-curve-requires Inv-loop μ-loop
-put-curve-requires c κs = search needs
-
-sub-left : tie.Need-sub-left Inv-loop μ-loop
-sub-left c = search needs
 
 loop-less-2 : tie.Need-loop-less-2 Inv-loop μ-loop
 loop-less-2 c = search curve-less
@@ -66,17 +39,11 @@ loop-less-2 c = search curve-less
 loop-again-2 : tie.Need-loop-again-2 Inv-loop μ-loop
 loop-again-2 c = search keep-curve
 
-enum-known-next-2 : tie.Need-enum-known-next-2 Inv-loop μ-loop
-enum-known-next-2 c = search needs
-
 loop-less-3 : tie.Need-loop-less-3 Inv-loop μ-loop
 loop-less-3 c = search point-less
 
 loop-again-3 : tie.Need-loop-again-3 Inv-loop μ-loop
 loop-again-3 c = search keep-point
-
-same-length-3 : tie.Need-same-length-3 Inv-loop μ-loop
-same-length-3 c = search needs
 
 returns-3 : tie.Need-returns-3 Inv-loop μ-loop
 returns-3 c = search keep-over
@@ -84,27 +51,7 @@ returns-3 c = search keep-over
 pub keep-outline-spec : {M : Type 1} → statement M
 keep-outline-spec =
     tie.close
-    (tie.spec
-    Inv-loop
-    μ-loop
-    loop-holds
-    line-from-requires
-    enum-told
-    same-length
-    returns
-    enum-known-next
-    loop-less
-    loop-again
-    enum-known-p
-    put-requires
-    same-length-2
-    returns-2
-    put-curve-requires
-    sub-left
-    loop-less-2
-    loop-again-2
-    enum-known-next-2
-    loop-less-3
-    loop-again-3
-    same-length-3
-    returns-3)
+    (tie.spec Inv-loop μ-loop loop-holds (λ c κs. search needs) (λ c. search needs) (λ c. search needs) returns
+    (λ c. search needs) loop-less loop-again (λ c. search needs) (λ c κs. search needs) (λ c. search needs) returns-2
+    (λ c κs. search needs) (λ c. search needs) loop-less-2 loop-again-2 (λ c. search needs) loop-less-3 loop-again-3
+    (λ c. search needs) returns-3)

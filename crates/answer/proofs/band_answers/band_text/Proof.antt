@@ -1,0 +1,29 @@
+-- `answer::band_answers::band_text` meets its contract. What was kept of the outline is what banding is lent, and it answers as for the whole.
+use borrow.Author.Needs.{needs}
+use Rattle.answer.proofs.Bands.{kept-inside, kept-length, refused-band, refused-records, text-band, text-records}
+use Rattle.answer.proofs.band_answers.band_text.Statement.{statement}
+use Rattle.answer.proofs.band_answers.band_text.Tie as tie
+use Rattle.answer.proofs.band_answers.band_text.Reads as reads
+use Rattle.answer.proofs.band_answers.band_text.Lts as lts
+use Rattle.band.proofs.band.Reads as band-reads
+use Rattle.text_lines.proofs.text_checks.check_text.Reads as check-text-reads
+use Rattle.text_outline.proofs.keep_outline.Reads as keep-outline-reads
+
+slice-reshare-prefix-band : tie.Need-slice-reshare-prefix-band
+slice-reshare-prefix-band c = search kept-inside
+
+slice-aggregate-band : tie.Need-slice-aggregate-band
+slice-aggregate-band c = search kept-length
+
+returns : tie.Need-returns
+returns c = (search refused-band, search refused-records)
+
+returns-2 : tie.Need-returns-2
+returns-2 c = (search text-band, search text-records)
+
+pub band-text-spec : {M : Type 1} → statement M
+band-text-spec =
+    tie.close
+    (tie.spec (λ c κs. search needs) (λ c. search needs) (λ c. search needs) (λ c κs. search needs)
+    slice-reshare-prefix-band slice-aggregate-band (λ c κs. search needs) returns (λ c. search needs)
+    (λ c. search needs) returns-2)

@@ -1,0 +1,72 @@
+-- The answer for the curves of an outline: too wide, too little room, or done; each of them exactly where it is due.
+use mathlib.Core.Path.{_≡_, refl, sym, _∙_, ap}
+use mathlib.Core.Logic.{⊎-elim}
+use mathlib.Core.List.{List}
+use mathlib.Core.Option.{Option, none, some}
+use Prim.Native.Nat.{ℕ, _*_}
+use borrow.Author.Tests.{lt-ltb, le-ltb}
+use lib.ListN.{length}
+use lib.IntN.{ℤ}
+use Rattle.integers.proofs.Order.{lt-or-ge}
+use Rattle.refusals.specs.declared.Refusal.{Refusal}
+use Rattle.refusals.specs.declared.Refusal.the-variants.{TooWide, TooFewRecords}
+use Rattle.curve_nodes.specs.declared.Curve.{Curve}
+use Rattle.band.specs.declared.banding.Banded.{Banded}
+use Rattle.band.specs.declared.banding.Banded.the-variants.{Done, Refused}
+use Rattle.boxes.specs.Records.{recordLength}
+use Rattle.band_passes.specs.Leaves.{firstTooWide, leavesOf, nodesOf}
+use Rattle.band.specs.Banding.{bandCurves}
+use Rattle.band_passes.specs.Meeting.{FirstWide}
+use Rattle.band.specs.Outcomes.{Few, Report}
+use Rattle.band_passes.proofs.Wide.{none-wide, first-wide, only-wide}
+
+module _ (T : ℤ) (cs : List Curve) (room : ℕ) where
+  pub wide-said : {k n : ℕ} → FirstWide T 0 cs k n → bandCurves T cs room ≡ Refused (TooWide k n)
+  unfolding bandCurves
+  wide-said {k} {n} w = rw (first-wide T 0 cs k n .1 w, bandCurves)
+
+  pub few-said : {l : ℕ} → Few T cs room l → bandCurves T cs room ≡ Refused (TooFewRecords l)
+  unfolding bandCurves
+  few-said f = rw (none-wide T 0 cs .1 (f .meet), lt-ltb room (recordLength * leavesOf T cs) (f .short), sym (f .leaves), bandCurves)
+
+  pub done-said : {a b c : ℕ} → Report T cs room a b c → bandCurves T cs room ≡ Done a b c
+  unfolding bandCurves
+  done-said r = rw (none-wide T 0 cs .1 (r .meet), le-ltb room (recordLength * leavesOf T cs) (r .enough), sym (r .curves), sym (r .leaves), sym (r .nodes), bandCurves)
+
+  -- ---- and only where it is due: one of the three it must be
+  data Case : Banded → Type 0 where
+    wide : {k n : ℕ} → FirstWide T 0 cs k n → Case (Refused (TooWide k n))
+    few : {l : ℕ} → Few T cs room l → Case (Refused (TooFewRecords l))
+    report : {a b c : ℕ} → Report T cs room a b c → Case (Done a b c)
+
+  one-of : Case (bandCurves T cs room)
+  one-of = go (firstTooWide T 0 cs) refl
+    where
+      go : (o : Option Refusal) → firstTooWide T 0 cs ≡ o → Case (bandCurves T cs room)
+      go (some r) e = let w = only-wide T 0 cs r e in let h = first-wide T 0 cs (w .0) (w .1) .0 (e ∙ ap some (w .2)) in rw (wide-said h) (wide h)
+      go none e =
+          let m = none-wide T 0 cs .0 e in
+          ⊎-elim
+          (λ l. let h : Few T cs room (leavesOf T cs) = record { meet = m; short = l; leaves = refl } in rw (few-said h) (few h))
+          (λ l.
+          let h : Report T cs room (length cs) (leavesOf T cs) (nodesOf T cs) = record { meet = m; enough = l; curves = refl; leaves = refl; nodes = refl } in
+          rw (done-said h) (report h))
+          (lt-or-ge room (recordLength * leavesOf T cs))
+
+  pub said-wide : (k n : ℕ) → bandCurves T cs room ≡ Refused (TooWide k n) → FirstWide T 0 cs k n
+  said-wide k n e = go (rw e at one-of)
+    where
+      go : Case (Refused (TooWide k n)) → FirstWide T 0 cs k n
+      go (wide w) = w
+
+  pub said-few : (l : ℕ) → bandCurves T cs room ≡ Refused (TooFewRecords l) → Few T cs room l
+  said-few l e = go (rw e at one-of)
+    where
+      go : Case (Refused (TooFewRecords l)) → Few T cs room l
+      go (few f) = f
+
+  pub said-done : (a b c : ℕ) → bandCurves T cs room ≡ Done a b c → Report T cs room a b c
+  said-done a b c e = go (rw e at one-of)
+    where
+      go : Case (Done a b c) → Report T cs room a b c
+      go (report r) = r

@@ -1,0 +1,85 @@
+-- Examples of banding beside the starred ones, by computation: what stands behind the records, two curves, the spots of 7 and 8, and a list that is left as it was.
+use mathlib.Core.Path.{_≡_, refl}
+use mathlib.Core.List.{List, [], _∷_, _++_}
+use Prim.Native.Nat.{ℕ}
+use lib.ListN.{replicate}
+use lib.IntN.{ℤ, pos, pow, one}
+use Rattle.integers.specs.Rounding.{floor, ceiling}
+use Rattle.refusals.specs.Refusals.{numberOf, spotOf}
+use Rattle.curve_halves.specs.Halves.{triangle, left, right}
+use Rattle.curve_nodes.specs.Halves.{leftHalf, rightHalf}
+use Rattle.curve_nodes.specs.Nodes.{descendIn, descend, depth, nodeCurve}
+use Rattle.bound_enclosure.specs.Bounds.{rowSum, high, low}
+use Rattle.bound_node.specs.Boxes.{boxAt, meets}
+use Rattle.outline.specs.Curves.{curveAt}
+use Rattle.integers.specs.First.{firstBad}
+use Rattle.outline.specs.Faults.{faultAt}
+use Rattle.outline.specs.Checks.{outlineFrom, outlined}
+use Rattle.band.specs.declared.banding.Banded.{Banded}
+use Rattle.band.specs.declared.banding.Banded.the-variants.{Done, Refused}
+use Rattle.walk_tree.specs.Tree.{ends, met, firstFailing}
+use Rattle.band_records.specs.Records.{recordOf, recordsOf, allRecords}
+use Rattle.band_passes.specs.Leaves.{firstTooWide, leavesOf, nodesOf}
+use Rattle.band.specs.Banding.{bandCurves, banded, written}
+
+-- with at most 64 curves
+abbrev answer : ℤ → List ℤ → ℕ → Banded
+answer T ns room = banded 64 T ns room
+
+abbrev lent : ℤ → List ℤ → List ℤ → List ℤ
+lent T ns old = written 64 T ns old
+
+-- what the examples compute through
+computing : ℤ → List ℤ → List ℤ → List ℤ
+unfolding written allRecords recordsOf recordOf banded bandCurves firstTooWide leavesOf nodesOf ends met firstFailing outlined outlineFrom faultAt firstBad curveAt descend descendIn depth nodeCurve meets boxAt high low rowSum floor ceiling leftHalf rightHalf left right triangle pow one
+computing = lent
+
+-- number and spot of a refusal
+abbrev refusal : Banded → ℕ × ℕ
+refusal (Refused r) = (numberOf r, spotOf r)
+refusal (Done a b c) = (0, 0)
+
+-- the numbers of a box
+abbrev box : (a b c d : ℕ) → List ℤ
+box a b c d = pos a ∷ pos b ∷ pos c ∷ pos d ∷ []
+
+abbrev A : List ℤ
+A = pos 3 ∷ pos 0 ∷ pos 0 ∷ pos 10 ∷ pos 30 ∷ pos 20 ∷ pos 30 ∷ pos 30 ∷ pos 0 ∷ []
+
+abbrev line : List ℤ
+line = pos 1 ∷ pos 0 ∷ pos 0 ∷ pos 0 ∷ pos 1 ∷ []
+
+abbrev tall : List ℤ
+tall = pos 3 ∷ pos 0 ∷ pos 0 ∷ pos 0 ∷ pos 1048576 ∷ pos 0 ∷ pos 1048576 ∷ pos 0 ∷ pos 0 ∷ []
+
+-- ---- A at T 44: the leaf of the listing; what stands behind it stays
+pub a-44-record : lent (pos 44) A (replicate 20 (pos 7))
+    ≡ pos 0 ∷ pos 1 ∷ box 0 0 0 38 ++ box 160 160 319 363 ++ box 320 320 319 363 ++ box 480 480 0 38 ++ (pos 7 ∷ pos 7 ∷ [])
+unfolding computing
+a-44-record = refl
+
+-- ---- y 0, 18, 0 and the line 0, 1, as the first and the second curve of one outline
+pub two-curves : lent (pos 17) (pos 2 ∷ pos 0 ∷ pos 0 ∷ pos 0 ∷ pos 18 ∷ pos 0 ∷ pos 0 ∷ line) (replicate 36 (pos 7))
+    ≡ pos 0 ∷ pos 1 ∷ box 0 0 0 17 ++ box 0 0 127 144 ++ box 0 0 127 144 ++ box 0 0 0 17
+    ++ (pos 1 ∷ pos 1 ∷ box 0 0 0 0 ++ box 0 0 5 6 ++ box 0 0 10 11 ++ box 0 0 16 16)
+unfolding computing
+two-curves = refl
+
+-- ---- 7 of curve 1, before 8: its spot is 512 more
+pub second-too-wide : refusal (answer (pos 2) (pos 1 ∷ pos 0 ∷ pos 1 ∷ pos 0 ∷ pos 0 ∷ tall) 0) ≡ (7, 768)
+unfolding computing
+second-too-wide = refl
+
+-- ---- 17: a curve that does not begin where the line ends, before 7
+pub gap : refusal (answer (pos 2) (line ++ tall) 0) ≡ (17, 5)
+unfolding computing
+gap = refl
+
+-- ---- 8: one number short; its spot is the number of leaves, and the lent list stays as it was
+pub too-few : refusal (answer (pos 43) A 35) ≡ (8, 2)
+unfolding computing
+too-few = refl
+
+pub unaltered : lent (pos 43) A (replicate 35 (pos 7)) ≡ replicate 35 (pos 7)
+unfolding computing
+unaltered = refl

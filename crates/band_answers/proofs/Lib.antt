@@ -1,2 +1,0 @@
--- Laws of the band of a text.
-pub mod Bands

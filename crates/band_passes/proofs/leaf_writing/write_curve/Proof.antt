@@ -1,0 +1,134 @@
+-- The records of a curve's leaves. The loop's invariant: the walk stands at this part of the curve, and the list holds the records of the leaves that
+-- it passed. The measure is the node's rank.
+use mathlib.Core.Path.{_≡_, sym, _∙_, ap}
+use mathlib.Core.Bool.{true, false}
+use Prim.Native.Nat.{_+_, _≤_, _<_}
+use native.Mathlib.Omega.{arith}
+use mir.Syntax.{w64}
+use mir.Val.{toZ}
+use mir.Facts.{toZ-ofZ}
+use lib.ListN.{length}
+use lib.Seq.{sets, length-sets}
+use Rattle.integers.proofs.Ranges.{stored}
+use Rattle.band_passes.specs.Writing.{Ready}
+use Rattle.walk_curve.specs.Parts.{PartOf}
+use Rattle.walk_curve.specs.Walked.{deepest, nodeMeets}
+use Rattle.walk_curve.proofs.Parts.{part-whole, part-sized, part-shallow, part-meets, part-left}
+use Rattle.band_records.specs.Records.{recordOf}
+use Rattle.walk_tree.proofs.Rank.{rank}
+use Rattle.walk_tree.proofs.Walking.{walking-halvable, half-falls, leaf-falls}
+use Rattle.walk_tree.proofs.Failing.{none-passing}
+use Rattle.band_passes.proofs.Recording.{Recorded, recorded-start, recorded-length, recorded-room, recorded-half, recorded-leaf, recorded-done, writable-node, put}
+use Rattle.band_passes.proofs.leaf_writing.write_curve.Statement.{statement}
+use Rattle.band_passes.proofs.leaf_writing.write_curve.Tie as tie
+
+abbrev Inv-loop : tie.InvT-loop
+Inv-loop records₀ at number t part₀ place₀ records part place =
+    Recorded (toZ w64 t) (part₀ .curve) number records₀ at (part .node) place records × PartOf (part₀ .curve) part
+
+abbrev μ-loop : tie.MeasureT-loop
+μ-loop records₀ at number t part₀ place₀ records part place = rank deepest (part .node)
+
+loop-holds : tie.Need-loop-holds Inv-loop μ-loop
+loop-holds c = (recorded-start, part-whole (c .pre .0 .sized))
+
+-- the contract's own, at the tolerance as it is stored
+ready : (c : tie.Start Inv-loop μ-loop) → Ready (stored w64 (c .args .t)) (c .args .curve)
+ready c = rw (toZ-ofZ (c .fits .t)) (c .pre .0)
+
+room : (c : tie.At-loop Inv-loop μ-loop) → c .loop .place + 18 ≤ length (c .loop .records)
+room c = recorded-room (c .loop .inv .0) (rw (toZ-ofZ (c .before .fits .t)) (c .before .pre .2))
+
+depth-requires : tie.Need-depth-requires Inv-loop μ-loop
+depth-requires c κs = c .before .loop .inv .1 .some
+
+meets-requires : tie.Need-meets-requires Inv-loop μ-loop
+meets-requires c κs = let p = c .before .before .loop .inv .1 in rw (c .depth .ensures) (part-sized p, part-shallow p)
+
+-- ---- a leaf
+passes : (c : tie.Then1 Inv-loop μ-loop)
+    → let l = c .before .before .before .before in nodeMeets (stored w64 (l .before .args .t)) (l .before .args .curve) (l .loop .part .node) ≡ true
+passes c =
+    let l = c .before .before .before .before in
+    part-meets (l .loop .inv .1) (stored w64 (l .before .args .t)) (c .before .before .depth .ensures) (c .before .meets .ensures) (c .if1 .taken)
+
+put-record-requires : tie.Need-put-record-requires Inv-loop μ-loop
+put-record-requires c κs =
+    let l = c .before .before .before .before .before in
+    let p = l .loop .inv .1 in
+    (room l, l .before .pre .1, p .deep, p .some, rw (p .is) (writable-node (ready (l .before)) (l .loop .inv .0 .walking)))
+
+add-place : tie.Need-add-place Inv-loop μ-loop
+add-place c = let l = c .before .before .before .before .before .before .before in omega (arith, room l, recorded-length (l .loop .inv .0))
+
+after-requires : tie.Need-after-requires Inv-loop μ-loop
+after-requires c κs = (_, c .before .before .before .before .before .before .before .loop .inv .1)
+
+-- the leaf's record stands in its place
+written : (c : tie.After-put-record Inv-loop μ-loop)
+    → let l = c .before .before .before .before .before .before in
+    let a = l .before .args in
+    c .put-record .last .0 ≡ sets (l .loop .records) (l .loop .place) (recordOf (a .number) (a .curve) (l .loop .part .node))
+written c =
+    let l = c .before .before .before .before .before .before in
+    let a = l .before .args in
+    put (l .loop .records) (l .loop .place) (a .number) (a .curve) (l .loop .part .node) (l .loop .inv .1 .is) (c .put-record .ensures)
+
+same-length : tie.Need-same-length Inv-loop μ-loop
+same-length c =
+    let l = c .before .before .before .before .before .before .before .before .before .before in
+    ap length (written (c .before .before .before .before))
+    ∙ length-sets (l .loop .records) (l .loop .place) (recordOf (l .before .args .number) (l .before .args .curve) (l .loop .part .node))
+    ∙ recorded-length (l .loop .inv .0)
+
+returns : tie.Need-returns Inv-loop μ-loop
+returns c =
+    let r = c .before .before .before .before in
+    let l = r .before .before .before .before .before .before in
+    rw (toZ-ofZ (l .before .fits .t)) at
+    (recorded-done (l .loop .inv .0) (passes (r .before .before)) (sym (c .before .before .after .ensures .node) ∙ c .if2 .taken) (written r))
+
+loop-less : tie.Need-loop-less Inv-loop μ-loop
+loop-less c =
+    let e = c .before .before .after .ensures .node in
+    let l = c .before .before .before .before .before .before .before .before .before .before .loop .inv in
+    rw e (leaf-falls (l .0 .walking) (λ o. c .if2 .left (e ∙ o)))
+
+loop-again : tie.Need-loop-again Inv-loop μ-loop
+loop-again c =
+    let e = c .before .before .after .ensures .node in
+    let r = c .before .before .before .before in
+    let l = r .before .before .before .before .before .before .loop .inv in (
+      rw e (recorded-leaf (l .0) (passes (r .before .before)) (λ o. c .if2 .left (e ∙ o)) (written r)),
+      c .before .before .after .ensures .of (l .1) (c .if2 .left),
+    )
+
+-- ---- a node that does not pass
+fails : (c : tie.Else1 Inv-loop μ-loop)
+    → let l = c .before .before .before .before in nodeMeets (stored w64 (l .before .args .t)) (l .before .args .curve) (l .loop .part .node) ≡ false
+fails c =
+    let l = c .before .before .before .before in
+    part-meets (l .loop .inv .1) (stored w64 (l .before .args .t)) (c .before .before .depth .ensures) (c .before .meets .ensures) (c .if1 .left)
+
+-- it has halves
+halved : (c : tie.Else1 Inv-loop μ-loop) → c .before .before .before .before .loop .part .node < 256
+halved c =
+    let l = c .before .before .before .before in
+    walking-halvable (l .loop .inv .0 .walking) (none-passing _ _ (ready (l .before) .passing)) (fails c)
+
+left-requires : tie.Need-left-requires Inv-loop μ-loop
+left-requires c κs = ((_, c .before .before .before .before .loop .inv .1), halved c)
+
+loop-less-2 : tie.Need-loop-less-2 Inv-loop μ-loop
+loop-less-2 c = rw (c .left .ensures) (half-falls (c .before .before .before .before .before .loop .inv .0 .walking) (halved (c .before)))
+
+loop-again-2 : tie.Need-loop-again-2 Inv-loop μ-loop
+loop-again-2 c =
+    let l = c .before .before .before .before .before in
+    rw (c .left .ensures) (recorded-half (l .loop .inv .0) (ready (l .before)) (fails (c .before)), part-left (l .loop .inv .1) (halved (c .before)))
+
+pub write-curve-spec : {M : Type 1} → statement M
+write-curve-spec =
+    tie.close
+    (tie.spec Inv-loop μ-loop loop-holds depth-requires meets-requires put-record-requires add-place after-requires
+    same-length returns loop-less loop-again left-requires loop-less-2 loop-again-2)

@@ -1,0 +1,51 @@
+-- The record of a node: its two numbers and its boxes, in their places.
+use mathlib.Core.Path.{_≡_, _∙_, ap}
+use native.Mathlib.Nat.{lt-trans}
+use lib.Dec.{lit<}
+use lib.ListN.{length, length-set}
+use lib.Seq.{sets, length-sets}
+use mir.Syntax.{w32}
+use mir.Facts.{toZ-pos}
+use Rattle.curve_nodes.specs.Nodes.{depth}
+use Rattle.band_records.specs.Records.{boxesTo, nodeNumbers}
+use Rattle.band_records.proofs.Writing.{head-sets}
+use native.Mathlib.Omega.{arith}
+use borrow.Author.Needs.{needs}
+use Rattle.band_records.proofs.put_record.Statement.{statement}
+use Rattle.band_records.proofs.put_record.Tie as tie
+use Rattle.band_records.proofs.put_record.Reads as reads
+use Rattle.band_records.proofs.put_record.Lts as lts
+use Rattle.band_records.proofs.put_boxes.Reads as put-boxes-reads
+use Rattle.curve_nodes.proofs.depth.Reads as depth-reads
+
+slice-set-from-records-2 : tie.Need-slice-set-from-records-2
+slice-set-from-records-2 c = simp length-set (omega arith)
+
+put-boxes-requires : tie.Need-put-boxes-requires
+put-boxes-requires c κs = (simp length-set (omega arith), rw (c .depth .ensures) (c .before .before .pre .4))
+
+-- what the list holds: the two numbers and the boxes
+left : (c : lts.After-records (depth-reads.Asked, depth-reads.Learnt, put-boxes-reads.Asked, put-boxes-reads.Learnt) reads.Pre reads.Post)
+    → let s = c .before .before .before .before in
+    c .before .put-boxes .last .0 ≡ sets (s .args .records .now) (s .args .at) (nodeNumbers (s .args .number) (s .args .node) (boxesTo 4 (depth (s .args .node)) (s .args .curve)))
+left c =
+    let s = c .before .before .before .before in
+    let a = s .args in
+    head-sets (a .records .now) (a .at) (a .number) (a .node) (boxesTo 4 (depth (a .node)) (a .curve))
+    (toZ-pos w32 (s .pre .1)) (toZ-pos w32 (lt-trans (s .pre .2) (lit< tt)))
+    (rw (← (c .before .before .depth .ensures)) (c .before .put-boxes .ensures))
+
+same-length : tie.Need-same-length
+same-length c =
+    let a = c .before .before .before .before .args in
+    ap length (left c) ∙ length-sets (a .records .now) (a .at) (nodeNumbers (a .number) (a .node) (boxesTo 4 (depth (a .node)) (a .curve)))
+
+returns : tie.Need-returns
+returns c = left c
+
+pub put-record-spec : {M : Type 1} → statement M
+put-record-spec =
+    tie.close
+    (tie.spec (λ c. search needs) (λ c. search needs) (λ c. search needs) (λ c. search needs) (λ c. search needs)
+    (λ c. search needs) slice-set-from-records-2 (λ c. search needs) (λ c κs. search needs) put-boxes-requires
+    same-length returns)

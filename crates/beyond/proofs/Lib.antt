@@ -1,2 +1,0 @@
--- Laws of the quick look at a record.
-pub mod Passing

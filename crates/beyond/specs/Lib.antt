@@ -1,2 +1,0 @@
--- What the contracts of the quick look at a record cite.
-pub mod Sides

@@ -1,0 +1,100 @@
+-- The width law: how far apart a high and its low can be, from a bound on the second differences.
+use mathlib.Core.Path.{_≡_, refl, _∙_, ap}
+use mathlib.Core.Bool.{Bool, cond, _&&_}
+use mathlib.Core.List.{List, [], _∷_}
+use Prim.Native.Nat.{ℕ, suc, _+_, _*_, _-_, _^_, _≤_, _<_, zero-le, suc-le-suc}
+use native.Mathlib.Nat.{one-le-pow, zero-lt-suc, one-mul}
+use native.Mathlib.Omega.{arith}
+use lib.Dec.{T}
+use lib.ListN.{length}
+use lib.IntN.{ℤ, pos, negsuc, negℤ, natAbs, _+ℤ_, _-ℤ_, _*ℤ_}
+use lib.Signed.{nonNeg, ltZ, leZ, _≤ℤ_, _<ℤ_, ltZ-yes, leZ-yes}
+use Rattle.integers.specs.Entry.{entry}
+use Rattle.integers.specs.Rounding.{floor, ceiling}
+use Rattle.integers.proofs.Ring.{ring, sides}
+use Rattle.integers.proofs.Order.{times-positive, balance, NonNeg, natural, gap, gap<, nonneg-by, nonneg-cancel, le-of-gap, le-by, pos-le, pos-lt, *ℤ-cancel, _+₀_, _×₀_}
+use Rattle.integers.proofs.Ranges.{no-lt}
+use Rattle.integers.proofs.Rounding.{floor-is, ceiling-is}
+use Rattle.integers.proofs.Table.{and-left, and-right, below}
+use Rattle.curve_nodes.specs.Differences.{difference}
+use Rattle.bound_rows.specs.Rows.{Row, pieces, thirds}
+use Rattle.bound_enclosure.specs.Bounds.{exchanged, chord, rowSum, high, low}
+use Rattle.bound_enclosure.specs.Thirds.{highOf, lowOf}
+use Rattle.bound_rows.proofs.Gaps.{gapSum, ordered, apart, table-apart}
+use Rattle.bound_rows.proofs.Rows.{table-count}
+
+-- ---- the two sums of row × difference
+-- one term: the rows' gap times the size of the difference
+pub term-gap : (h l δ : ℤ) → cond (ltZ δ (pos 0)) l h *ℤ δ -ℤ cond (ltZ δ (pos 0)) h l *ℤ δ ≡ (h -ℤ l) *ℤ pos (natAbs δ)
+term-gap h l (pos n) =
+    ap (λ (c : Bool). cond c l h *ℤ pos n -ℤ cond c h l *ℤ pos n) (no-lt {a = pos n} (pos-le zero-le))
+    ∙ ring (h ∷ l ∷ pos n ∷ []) {a = h *ℤ pos n -ℤ l *ℤ pos n} (search sides depth 20) refl
+term-gap h l (negsuc n) =
+    ring (h ∷ l ∷ pos n ∷ []) {a = l *ℤ negℤ (pos (suc n)) -ℤ h *ℤ negℤ (pos (suc n))} {b = (h -ℤ l) *ℤ pos (suc n)} (search sides depth 20) refl
+
+-- z times each difference is at most W in size
+sums-apart : (z W i : ℕ) (cs : List ℤ) (ρs : List Row) (k : ℕ) → T (ordered ρs i)
+    → ((j : ℕ) → k ≤ j → j < k + length ρs → z * natAbs (difference cs j) ≤ W)
+    → NonNeg (pos W *ℤ gapSum ρs i -ℤ pos z *ℤ (rowSum ρs i k cs -ℤ rowSum (exchanged ρs) i k cs))
+unfolding rowSum
+sums-apart z W i cs [] k t small = nonneg-by (pos z ∷ pos W ∷ []) (natural 0) (search sides depth 20) refl
+sums-apart z W i cs (ρ ∷ ρs) k t small =
+    let h = entry (ρ .high) i in
+    let l = entry (ρ .low) i in
+    let δ = difference cs k in
+    let c = ltZ δ (pos 0) in
+    let s = rowSum ρs i (suc k) cs in
+    let t′ = rowSum (exchanged ρs) i (suc k) cs in
+    nonneg-by (pos z ∷ pos W ∷ h ∷ l ∷ δ ∷ pos (natAbs δ) ∷ cond c l h ∷ cond c h l ∷ gapSum ρs i ∷ s ∷ t′ ∷ [])
+    (gap (pos-le (small k (omega arith) (omega arith))) ×₀ first +₀ balance (negℤ (pos z)) (term-gap h l δ)
+    +₀ sums-apart z W i cs ρs (suc k) (and-right (nonNeg (h -ℤ l)) (ordered ρs i) t) (λ j m n. small j (omega arith) (omega arith)))
+    (search sides depth 40 fits 9999) refl
+  where
+    first : NonNeg (entry (ρ .high) i -ℤ entry (ρ .low) i)
+    first = record { holds = and-left (nonNeg (entry (ρ .high) i -ℤ entry (ρ .low) i)) (ordered ρs i) t }
+
+-- ---- the law, for rows at most G apart: z is 4^depth and M the largest second difference of the undivided curve. Rounding adds less than 2.
+module _ (m G d : ℕ) (ρs : List Row) (some : 0 < m) (t : T (apart m G ρs)) (D z M : ℕ) (hD : 0 < D) (cs : List ℤ)
+    (small : (k : ℕ) → k < length ρs → z * natAbs (difference cs k) ≤ D * M) where
+  pub width-within : (i : ℕ) → i ≤ m
+      → (pos 10000 *ℤ pos z *ℤ (high m ρs (pos D) d cs i -ℤ low m ρs (pos D) d cs i)) ≤ℤ (pos 16 *ℤ pos G *ℤ pos M +ℤ pos 20000 *ℤ pos z)
+  unfolding high low
+  width-within i hi =
+      let Q = pos 10000 *ℤ pos m *ℤ pos D in
+      let hQ : pos 0 <ℤ Q = times-positive (times-positive {x = pos 10000} (ltZ-yes tt) (pos-lt some)) (pos-lt hD) in
+      let x = chord m d i cs in
+      let S = rowSum ρs i 0 cs in
+      let S′ = rowSum (exchanged ρs) i 0 cs in
+      let N = pos 16 *ℤ (x +ℤ pos m *ℤ S) in
+      let N′ = pos 16 *ℤ (x +ℤ pos m *ℤ S′) in
+      let g = gapSum ρs i in
+      let passed = below (suc m) (λ j. ordered ρs j && leZ (gapSum ρs j) (pos G)) t i (suc-le-suc hi) in
+      le-of-gap (nonneg-cancel (pos-lt hD) (nonneg-cancel (pos-lt some)
+      (nonneg-by (pos m ∷ pos D ∷ pos z ∷ pos M ∷ pos G ∷ x ∷ S ∷ S′ ∷ g ∷ ceiling N Q ∷ floor N′ Q ∷ [])
+      (natural 16 ×₀ natural m ×₀ natural M ×₀ natural D ×₀ gap {a = g} {b = pos G} (leZ-yes (and-right (ordered ρs i) (leZ g (pos G)) passed))
+      +₀ natural 16 ×₀ natural m ×₀ sums-apart z (D * M) i cs ρs 0 (and-left (ordered ρs i) (leZ g (pos G)) passed) (λ j l h. small j (omega arith))
+      +₀ natural z ×₀ (gap< (ceiling-is N Q hQ .below) +₀ gap< (floor-is N′ Q hQ .above) +₀ natural 2))
+      (search sides depth 40 fits 9999) refl)))
+
+-- ---- today's rows, at a depth and at any node
+module _ (d depth M : ℕ) (cs : List ℤ) (least : 1 ≤ d) (most : d ≤ 3) where
+  abbrev widthAt : ℕ → ℤ
+  widthAt i = highOf d depth cs i -ℤ lowOf d depth cs i
+
+  within : (z : ℕ) → ((k : ℕ) → k < d - 1 → z * natAbs (difference cs k) ≤ 2 ^ (d * depth) * M)
+      → (i : ℕ) → i ≤ pieces → (pos 125 *ℤ pos z *ℤ widthAt i) ≤ℤ (pos 178 *ℤ pos M +ℤ pos 250 *ℤ pos z)
+  within z small i hi = *ℤ-cancel {k = pos 80} (ltZ-yes tt) (le-by (pos M ∷ pos z ∷ highOf d depth cs i ∷ lowOf d depth cs i ∷ [])
+      (gap (width-within pieces 890 d (thirds d) (omega arith) (table-apart d least most)
+      (2 ^ (d * depth)) z M (one-le-pow (d * depth) 2 (zero-lt-suc 1)) cs (λ k h. small k (omega (arith, table-count d least most))) i hi))
+      (search sides depth 20) refl)
+
+  pub width : ((k : ℕ) → k < d - 1 → 4 ^ depth * natAbs (difference cs k) ≤ 2 ^ (d * depth) * M)
+      → (i : ℕ) → i ≤ pieces
+      → (pos 125 *ℤ pos (4 ^ depth) *ℤ (highOf d depth cs i -ℤ lowOf d depth cs i)) ≤ℤ (pos 178 *ℤ pos M +ℤ pos 250 *ℤ pos (4 ^ depth))
+  width = within (4 ^ depth)
+
+  -- from the differences of the node itself
+  pub width-most : ((k : ℕ) → k < d - 1 → natAbs (difference cs k) ≤ 2 ^ (d * depth) * M)
+      → (i : ℕ) → i ≤ pieces → (pos 125 *ℤ (highOf d depth cs i -ℤ lowOf d depth cs i)) ≤ℤ (pos 178 *ℤ pos M +ℤ pos 250)
+  width-most small i hi = le-by (pos M ∷ highOf d depth cs i ∷ lowOf d depth cs i ∷ [])
+      (gap (within 1 (λ k h. rw one-mul (small k h)) i hi)) (search sides depth 20) refl

@@ -1,0 +1,4 @@
+// The test of a node: how far apart its lows and highs are, its boxes, and whether they meet the tolerance.
+pub mod node_boxes;
+pub mod node_test;
+pub mod spread;

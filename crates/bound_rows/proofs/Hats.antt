@@ -1,0 +1,41 @@
+-- The polynomials that the rows bound, in document 01's own words: with u = p / (p + r) they are −u(1−u), −u(1−u)(2−u) and −u(1−u)(1+u). Both sides
+-- are multiplied by d (p + r)^d.
+use mathlib.Core.Path.{_≡_, refl}
+use mathlib.Core.Bool.{Bool, cond, _&&_}
+use mathlib.Core.List.{[], _∷_}
+use Prim.Native.Nat.{ℕ, _-_}
+use lib.Dec.{T, eqb}
+use lib.IntN.{ℤ, pos, negℤ, _+ℤ_, _-ℤ_, _*ℤ_, pow, one}
+use lib.Signed.{leZ}
+use Rattle.integers.specs.Entry.{entry}
+use Rattle.integers.proofs.Ring.{ring, sides}
+use Rattle.integers.proofs.Table.{every-below}
+use Rattle.curve_bernstein.specs.Value.{choose, sum, value}
+use Rattle.curve_nodes.specs.Differences.{difference}
+use Rattle.bound_rows.specs.Hats.{hat}
+use Rattle.bound_rows.specs.Claim.{polynomial2First, polynomial3First, polynomial3Second}
+
+module _ (p r : ℤ) where
+  pub hat-2-first : value p r 2 (hat 2 0) ≡ pos 2 *ℤ polynomial2First p r
+  unfolding hat value sum choose pow one
+  hat-2-first = ring (p ∷ r ∷ []) (search sides depth 40 fits 9999) refl
+
+  pub hat-3-first : value p r 3 (hat 3 0) ≡ pos 3 *ℤ polynomial3First p r
+  unfolding hat value sum choose pow one
+  hat-3-first = ring (p ∷ r ∷ []) (search sides depth 40 fits 9999) refl
+
+  pub hat-3-second : value p r 3 (hat 3 1) ≡ pos 3 *ℤ polynomial3Second p r
+  unfolding hat value sum choose pow one
+  hat-3-second = ring (p ∷ r ∷ []) (search sides depth 40 fits 9999) refl
+
+-- The ends are 0, and the second differences, times d, are d at place k and 0 elsewhere: tested for the degrees to 5.
+abbrev same : ℤ → ℤ → Bool
+same x y = leZ x y && leZ y x
+
+abbrev as-said : ℕ → ℕ → Bool
+as-said d k = same (entry (hat d k) 0) (pos 0) && same (entry (hat d k) d) (pos 0)
+    && every-below (d - 1) (λ l. same (difference (hat d k) l) (cond (eqb k l) (pos d) (pos 0)))
+
+pub hats-tested : T (every-below 6 (λ d. every-below (d - 1) (as-said d)))
+unfolding hat
+hats-tested = tt

@@ -1,0 +1,108 @@
+// Answers in numbers, as the C interface gives them: 0 and 0 and what was found, or a refusal's number and spot.
+ghost use mathlib.Core.Path.{_≡_};
+ghost use Rattle.contour.specs.CAnswers.{answerOf, judgingAnswerOf};
+ghost use Rattle.contour.specs.Drawings.{drawingOf};
+use band::banding::Banded;
+use draw::drawing::Drawn;
+use judge::judging::Judgement;
+
+// What banding answers, in numbers: a refusal's number and spot, or 0 and 0 and the report.
+#[repr(C)]
+pub struct Answer {
+    pub refusal: u32,
+    pub spot: u64,
+    pub curves: u64,
+    pub leaves: u64,
+    pub nodes: u64,
+}
+
+// The numbers of an answer.
+pub fn in_numbers(banded: Banded) -> Answer
+    ensures { λ r. ⌜ r ≡ answerOf banded ⌝ }
+{
+    match banded {
+        Banded::Done {
+            curves,
+            leaves,
+            nodes,
+        } => Answer {
+            refusal: 0,
+            spot: 0,
+            curves: curves as u64,
+            leaves: leaves as u64,
+            nodes: nodes as u64,
+        },
+        Banded::Refused(refusal) => Answer {
+            refusal: refusal.number(),
+            spot: refusal.spot() as u64,
+            curves: 0,
+            leaves: 0,
+            nodes: 0,
+        },
+    }
+}
+
+// What judging answers, in numbers: a refusal's number and spot, or 0 and 0 and whether the point is on, with the record and the cover that hold it.
+#[repr(C)]
+pub struct JudgingAnswer {
+    pub refusal: u32,
+    pub spot: u64,
+    pub on: u32,
+    pub leaf: u64,
+    pub cover: u64,
+}
+
+// The numbers of a judgement.
+pub fn judgement_in_numbers(judgement: Judgement) -> JudgingAnswer
+    ensures { λ r. ⌜ r ≡ judgingAnswerOf judgement ⌝ }
+{
+    match judgement {
+        Judgement::On { leaf, cover } => JudgingAnswer {
+            refusal: 0,
+            spot: 0,
+            on: 1,
+            leaf: leaf as u64,
+            cover: cover as u64,
+        },
+        Judgement::Off => JudgingAnswer {
+            refusal: 0,
+            spot: 0,
+            on: 0,
+            leaf: 0,
+            cover: 0,
+        },
+        Judgement::Refused(refusal) => JudgingAnswer {
+            refusal: refusal.number(),
+            spot: refusal.spot() as u64,
+            on: 0,
+            leaf: 0,
+            cover: 0,
+        },
+    }
+}
+
+// What drawing answers, in numbers: a refusal's number and spot, or 0 and 0 and the count of vertices.
+#[repr(C)]
+pub struct Drawing {
+    pub refusal: u32,
+    pub spot: u64,
+    pub vertices: u64,
+}
+
+// The numbers of a drawing's answer.
+pub fn drawing_in_numbers(drawn: Drawn) -> Drawing
+    ensures { λ r. ⌜ r ≡ drawingOf drawn ⌝ }
+{
+    match drawn {
+        Drawn::Vertices(count) => Drawing {
+            refusal: 0,
+            spot: 0,
+            vertices: count as u64,
+        },
+        Drawn::Refused(refusal) => Drawing {
+            refusal: refusal.number(),
+            spot: refusal.spot() as u64,
+            vertices: 0,
+        },
+    }
+}

@@ -1,0 +1,84 @@
+// One coordinate halved: what its halves are, their values, and how large they are; the code for a cubic, and for any degree.
+ghost use mathlib.Core.Path.{_≡_};
+ghost use Prim.Native.Nat.{_^_, _≤_};
+ghost use Rattle.curve_halves.specs.Halves.{left, right, reversed, four};
+ghost use Rattle.curve_halves.specs.Sizes.{Each};
+
+pub mod onward;
+
+// One coordinate of the left half.
+pub fn left_values(degree: u32, c: [i64; 4]) -> [i64; 4]
+    requires { ⌜ (1 ≤ degree) × (degree ≤ 3) × Each (2 ^ 44) c ⌝ }
+    ensures { λ r. ⌜ r ≡ four (left degree c) ⌝ }
+{
+    match degree {
+        1 => left_line(c),
+        2 => left_quadratic(c),
+        _ => left_cubic(c),
+    }
+}
+
+// One coordinate of the right half: the left one, mirrored before and after.
+pub fn right_values(degree: u32, c: [i64; 4]) -> [i64; 4]
+    requires { ⌜ (1 ≤ degree) × (degree ≤ 3) × Each (2 ^ 44) c ⌝ }
+    ensures { λ r. ⌜ r ≡ four (right degree c) ⌝ }
+{
+    let mirrored = reversed(degree, c);
+    let half = left_values(degree, mirrored);
+    reversed(degree, half)
+}
+
+// The control values in reverse order.
+fn reversed(degree: u32, c: [i64; 4]) -> [i64; 4]
+    requires { ⌜ (1 ≤ degree) × (degree ≤ 3) ⌝ }
+    ensures { λ r. ⌜ r ≡ four (reversed degree c) ⌝ }
+{
+    let c0 = c[0];
+    let c1 = c[1];
+    let c2 = c[2];
+    let c3 = c[3];
+    match degree {
+        1 => [c1, c0, 0, 0],
+        2 => [c2, c1, c0, 0],
+        _ => [c3, c2, c1, c0],
+    }
+}
+
+// The left half, one degree each. s and t are rows 1 and 2 of de Casteljau's triangle: sums of neighbours in the row
+// before.
+fn left_line(c: [i64; 4]) -> [i64; 4]
+    requires { ⌜ Each (2 ^ 44) c ⌝ }
+    ensures { λ r. ⌜ r ≡ four (left 1 c) ⌝ }
+{
+    let c0 = c[0];
+    let c1 = c[1];
+    [2 * c0, c0 + c1, 0, 0]
+}
+
+fn left_quadratic(c: [i64; 4]) -> [i64; 4]
+    requires { ⌜ Each (2 ^ 44) c ⌝ }
+    ensures { λ r. ⌜ r ≡ four (left 2 c) ⌝ }
+{
+    let c0 = c[0];
+    let c1 = c[1];
+    let c2 = c[2];
+    let s0 = c0 + c1;
+    let s1 = c1 + c2;
+    [4 * c0, 2 * s0, s0 + s1, 0]
+}
+
+fn left_cubic(c: [i64; 4]) -> [i64; 4]
+    requires { ⌜ Each (2 ^ 44) c ⌝ }
+    ensures { λ r. ⌜ r ≡ four (left 3 c) ⌝ }
+{
+    let c0 = c[0];
+    let c1 = c[1];
+    let c2 = c[2];
+    let c3 = c[3];
+    let s0 = c0 + c1;
+    let s1 = c1 + c2;
+    let s2 = c2 + c3;
+    let t0 = s0 + s1;
+    let t1 = s1 + s2;
+    [8 * c0, 4 * s0, 2 * t0, t0 + t1]
+}

@@ -1,0 +1,94 @@
+// Bézier curves of degree 1 to 3 over scaled whole numbers, halved and carried on, and the nodes of repeated halving.
+
+ghost use mathlib.Core.Path.{_≡_};
+ghost use Prim.Native.Nat.{_^_, _≤_, _<_};
+ghost use Rattle.curve_nodes.specs.Nodes.{depth, after, nodeCurve};
+ghost use Rattle.curve_nodes.specs.Halves.{leftHalf, rightHalf, onwardOf};
+ghost use Rattle.curve_nodes.specs.Bounds.{Sized, Halvable};
+use curve_halves::left_values;
+use curve_halves::onward::onward_values;
+use curve_halves::right_values;
+
+// A curve (document 01): its degree and four control values a coordinate, those past the degree being zero. At depth k of halving the
+// values are the exact ones times 2^(degree * k).
+pub struct Curve {
+    pub degree: u32,
+    pub x: [i64; 4],
+    pub y: [i64; 4],
+}
+
+impl Curve {
+    // The half from t = 0 to 1/2.
+    pub fn left(self) -> Curve
+        requires { ⌜ Halvable self ⌝ }
+        ensures { λ r. ⌜ r ≡ leftHalf self ⌝ }
+    {
+        let degree = self.degree;
+        let cx = self.x;
+        let cy = self.y;
+        let x = left_values(degree, cx);
+        let y = left_values(degree, cy);
+        Curve { degree, x, y }
+    }
+
+    // The half from t = 1/2 to 1.
+    pub fn right(self) -> Curve
+        requires { ⌜ Halvable self ⌝ }
+        ensures { λ r. ⌜ r ≡ rightHalf self ⌝ }
+    {
+        let degree = self.degree;
+        let cx = self.x;
+        let cy = self.y;
+        let x = right_values(degree, cx);
+        let y = right_values(degree, cy);
+        Curve { degree, x, y }
+    }
+
+    // The curve carried on past its end, over a stretch of parameters 2^k times as long.
+    pub fn onward(self, k: u32) -> Curve
+        requires { ⌜ Halvable self × (k ≤ 7) ⌝ }
+        ensures { λ r. ⌜ r ≡ onwardOf k self ⌝ }
+    {
+        let degree = self.degree;
+        let cx = self.x;
+        let cy = self.y;
+        let x = onward_values(degree, k, cx);
+        let y = onward_values(degree, k, cy);
+        Curve { degree, x, y }
+    }
+}
+
+// How many halvings lead to a node: the place of its highest one bit.
+pub fn depth(node: u32) -> u32
+    requires { ⌜ 0 < node ⌝ }
+    ensures { λ r. ⌜ r ≡ depth node ⌝ }
+{
+    31 - u32::leading_zeros(node)
+}
+
+// The node after a leaf; 1 after the curve's last.
+pub fn after(node: u32) -> u32
+    requires { ⌜ (0 < node) × (node < 2 ^ 31) ⌝ }
+    ensures { λ r. ⌜ r ≡ after node ⌝ }
+{
+    let next = node + 1;
+    next >> u32::trailing_zeros(next)
+}
+
+// The curve of a node, halved down from the root along the node's bits.
+pub fn node_curve(root: Curve, node: u32) -> Curve
+    requires { ⌜ (0 < node) × (node < 512) × Sized 0 root ⌝ }
+    ensures { λ r. ⌜ r ≡ nodeCurve root node ⌝ }
+{
+    let mut curve = root;
+    let mut i = depth(node);
+    while 0 < i {
+        i -= 1;
+        if (node >> i) % 2 == 0 {
+            curve = curve.left();
+        } else {
+            curve = curve.right();
+        }
+    }
+    curve
+}

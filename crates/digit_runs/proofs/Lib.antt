@@ -1,2 +1,0 @@
--- Laws of runs of digits.
-pub mod Runs

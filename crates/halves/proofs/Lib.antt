@@ -1,5 +1,0 @@
--- Laws of the halves of one coordinate and of a coordinate carried on, and how their code is proved.
-pub mod Values
-pub mod Sizes
-pub mod Onward
-pub mod Halving

@@ -1,0 +1,87 @@
+-- What judging answers, check by check.
+use mathlib.Core.Path.{_≡_, refl, sym, _∙_, ap, subst}
+use mathlib.Core.Bool.{Bool, true, false, not}
+use mathlib.Core.List.{List}
+use mathlib.Core.Option.{none, some}
+use Prim.Native.Nat.{ℕ, _%_, _≤_, _<_}
+use lib.Dec.{T, eqb, eqb→eq, eqb-refl}
+use lib.ListN.{length}
+use lib.IntN.{ℤ}
+use Rattle.refusals.specs.declared.Refusal.{Refusal}
+use Rattle.refusals.specs.declared.Refusal.the-variants.{LeafListLength, LeafListNumber, PointX, PointY}
+use Rattle.boxes.specs.Ranges.{inRange, placeOr}
+use Rattle.boxes.specs.Records.{recordLength}
+use Rattle.boxes.proofs.Faults.{place-some, place-none}
+use Rattle.judge_list.specs.Checks.{lengthFine, numberFault}
+use Rattle.judge_list.proofs.Numbers.{inList}
+use Rattle.judge.specs.declared.judging.Judgement.{Judgement}
+use Rattle.judge.specs.declared.judging.Judgement.the-variants.{Refused}
+use Rattle.judge.specs.Judging.{judgingFault, Verdict, Judged}
+use Rattle.judge.specs.Searching.{Passed}
+use Rattle.integers.proofs.Both.{and-false}
+
+eqb-is : (a b : ℕ) → a ≡ b → eqb a b ≡ true
+eqb-is a b e = go (eqb a b) (subst (λ n. T (eqb a n)) e (eqb-refl a))
+  where
+    go : (t : Bool) → T t → t ≡ true
+    go true u = refl
+    go false u = absurd u
+
+eqb-not : (a b : ℕ) → (a ≡ b → ⊥) → eqb a b ≡ false
+eqb-not a b n = go (eqb a b) (λ t. n (eqb→eq a b t))
+  where
+    go : (t : Bool) → (T t → ⊥) → t ≡ false
+    go false u = refl
+    go true u = absurd (u tt)
+
+module _ (most : ℕ) (ns : List ℤ) (x y : ℤ) where
+  -- ---- 9
+  length-bad : lengthFine (length ns) ≡ false → judgingFault most ns x y ≡ some (LeafListLength (length ns))
+  unfolding judgingFault
+  length-bad e = rw (judgingFault, e)
+
+  pub list-empty : length ns ≡ 0 → judgingFault most ns x y ≡ some (LeafListLength (length ns))
+  list-empty e = length-bad (rw (eqb-is (length ns) 0 e))
+
+  pub list-cut : (length ns % recordLength ≡ 0 → ⊥) → judgingFault most ns x y ≡ some (LeafListLength (length ns))
+  list-cut n = length-bad (rw (eqb-not (length ns % recordLength) 0 n) (and-false (not (eqb (length ns) 0))))
+
+  module _ (some-numbers : length ns ≡ 0 → ⊥) (whole : length ns % recordLength ≡ 0) where
+    length-fine : lengthFine (length ns) ≡ true
+    length-fine = rw (eqb-not (length ns) 0 some-numbers, eqb-is (length ns % recordLength) 0 whole)
+
+    -- ---- 10
+    pub number-bad : (i : ℕ) → i ≡ placeOr (length ns) (numberFault most ns) → i < length ns → judgingFault most ns x y ≡ some (LeafListNumber i)
+    unfolding judgingFault
+    number-bad i e h =
+        let f = place-some (length ns) (numberFault most ns) (subst (λ k. k < length ns) e h) ∙ ap some (sym e) in
+        rw (judgingFault, length-fine, f)
+
+    module _ (all : length ns ≤ placeOr (length ns) (numberFault most ns)) where
+      numbers-fine : numberFault most ns ≡ none
+      unfolding numberFault
+      numbers-fine = place-none (inList most ns) (length ns) all
+
+      pub passed : Passed most ns
+      passed = record { whole = length-fine; numbers = numbers-fine }
+
+  -- ---- 11, of a list that passed
+  module _ (p : Passed most ns) where
+    pub x-bad : inRange x ≡ false → judgingFault most ns x y ≡ some PointX
+    unfolding judgingFault
+    x-bad e = rw (judgingFault, p .whole, p .numbers, e)
+
+    pub y-bad : inRange x ≡ true → inRange y ≡ false → judgingFault most ns x y ≡ some PointY
+    unfolding judgingFault
+    y-bad e f = rw (judgingFault, p .whole, p .numbers, e, f)
+
+    pub none-bad : inRange x ≡ true → inRange y ≡ true → judgingFault most ns x y ≡ none
+    unfolding judgingFault
+    none-bad e f = rw (judgingFault, p .whole, p .numbers, e, f)
+
+  -- ---- the answer
+  pub judged-refused : (r : Refusal) → judgingFault most ns x y ≡ some r → Judged most ns x y (Refused r)
+  judged-refused r e = subst (λ o. Verdict o ns x y (Refused r)) (sym e) refl
+
+  pub judged-found : (a : Judgement) → judgingFault most ns x y ≡ none → Verdict none ns x y a → Judged most ns x y a
+  judged-found a e v = subst (λ o. Verdict o ns x y a) (sym e) v

@@ -1,0 +1,92 @@
+// Checks 9 and 10 of a leaf list: its first bad number.
+ghost use mathlib.Core.Path.{_≡_};
+ghost use Prim.Native.Nat.{_+_, _≤_, _%_};
+ghost use lib.ListN.{length};
+ghost use Rattle.boxes.specs.Ranges.{placeOr};
+ghost use Rattle.boxes.specs.Records.{boxAtIndex};
+ghost use Rattle.judge_list.specs.Checks.{numberFault};
+ghost use Rattle.judge_list.specs.Parts.{boxesFaultAt, recordFaultAt};
+use crate::leaf_list::list_fine;
+use boxes::Box;
+
+// The box whose four numbers begin at index `at`.
+pub fn box_in(leaves: &[i32], at: usize) -> Box
+    requires { ⌜ at + 4 ≤ length (now leaves) ⌝ }
+    ensures { λ r. ⌜ r ≡ boxAtIndex (now (leaves .entry)) at ⌝ }
+{
+    let x_low = leaves[at];
+    let x_high = leaves[at + 1];
+    let y_low = leaves[at + 2];
+    let y_high = leaves[at + 3];
+    Box {
+        x_low,
+        x_high,
+        y_low,
+        y_high,
+    }
+}
+
+// The place of the first bad number of the four boxes from index `at` on, or 16.
+fn boxes_fault(leaves: &[i32], at: usize) -> usize
+    requires { ⌜ at + 16 ≤ length (now leaves) ⌝ }
+    ensures { λ r. ⌜ r ≡ placeOr 16 (boxesFaultAt (now (leaves .entry)) at 16) ⌝ }
+{
+    let mut i: usize = 0;
+    while i < 4 {
+        let place = box_in(leaves, at + 4 * i).fault();
+        if place < 4 {
+            return 4 * i + place;
+        }
+        i += 1;
+    }
+    16
+}
+
+// The place of the first bad number of the record that begins at index `at`, or 18.
+fn record_fault(leaves: &[i32], at: usize) -> usize
+    requires { ⌜ at + 18 ≤ length (now leaves) ⌝ }
+    ensures { λ r. ⌜ r ≡ placeOr 18 (recordFaultAt 64 (now (leaves .entry)) at) ⌝ }
+{
+    let curve = leaves[at];
+    if curve < 0 {
+        return 0;
+    }
+    if 64 <= curve {
+        return 0;
+    }
+    let node = leaves[at + 1];
+    if node < 1 {
+        return 1;
+    }
+    if 511 < node {
+        return 1;
+    }
+    2 + boxes_fault(leaves, at + 2)
+}
+
+// The index of the first bad number of a list of whole records, or the list's length, record by record.
+fn first_fault(leaves: &[i32]) -> usize
+    requires { ⌜ length (now leaves) % 18 ≡ 0 ⌝ }
+    ensures { λ r. ⌜ r ≡ placeOr (length (now (leaves .entry))) (numberFault 64 (now (leaves .entry))) ⌝ }
+{
+    let mut at: usize = 0;
+    while at < leaves.len() {
+        let place = record_fault(leaves, at);
+        if place < 18 {
+            return at + place;
+        }
+        at += 18;
+    }
+    leaves.len()
+}
+
+// The same. The numbers are looked at one by one only in a list that has a bad one.
+pub fn number_fault(leaves: &[i32]) -> usize
+    requires { ⌜ length (now leaves) % 18 ≡ 0 ⌝ }
+    ensures { λ r. ⌜ r ≡ placeOr (length (now (leaves .entry))) (numberFault 64 (now (leaves .entry))) ⌝ }
+{
+    if list_fine(leaves) {
+        return leaves.len();
+    }
+    first_fault(leaves)
+}

@@ -1,2 +1,0 @@
--- Laws of the first pass.
-pub mod Passes

@@ -1,3 +1,0 @@
--- Laws of the lines of leaf records. Each file opens with what it holds.
-pub mod LeafLines
-pub mod Examples

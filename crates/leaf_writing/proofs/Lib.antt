@@ -1,3 +1,0 @@
--- Laws of the second pass.
-pub mod Recording
-pub mod Filling

@@ -1,2 +1,0 @@
--- What the contracts of `line_checks` cite.
-pub mod Inside

@@ -1,2 +1,0 @@
--- Laws of reading a number.
-pub mod Numbers

@@ -1,3 +1,0 @@
--- Laws of numerals. Each file opens with what it holds.
-pub mod Places
-pub mod Examples

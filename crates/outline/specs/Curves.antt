@@ -1,0 +1,27 @@
+-- The curves of an outline (document 01, "Outline and tolerance"): a list of numbers, for each curve its degree d, then x and y of its d + 1 control
+-- points. `at` is the index of a curve's degree.
+use mathlib.Core.Bool.{cond}
+use mathlib.Core.List.{List}
+use Prim.Native.Nat.{ℕ, _+_, _*_}
+use lib.Dec.{leb}
+use lib.IntN.{ℤ, pos, natAbs}
+use Rattle.integers.specs.Entry.{entry}
+use Rattle.curve_nodes.specs.declared.Curve.{Curve}
+use Rattle.curve_halves.specs.Halves.{listed}
+
+-- how many numbers follow a degree d, and where the next curve begins
+abbrev pub coordinates : ℕ → ℕ
+coordinates d = 2 * (d + 1)
+
+abbrev pub degreeAt : List ℤ → ℕ → ℕ
+degreeAt ns at = natAbs (entry ns at)
+
+abbrev pub nextAt : List ℤ → ℕ → ℕ
+nextAt ns at = at + 1 + coordinates (degreeAt ns at)
+
+-- every other number from index i on, d + 1 of them, and zeros up to four
+abbrev pub values : List ℤ → ℕ → ℕ → List ℤ
+values ns d i = listed 4 (λ k. cond (leb k d) (entry ns (i + 2 * k)) (pos 0))
+
+unfoldable pub curveAt : List ℤ → ℕ → Curve
+curveAt ns at = record { degree = degreeAt ns at; x = values ns (degreeAt ns at) (at + 1); y = values ns (degreeAt ns at) (at + 2) }

@@ -1,2 +1,0 @@
--- Laws of where a curve of an outline stands. Each file opens with what it holds.
-pub mod Degrees

@@ -1,2 +1,0 @@
--- Laws of the code of the path.
-pub mod Spans

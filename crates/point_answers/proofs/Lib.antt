@@ -1,2 +1,0 @@
--- Laws of the lines that answer points.
-pub mod Judging

@@ -1,3 +1,0 @@
--- Laws of the answer's lines but for the leaves. Each file opens with what it holds.
-pub mod Answers
-pub mod Examples

@@ -1,2 +1,0 @@
--- Laws of the code of the spread.
-pub mod Spreads

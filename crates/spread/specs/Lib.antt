@@ -1,2 +1,0 @@
--- What the contracts of the quick test of a node cite.
-pub mod Spread

@@ -1,4 +1,0 @@
--- What a reader must believe of a text: its lines, and what they mean or which refusal they get.
-pub mod Lines
-pub mod Meaning
-pub mod Orders

@@ -1,2 +1,0 @@
--- Laws of writing the vertices.
-pub mod Writing

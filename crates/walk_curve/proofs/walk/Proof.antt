@@ -1,0 +1,135 @@
+-- The walk of a curve. The loop's invariant: the walk stands at this part of the curve, with as many leaves passed as were counted. The measure is
+-- the node's rank.
+use mathlib.Core.Path.{_≡_, refl, sym, _∙_, ap}
+use mathlib.Core.Bool.{true, false}
+use mathlib.Core.List.{List, [], _∷_, _++_}
+use Prim.Native.Nat.{ℕ, _+_, _*_, _≤_, _<_}
+use native.Mathlib.Omega.{arith}
+use lib.ListN.{length, length-append}
+use lib.IntN.{ℤ}
+use mir.Syntax.{w64}
+use mir.Val.{toZ}
+use mir.Facts.{toZ-ofZ}
+use Rattle.integers.proofs.Ranges.{stored}
+use Rattle.curve_nodes.specs.declared.Curve.{Curve}
+use Rattle.curve_nodes.specs.Nodes.{after}
+use Rattle.walk_curve.specs.declared.Walked.the-variants.{Leaves, TooWide}
+use Rattle.walk_curve.specs.Parts.{PartOf}
+use Rattle.walk_curve.specs.Walked.{deepest, nodeMeets, endsOf, walkedOf}
+use Rattle.walk_tree.proofs.Counting.{few-ends}
+use Rattle.walk_tree.proofs.Failing.{none-exactly, some-exactly}
+use Rattle.walk_tree.proofs.Walking.{Walking, walking-start, walking-half, walking-leaf, walking-failed, walking-done}
+use Rattle.walk_tree.proofs.Walking.{all-passed, fewer-passed, half-falls, leaf-falls}
+use Rattle.walk_tree.proofs.Rank.{rank}
+use Rattle.walk_curve.proofs.Parts.{part-whole, part-sized, part-shallow, part-meets, part-left}
+use Rattle.walk_curve.proofs.walk.Statement.{statement}
+use Rattle.walk_curve.proofs.walk.Tie as tie
+
+-- the walk stands at a node, and has counted the leaves that it passed
+record Counted (T : ℤ) (c : Curve) (node leaves : ℕ) : Type 0 where
+  passed : List ℕ
+  count : leaves ≡ length passed
+  walking : Walking (nodeMeets T c) deepest passed node
+
+module _ {T : ℤ} {c : Curve} where
+  counted-start : Counted T c 1 0
+  counted-start = record { passed = []; count = refl; walking = walking-start (nodeMeets T c) deepest }
+
+  module _ {node leaves : ℕ} (h : Counted T c node leaves) where
+    counted-few : leaves < 256
+    counted-few = omega (arith, h .count, fewer-passed (h .walking), few-ends (nodeMeets T c) deepest 1)
+
+    counted-half : nodeMeets T c node ≡ false → node < 256 → Counted T c (2 * node) leaves
+    counted-half e l = record { passed = h .passed; count = h .count; walking = walking-half (h .walking) e l }
+
+    counted-leaf : nodeMeets T c node ≡ true → (after node ≡ 1 → ⊥) → Counted T c (after node) (leaves + 1)
+    counted-leaf e l = record {
+      passed = h .passed ++ node ∷ [];
+      count = ap (λ n. n + 1) (h .count) ∙ sym (length-append (h .passed) (node ∷ []));
+      walking = walking-leaf (h .walking) e l;
+    }
+
+    counted-done : nodeMeets T c node ≡ true → after node ≡ 1 → walkedOf T c ≡ Leaves (leaves + 1)
+    unfolding walkedOf
+    counted-done e l = rw (none-exactly (nodeMeets T c) (endsOf T c) .1 (all-passed (h .walking) e l), walkedOf)
+        (ap Leaves (ap length (walking-done (h .walking) e l) ∙ length-append (h .passed) (node ∷ []) ∙ ap (λ n. n + 1) (sym (h .count))))
+
+    counted-failed : nodeMeets T c node ≡ false → 256 ≤ node → walkedOf T c ≡ TooWide node
+    unfolding walkedOf
+    counted-failed e l = rw (some-exactly (nodeMeets T c) (endsOf T c) node .1 (walking-failed (h .walking) e l), walkedOf)
+
+abbrev Inv-loop : tie.InvT-loop
+Inv-loop t part₀ leaves₀ part leaves = Counted (toZ w64 t) (part₀ .curve) (part .node) leaves × PartOf (part₀ .curve) part
+
+abbrev μ-loop : tie.MeasureT-loop
+μ-loop t part₀ leaves₀ part leaves = rank deepest (part .node)
+
+loop-holds : tie.Need-loop-holds Inv-loop μ-loop
+loop-holds c = (counted-start, part-whole (c .pre))
+
+depth-requires : tie.Need-depth-requires Inv-loop μ-loop
+depth-requires c κs = c .before .loop .inv .1 .some
+
+meets-requires : tie.Need-meets-requires Inv-loop μ-loop
+meets-requires c κs = let p = c .before .before .loop .inv .1 in rw (c .depth .ensures) (part-sized p, part-shallow p)
+
+-- ---- a leaf
+passes : (c : tie.Then1 Inv-loop μ-loop)
+    → let l = c .before .before .before .before in nodeMeets (stored w64 (l .before .args .t)) (l .before .args .curve) (l .loop .part .node) ≡ true
+passes c =
+    let l = c .before .before .before .before in
+    part-meets (l .loop .inv .1) (stored w64 (l .before .args .t)) (c .before .before .depth .ensures) (c .before .meets .ensures) (c .if1 .taken)
+
+add-leaves : tie.Need-add-leaves Inv-loop μ-loop
+add-leaves c = omega (arith, counted-few (c .before .before .before .before .loop .inv .0))
+
+after-requires : tie.Need-after-requires Inv-loop μ-loop
+after-requires c κs = (_, c .before .before .before .before .loop .inv .1)
+
+returns : tie.Need-returns Inv-loop μ-loop
+returns c =
+    let l = c .before .before .before .before .before .before .before in
+    let e = sym (c .before .before .after .ensures .node) ∙ c .if2 .taken in
+    rw (toZ-ofZ (l .before .fits .t)) at (sym (counted-done (l .loop .inv .0) (passes (c .before .before .before)) e))
+
+loop-less : tie.Need-loop-less Inv-loop μ-loop
+loop-less c =
+    let e = c .before .before .after .ensures .node in
+    rw e (leaf-falls (c .before .before .before .before .before .before .before .loop .inv .0 .walking) (λ o. c .if2 .left (e ∙ o)))
+
+loop-again : tie.Need-loop-again Inv-loop μ-loop
+loop-again c =
+    let e = c .before .before .after .ensures .node in
+    let l = c .before .before .before .before .before .before .before .loop .inv in (
+      rw e (counted-leaf (l .0) (passes (c .before .before .before)) (λ o. c .if2 .left (e ∙ o))),
+      c .before .before .after .ensures .of (l .1) (c .if2 .left),
+    )
+
+-- ---- a node that does not pass
+fails : (c : tie.Else1 Inv-loop μ-loop)
+    → let l = c .before .before .before .before in nodeMeets (stored w64 (l .before .args .t)) (l .before .args .curve) (l .loop .part .node) ≡ false
+fails c =
+    let l = c .before .before .before .before in
+    part-meets (l .loop .inv .1) (stored w64 (l .before .args .t)) (c .before .before .depth .ensures) (c .before .meets .ensures) (c .if1 .left)
+
+returns-2 : tie.Need-returns-2 Inv-loop μ-loop
+returns-2 c =
+    let l = c .before .before .before .before .before in
+    rw (toZ-ofZ (l .before .fits .t)) at (sym (counted-failed (l .loop .inv .0) (fails (c .before)) (c .if3 .taken)))
+
+left-requires : tie.Need-left-requires Inv-loop μ-loop
+left-requires c κs = ((_, c .before .before .before .before .before .loop .inv .1), c .if3 .left)
+
+loop-less-2 : tie.Need-loop-less-2 Inv-loop μ-loop
+loop-less-2 c = rw (c .left .ensures) (half-falls (c .before .before .before .before .before .before .loop .inv .0 .walking) (c .before .if3 .left))
+
+loop-again-2 : tie.Need-loop-again-2 Inv-loop μ-loop
+loop-again-2 c =
+    let l = c .before .before .before .before .before .before .loop .inv in
+    rw (c .left .ensures) (counted-half (l .0) (fails (c .before .before)) (c .before .if3 .left), part-left (l .1) (c .before .if3 .left))
+
+pub walk-spec : {M : Type 1} → statement M
+walk-spec =
+    tie.close
+    (tie.spec Inv-loop μ-loop loop-holds depth-requires meets-requires add-leaves after-requires returns loop-less
+    loop-again returns-2 left-requires loop-less-2 loop-again-2)

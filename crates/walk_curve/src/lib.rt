@@ -1,0 +1,74 @@
+// The walk of a curve in parameter order, from its root on: where it stands, its steps, and a curve walked.
+ghost use mathlib.Core.Path.{_≡_};
+ghost use Prim.Native.Nat.{_<_};
+ghost use Rattle.curve_nodes.specs.Bounds.{Sized};
+ghost use Rattle.walk_curve.specs.Parts.{Standing, leftPart, AfterOf};
+ghost use Rattle.walk_curve.specs.Walked.{walkedOf};
+use curve_nodes::Curve;
+
+// Where a walk stands: a node, with the node's own curve. Every step follows from it alone, so no walk keeps a stack.
+pub struct Part {
+    pub node: u32,
+    pub curve: Curve,
+}
+
+impl Part {
+    // The left half.
+    pub fn left(self) -> Part
+        requires { ⌜ Standing self × (self .node < 256) ⌝ }
+        ensures { λ r. ⌜ r ≡ leftPart self ⌝ }
+    {
+        let node = 2 * self.node;
+        let own = self.curve;
+        let curve = own.left();
+        Part { node, curve }
+    }
+
+    // The part after this one; node 1 stands for the end. Where n + 1 ends in k zeros, the stretch that follows node
+    // n's is 2^k times as long, so its curve is this one carried on.
+    pub fn after(self) -> Part
+        requires { ⌜ Standing self ⌝ }
+        ensures { λ r. ⌜ AfterOf self r ⌝ }
+    {
+        let here = self.node;
+        let own = self.curve;
+        let node = curve_nodes::after(here);
+        if node == 1 {
+            return Part { node, curve: own };
+        }
+        let next = here + 1;
+        let curve = own.onward(u32::trailing_zeros(next));
+        Part { node, curve }
+    }
+}
+
+// What the walk of a curve finds: how many leaves it has, or the first node at the last depth that does not meet the tolerance.
+pub enum Walked {
+    Leaves(usize),
+    TooWide(u32),
+}
+
+// The leaves of a curve, counted.
+pub fn walk(curve: Curve, t: i64) -> Walked
+    requires { ⌜ Sized 0 curve ⌝ }
+    ensures { λ r. ⌜ r ≡ walkedOf t curve ⌝ }
+{
+    let mut part = Part { node: 1, curve };
+    let mut leaves: usize = 0;
+    loop {
+        let node = part.node;
+        let own = part.curve;
+        if bound_node::node_test::meets(own, curve_nodes::depth(node), t) {
+            leaves += 1;
+            part = part.after();
+            if part.node == 1 {
+                return Walked::Leaves(leaves);
+            }
+        } else {
+            if 256 <= node {
+                return Walked::TooWide(node);
+            }
+            part = part.left();
+        }
+    }
+}

@@ -1,0 +1,3 @@
+// The leaf lines of the answer as bytes.
+pub mod box_bytes;
+pub mod leaf_lines;

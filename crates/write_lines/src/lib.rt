@@ -1,0 +1,3 @@
+// The other lines of the answer as bytes: done, on, off, refused; and the lines of a band.
+pub mod band_lines;
+pub mod render;

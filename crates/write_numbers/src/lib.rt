@@ -1,0 +1,3 @@
+// Digits, words and decimal numbers put into a list of bytes.
+pub mod decimals;
+pub mod digits;
