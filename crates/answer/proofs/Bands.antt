@@ -9,6 +9,7 @@ use lib.Seq.{length-take-le}
 use lib.IntN.{ℤ}
 use lib.Signed.{mag}
 use mir.Syntax.{w32}
+use Rattle.setting.specs.Setting.{Setting, standard}
 use Rattle.integers.proofs.Ranges.{stored, read-again}
 use Rattle.refusals.specs.declared.Refusal.{Refusal}
 use Rattle.refusals.specs.declared.Refusal.the-variants.{Tolerance as WrongTolerance}
@@ -20,24 +21,25 @@ use Rattle.band_passes.specs.Leaves.{curvesOf}
 use Rattle.band.specs.Banding.{bandOutlined, banded, writtenBy, written}
 use Rattle.write_numbers.specs.Appends.{Appended}
 use Rattle.write_numbers.proofs.Appends.{appended-front, appended-length}
-use Rattle.text_lines.specs.declared.text.Checked.{Checked}
-use Rattle.text_lines.specs.declared.text.Checked.the-variants.{Tolerance as Accepted, Refused as Stopped}
+use Rattle.text_lines.specs.declared.text.TextCheck.{TextCheck}
+use Rattle.text_lines.specs.declared.text.TextCheck.the-variants.{TextFine, TextRefused}
 use Rattle.text_lines.specs.Lines.{linesOf}
-use Rattle.text_lines.specs.Meaning.{Meaning, refused, means, meaning, checkedOf}
+use Rattle.text_lines.specs.Meaning.{Meaning, refused, means, meaning}
+use Rattle.text_lines.specs.Inside.{textCheckOf}
 use Rattle.text_outline.specs.Outlines.{kept}
 use Rattle.text_outline.proofs.Kept.{outline-kept, kept-few}
-use Rattle.answer.specs.Bands.{bandOf, recordsOf}
+use Rattle.answer.specs.Bands.{bandOf, recordsAfter}
 
 -- ---- `band_text`: banding looks at an outline through its checks alone
-banded-same : (most : ℕ) (T : ℤ) (ns ms : List ℤ) (room : ℕ) → outlined most ns ≡ outlined most ms → banded most T ns room ≡ banded most T ms room
+banded-same : (σ : Setting) (T : ℤ) (ns ms : List ℤ) (room : ℕ) → outlined (σ .most) ns ≡ outlined (σ .most) ms → banded σ T ns room ≡ banded σ T ms room
 unfolding banded
-banded-same most T ns ms room e = ap (λ (o : Outlined). elim (toleranceFine T) [ false ↦ Refused WrongTolerance | true ↦ bandOutlined T o room ]) e
+banded-same σ T ns ms room e = ap (λ (o : Outlined). elim (toleranceFine T) [ false ↦ Refused WrongTolerance | true ↦ bandOutlined σ T o room ]) e
 
-written-same : (most : ℕ) (T : ℤ) (ns ms old : List ℤ) → outlined most ns ≡ outlined most ms → written most T ns old ≡ written most T ms old
+written-same : (σ : Setting) (T : ℤ) (ns ms old : List ℤ) → outlined (σ .most) ns ≡ outlined (σ .most) ms → written σ T ns old ≡ written σ T ms old
 unfolding written
-written-same most T ns ms old e =
-    ap (λ (b : Banded). writtenBy b (allRecords T 0 (curvesOf (outlined most ns))) old) (banded-same most T ns ms (length old) e)
-    ∙ ap (λ (o : Outlined). writtenBy (banded most T ms (length old)) (allRecords T 0 (curvesOf o)) old) e
+written-same σ T ns ms old e =
+    ap (λ (b : Banded). writtenBy b (allRecords σ T 0 (curvesOf (outlined (σ .most) ns))) old) (banded-same σ T ns ms (length old) e)
+    ∙ ap (λ (o : Outlined). writtenBy (banded σ T ms (length old)) (allRecords σ T 0 (curvesOf o)) old) e
 
 -- what the checks of a text say of its meaning
 record Means (m : Meaning) (T : ℤ) : Type 0 where
@@ -45,11 +47,12 @@ record Means (m : Meaning) (T : ℤ) : Type 0 where
   points : List (ℤ × ℤ)
   is : m ≡ means T outline points
 
-means-by : (m : Meaning) (T : ℤ) → Accepted T ≡ checkedOf m → Means m T
+means-by : (m : Meaning) (T : ℤ) → TextFine T ≡ textCheckOf m → Means m T
 means-by (refused r) T e = let z : _≡_ {A = ℕ} 0 1 = cc in absurd (omega arith)
-means-by (means U outline points) T e = record { outline = outline; points = points; is = let f : T ≡ U = cc in ap (λ (x : ℤ). means x outline points) (sym f) }
+means-by (means U outline points) T e =
+    record { outline = outline; points = points; is = let f : T ≡ U = cc in ap (λ (x : ℤ). means x outline points) (sym f) }
 
-refused-by : (m : Meaning) (r : Refusal) → Stopped r ≡ checkedOf m → m ≡ refused r
+refused-by : (m : Meaning) (r : Refusal) → TextRefused r ≡ textCheckOf m → m ≡ refused r
 refused-by (refused q) r e = cc
 refused-by (means U outline points) r e = let z : _≡_ {A = ℕ} 0 1 = cc in absurd (omega arith)
 
@@ -67,27 +70,29 @@ module _ (s : List ℕ) (d o : List ℤ) (n : ℕ) (a : Appended d 0 (kept 64 (l
   lent : take n o ≡ kept 64 (linesOf s)
   lent = appended-front d (kept 64 (linesOf s)) o n a few
 
-module _ (s : List ℕ) (c : Checked) (e : c ≡ checkedOf (meaning s)) (old : List ℤ) where
-  module _ (r : Refusal) (f : c ≡ Stopped r) where
+module _ (s : List ℕ) (c : TextCheck) (e : c ≡ textCheckOf (meaning s)) (old : List ℤ) where
+  module _ (r : Refusal) (f : c ≡ TextRefused r) where
     pub refused-band : Refused r ≡ bandOf (meaning s) (length old)
     refused-band = ap (λ (x : Meaning). bandOf x (length old)) (sym (refused-by (meaning s) r (sym f ∙ e)))
 
-    pub refused-records : old ≡ recordsOf (meaning s) old
-    refused-records = ap (λ (x : Meaning). recordsOf x old) (sym (refused-by (meaning s) r (sym f ∙ e)))
+    pub refused-records : old ≡ recordsAfter (meaning s) old
+    refused-records = ap (λ (x : Meaning). recordsAfter x old) (sym (refused-by (meaning s) r (sym f ∙ e)))
 
-  module _ (d o : List ℤ) (n : ℕ) (a : Appended d 0 (kept 64 (linesOf s)) o n) (z : 577 ≤ length d) (T : ℤ) (h : mag T < 2 ^ 31) (f : c ≡ Accepted T) where
+  module _ (d o : List ℤ) (n : ℕ) (a : Appended d 0 (kept 64 (linesOf s)) o n) (z : 577 ≤ length d) (T : ℤ) (h : mag T < 2 ^ 31)
+      (f : c ≡ TextFine T) where
     text-means : Means (meaning s) T
     text-means = means-by (meaning s) T (sym f ∙ e)
 
     checks-same : outlined 64 (take n o) ≡ outlined 64 (text-means .outline)
     checks-same = ap (outlined 64) (lent s d o n a z) ∙ outline-kept 64 s T (text-means .outline) (text-means .points) (text-means .is)
 
-    pub text-band : (b : Banded) → b ≡ banded 64 (stored w32 T) (take n o) (length old) → b ≡ bandOf (meaning s) (length old)
+    pub text-band : (b : Banded) → b ≡ banded standard (stored w32 T) (take n o) (length old) → b ≡ bandOf (meaning s) (length old)
     text-band b p =
-        p ∙ ap (λ (x : ℤ). banded 64 x (take n o) (length old)) (read-again w32 T h) ∙ banded-same 64 T (take n o) (text-means .outline) (length old) checks-same
+        p ∙ ap (λ (x : ℤ). banded standard x (take n o) (length old)) (read-again w32 T h)
+        ∙ banded-same standard T (take n o) (text-means .outline) (length old) checks-same
         ∙ ap (λ (x : Meaning). bandOf x (length old)) (sym (text-means .is))
 
-    pub text-records : (new : List ℤ) → new ≡ written 64 (stored w32 T) (take n o) old → new ≡ recordsOf (meaning s) old
+    pub text-records : (new : List ℤ) → new ≡ written standard (stored w32 T) (take n o) old → new ≡ recordsAfter (meaning s) old
     text-records new q =
-        q ∙ ap (λ (x : ℤ). written 64 x (take n o) old) (read-again w32 T h) ∙ written-same 64 T (take n o) (text-means .outline) old checks-same
-        ∙ ap (λ (x : Meaning). recordsOf x old) (sym (text-means .is))
+        q ∙ ap (λ (x : ℤ). written standard x (take n o) old) (read-again w32 T h) ∙ written-same standard T (take n o) (text-means .outline) old checks-same
+        ∙ ap (λ (x : Meaning). recordsAfter x old) (sym (text-means .is))

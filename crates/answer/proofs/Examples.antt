@@ -7,6 +7,7 @@ use Rattle.integers.specs.Rounding.{floor, ceiling}
 use Rattle.curve_halves.specs.Halves.{triangle, left, right}
 use Rattle.curve_nodes.specs.Halves.{leftHalf, rightHalf}
 use Rattle.curve_nodes.specs.Nodes.{descendIn, descend, depth, nodeCurve}
+use Rattle.bound_rows.specs.Table.{table, rowsOf}
 use Rattle.bound_enclosure.specs.Bounds.{rowSum, high, low}
 use Rattle.bound_node.specs.Boxes.{boxAt, meets}
 use Rattle.outline.specs.Curves.{curveAt}
@@ -22,7 +23,7 @@ use Rattle.text_numbers.specs.Numerals.{valueFrom, digitCount, naturalAt, numbe
 use Rattle.text_forms.specs.Pairs as Pairs
 use Rattle.text_forms.specs.Forms as Forms
 use Rattle.text_lines.specs.Lines.{linesFrom, linesOf, gather}
-use Rattle.text_lines.specs.Meaning.{numbersOf, faultFrom, meaningOf, meaning}
+use Rattle.text_lines.specs.Meaning.{numbersOfCurve, faultFrom, meaningOf, meaning}
 use Rattle.text_lines.proofs.Examples.{listing}
 use Rattle.write_numbers.specs.Digits.{digits}
 use Rattle.write_numbers.specs.Decimals.{decimal, spaced, spacedNatural}
@@ -34,17 +35,24 @@ use Rattle.judge_cover.specs.Deciding.{held}
 use Rattle.judge.specs.Judging.{judgingFault}
 use Rattle.judge.specs.Judgements.{firstHeld, judgement}
 use Rattle.write_lines.specs.BandLines.{bandLines}
-use Rattle.answer.specs.Points.{pointLine, pointLines}
+use Rattle.answer.specs.Points.{pointAnswer, pointAnswers}
 use Rattle.answer.specs.Answers.{answerTo, answerOf}
 
 -- what the examples compute through
 computing : List ℕ → List ℕ
-unfolding answerOf answerTo bandLines pointLines pointLine judgingFault numberFault judgement firstHeld held meaning meaningOf faultFrom numbersOf linesOf linesFrom gather Forms.formAt Pairs.startsWith Forms.toleranceAt Forms.pointAt Forms.curveAt Forms.curveThird Forms.curveFourth Forms.curveEnd Pairs.spacedPairAt Pairs.pairAt Pairs.numberThen numberAt naturalAt valueFrom digitCount written allRecords Records.recordsOf recordOf banded bandCurves firstTooWide leavesOf nodesOf ends met firstFailing outlined outlineFrom faultAt firstBad curveAt descend descendIn depth nodeCurve meets boxAt high low rowSum floor ceiling leftHalf rightHalf left right triangle pow one leafLines leafLine boxesBytes boxBytes fourNumbers doneLine refusedLine onLine spaced spacedNatural decimal digits
+unfolding answerOf answerTo bandLines pointAnswers pointAnswer judgingFault numberFault judgement firstHeld held meaning meaningOf faultFrom
+    numbersOfCurve linesOf linesFrom gather Forms.formAt Pairs.startsWith Forms.toleranceFormAt Forms.pointFormAt Forms.curveFormAt Forms.curveThird
+    Forms.curveFourth Forms.curveEnd Pairs.spacedPairAt Pairs.pairAt Pairs.numberThen numberAt naturalAt valueFrom digitCount written allRecords
+    Records.recordsOf recordOf banded bandCurves firstTooWide leavesOf nodesOf ends met firstFailing outlined outlineFrom faultAt firstBad curveAt
+    descend descendIn depth nodeCurve meets boxAt table rowsOf high low rowSum floor ceiling leftHalf rightHalf left right triangle pow one leafLines leafLine
+    boxesBytes boxBytes fourNumbers doneLine refusedLine onLine spaced spacedNatural decimal digits
 computing = answerOf
 
 -- "(leaf 0 1 (0 0 0 38) (160 160 319 363) (320 320 319 363) (480 480 0 38))", "(done 1 1 1)", "(on 0 1)", "(off)"
 pub listing-answer : answerOf listing
-    ≡ 40 ∷ 108 ∷ 101 ∷ 97 ∷ 102 ∷ 32 ∷ 48 ∷ 32 ∷ 49 ∷ 32 ∷ 40 ∷ 48 ∷ 32 ∷ 48 ∷ 32 ∷ 48 ∷ 32 ∷ 51 ∷ 56 ∷ 41 ∷ 32 ∷ 40 ∷ 49 ∷ 54 ∷ 48 ∷ 32 ∷ 49 ∷ 54 ∷ 48 ∷ 32 ∷ 51 ∷ 49 ∷ 57 ∷ 32 ∷ 51 ∷ 54 ∷ 51 ∷ 41 ∷ 32 ∷ 40 ∷ 51 ∷ 50 ∷ 48 ∷ 32 ∷ 51 ∷ 50 ∷ 48 ∷ 32 ∷ 51 ∷ 49 ∷ 57 ∷ 32 ∷ 51 ∷ 54 ∷ 51 ∷ 41 ∷ 32 ∷ 40 ∷ 52 ∷ 56 ∷ 48 ∷ 32 ∷ 52 ∷ 56 ∷ 48 ∷ 32 ∷ 48 ∷ 32 ∷ 51 ∷ 56 ∷ 41 ∷ 41 ∷ 10
+    ≡ 40 ∷ 108 ∷ 101 ∷ 97 ∷ 102 ∷ 32 ∷ 48 ∷ 32 ∷ 49 ∷ 32 ∷ 40 ∷ 48 ∷ 32 ∷ 48 ∷ 32 ∷ 48 ∷ 32 ∷ 51 ∷ 56 ∷ 41 ∷ 32 ∷ 40 ∷ 49 ∷ 54 ∷ 48 ∷ 32 ∷ 49 ∷ 54
+    ∷ 48 ∷ 32 ∷ 51 ∷ 49 ∷ 57 ∷ 32 ∷ 51 ∷ 54 ∷ 51 ∷ 41 ∷ 32 ∷ 40 ∷ 51 ∷ 50 ∷ 48 ∷ 32 ∷ 51 ∷ 50 ∷ 48 ∷ 32 ∷ 51 ∷ 49 ∷ 57 ∷ 32 ∷ 51 ∷ 54 ∷ 51 ∷ 41 ∷ 32
+    ∷ 40 ∷ 52 ∷ 56 ∷ 48 ∷ 32 ∷ 52 ∷ 56 ∷ 48 ∷ 32 ∷ 48 ∷ 32 ∷ 51 ∷ 56 ∷ 41 ∷ 41 ∷ 10
     ∷ 40 ∷ 100 ∷ 111 ∷ 110 ∷ 101 ∷ 32 ∷ 49 ∷ 32 ∷ 49 ∷ 32 ∷ 49 ∷ 41 ∷ 10
     ∷ 40 ∷ 111 ∷ 110 ∷ 32 ∷ 48 ∷ 32 ∷ 49 ∷ 41 ∷ 10 ∷ 40 ∷ 111 ∷ 102 ∷ 102 ∷ 41 ∷ 10 ∷ []
 unfolding computing

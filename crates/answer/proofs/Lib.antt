@@ -1,8 +1,6 @@
--- Laws of the band of a text.
+-- Laws of the band of a text, of the lines that answer its points, and of the whole answer. Each file opens with what it holds.
 pub mod Bands
--- Laws of the lines that answer points.
 pub mod Judging
--- Laws of the answer to a text. Each file opens with what it holds.
 pub mod Answers
 pub mod TextDemand
 pub mod Examples

@@ -1,8 +1,9 @@
--- The band of a text (document 01, "Text program"): its first fault, or what banding answers for its outline at its tolerance; and what stands in the records afterwards. A
--- text may have 64 curves.
+-- The band of a text (document 01, "Text program"): its first fault, or what banding answers for its outline at its
+-- tolerance; and what stands in the records afterwards. A text may have 64 curves.
 use mathlib.Core.List.{List}
 use Prim.Native.Nat.{ℕ}
 use lib.IntN.{ℤ}
+use Rattle.setting.specs.Setting.{standard}
 use Rattle.band.specs.declared.banding.Banded.{Banded}
 use Rattle.band.specs.declared.banding.Banded.the-variants.{Refused}
 use Rattle.band.specs.Banding.{banded, written}
@@ -10,8 +11,8 @@ use Rattle.text_lines.specs.Meaning.{Meaning, refused, means}
 
 abbrev pub bandOf : Meaning → ℕ → Banded
 bandOf (refused r) room = Refused r
-bandOf (means T outline points) room = banded 64 T outline room
+bandOf (means T outline points) room = banded standard T outline room
 
-abbrev pub recordsOf : Meaning → List ℤ → List ℤ
-recordsOf (refused r) old = old
-recordsOf (means T outline points) old = written 64 T outline old
+abbrev pub recordsAfter : Meaning → List ℤ → List ℤ
+recordsAfter (refused r) old = old
+recordsAfter (means T outline points) old = written standard T outline old

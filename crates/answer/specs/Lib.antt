@@ -1,7 +1,7 @@
--- What a reader must believe of the band of a text.
+-- The answer to a text: its band, the lines of its points, all its bytes, and demand 3 as the theorem of it says it;
+-- and, inside, the loop over its lines.
 pub mod Bands
--- What a reader must believe of the lines that answer the points of a text.
 pub mod Points
--- What a reader must believe of the answer to a text: the answer, and demand 3 as the theorem of it says it.
 pub mod Answers
 pub mod TextDemand
+pub mod Inside

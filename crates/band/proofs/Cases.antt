@@ -13,60 +13,68 @@ use Rattle.refusals.specs.declared.Refusal.the-variants.{TooWide, TooFewRecords
 use Rattle.curve_nodes.specs.declared.Curve.{Curve}
 use Rattle.band.specs.declared.banding.Banded.{Banded}
 use Rattle.band.specs.declared.banding.Banded.the-variants.{Done, Refused}
-use Rattle.boxes.specs.Records.{recordLength}
+use Rattle.setting.specs.Setting.{Setting, recordLength}
 use Rattle.band_passes.specs.Leaves.{firstTooWide, leavesOf, nodesOf}
 use Rattle.band.specs.Banding.{bandCurves}
 use Rattle.band_passes.specs.Meeting.{FirstWide}
 use Rattle.band.specs.Outcomes.{Few, Report}
 use Rattle.band_passes.proofs.Wide.{none-wide, first-wide, only-wide}
 
-module _ (T : ℤ) (cs : List Curve) (room : ℕ) where
-  pub wide-said : {k n : ℕ} → FirstWide T 0 cs k n → bandCurves T cs room ≡ Refused (TooWide k n)
+module _ (σ : Setting) (T : ℤ) (cs : List Curve) (room : ℕ) where
+  pub wide-said : {k n : ℕ} → FirstWide σ T 0 cs k n → bandCurves σ T cs room ≡ Refused (TooWide k n)
   unfolding bandCurves
-  wide-said {k} {n} w = rw (first-wide T 0 cs k n .1 w, bandCurves)
+  wide-said {k} {n} w = rw (first-wide σ T 0 cs k n .1 w, bandCurves)
 
-  pub few-said : {l : ℕ} → Few T cs room l → bandCurves T cs room ≡ Refused (TooFewRecords l)
+  pub few-said : {l : ℕ} → Few σ T cs room l → bandCurves σ T cs room ≡ Refused (TooFewRecords l)
   unfolding bandCurves
-  few-said f = rw (none-wide T 0 cs .1 (f .meet), lt-ltb room (recordLength * leavesOf T cs) (f .short), sym (f .leaves), bandCurves)
+  few-said f = rw (none-wide σ T 0 cs .1 (f .meet), lt-ltb room (recordLength σ * leavesOf σ T cs) (f .short), sym (f .leaves), bandCurves)
 
-  pub done-said : {a b c : ℕ} → Report T cs room a b c → bandCurves T cs room ≡ Done a b c
+  pub done-said : {a b c : ℕ} → Report σ T cs room a b c → bandCurves σ T cs room ≡ Done a b c
   unfolding bandCurves
-  done-said r = rw (none-wide T 0 cs .1 (r .meet), le-ltb room (recordLength * leavesOf T cs) (r .enough), sym (r .curves), sym (r .leaves), sym (r .nodes), bandCurves)
+  done-said r = rw (
+    none-wide σ T 0 cs .1 (r .meet),
+    le-ltb room (recordLength σ * leavesOf σ T cs) (r .enough),
+    sym (r .curves),
+    sym (r .leaves),
+    sym (r .nodes),
+    bandCurves,
+  )
 
   -- ---- and only where it is due: one of the three it must be
   data Case : Banded → Type 0 where
-    wide : {k n : ℕ} → FirstWide T 0 cs k n → Case (Refused (TooWide k n))
-    few : {l : ℕ} → Few T cs room l → Case (Refused (TooFewRecords l))
-    report : {a b c : ℕ} → Report T cs room a b c → Case (Done a b c)
+    wide : {k n : ℕ} → FirstWide σ T 0 cs k n → Case (Refused (TooWide k n))
+    few : {l : ℕ} → Few σ T cs room l → Case (Refused (TooFewRecords l))
+    report : {a b c : ℕ} → Report σ T cs room a b c → Case (Done a b c)
 
-  one-of : Case (bandCurves T cs room)
-  one-of = go (firstTooWide T 0 cs) refl
+  one-of : Case (bandCurves σ T cs room)
+  one-of = go (firstTooWide σ T 0 cs) refl
     where
-      go : (o : Option Refusal) → firstTooWide T 0 cs ≡ o → Case (bandCurves T cs room)
-      go (some r) e = let w = only-wide T 0 cs r e in let h = first-wide T 0 cs (w .0) (w .1) .0 (e ∙ ap some (w .2)) in rw (wide-said h) (wide h)
+      go : (o : Option Refusal) → firstTooWide σ T 0 cs ≡ o → Case (bandCurves σ T cs room)
+      go (some r) e = let w = only-wide σ T 0 cs r e in let h = first-wide σ T 0 cs (w .0) (w .1) .0 (e ∙ ap some (w .2)) in rw (wide-said h) (wide h)
       go none e =
-          let m = none-wide T 0 cs .0 e in
+          let m = none-wide σ T 0 cs .0 e in
           ⊎-elim
-          (λ l. let h : Few T cs room (leavesOf T cs) = record { meet = m; short = l; leaves = refl } in rw (few-said h) (few h))
+          (λ l. let h : Few σ T cs room (leavesOf σ T cs) = record { meet = m; short = l; leaves = refl } in rw (few-said h) (few h))
           (λ l.
-          let h : Report T cs room (length cs) (leavesOf T cs) (nodesOf T cs) = record { meet = m; enough = l; curves = refl; leaves = refl; nodes = refl } in
+          let h : Report σ T cs room (length cs) (leavesOf σ T cs) (nodesOf σ T cs) =
+          record { meet = m; enough = l; curves = refl; leaves = refl; nodes = refl } in
           rw (done-said h) (report h))
-          (lt-or-ge room (recordLength * leavesOf T cs))
+          (lt-or-ge room (recordLength σ * leavesOf σ T cs))
 
-  pub said-wide : (k n : ℕ) → bandCurves T cs room ≡ Refused (TooWide k n) → FirstWide T 0 cs k n
+  pub said-wide : (k n : ℕ) → bandCurves σ T cs room ≡ Refused (TooWide k n) → FirstWide σ T 0 cs k n
   said-wide k n e = go (rw e at one-of)
     where
-      go : Case (Refused (TooWide k n)) → FirstWide T 0 cs k n
+      go : Case (Refused (TooWide k n)) → FirstWide σ T 0 cs k n
       go (wide w) = w
 
-  pub said-few : (l : ℕ) → bandCurves T cs room ≡ Refused (TooFewRecords l) → Few T cs room l
+  pub said-few : (l : ℕ) → bandCurves σ T cs room ≡ Refused (TooFewRecords l) → Few σ T cs room l
   said-few l e = go (rw e at one-of)
     where
-      go : Case (Refused (TooFewRecords l)) → Few T cs room l
+      go : Case (Refused (TooFewRecords l)) → Few σ T cs room l
       go (few f) = f
 
-  pub said-done : (a b c : ℕ) → bandCurves T cs room ≡ Done a b c → Report T cs room a b c
+  pub said-done : (a b c : ℕ) → bandCurves σ T cs room ≡ Done a b c → Report σ T cs room a b c
   said-done a b c e = go (rw e at one-of)
     where
-      go : Case (Done a b c) → Report T cs room a b c
+      go : Case (Done a b c) → Report σ T cs room a b c
       go (report r) = r

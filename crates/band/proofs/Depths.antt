@@ -11,6 +11,7 @@ use native.Mathlib.Nat.{le-refl}
 use native.Mathlib.Omega.{arith}
 use lib.IntN.{ℤ}
 use Rattle.integers.proofs.Order.{lt-or-ge}
+use Rattle.setting.specs.Setting.{Setting, deepest}
 use Rattle.curve_nodes.specs.declared.Curve.{Curve}
 use Rattle.curve_nodes.specs.Bounds.{Sized}
 use Rattle.curve_nodes.specs.Differences.{largest}
@@ -21,7 +22,8 @@ use Rattle.curve_nodes.proofs.Quarter.{quarter-x, quarter-y}
 use Rattle.bound_node.proofs.Narrow.{width-meets}
 use Rattle.walk_tree.specs.Tree.{ends, firstFailing}
 use Rattle.walk_tree.specs.Leaves.{Leaf}
-use Rattle.walk_curve.specs.Walked.{deepest, nodeMeets, endsOf}
+use Rattle.walk_curve.specs.Walked.{nodeMeets, endsOf}
+use Rattle.walk_curve.proofs.Thirds.{meets-thirds}
 use Rattle.walk_tree.specs.Passing.{AllPass}
 use Rattle.band.specs.Outcomes.{Flat}
 use Rattle.walk_tree.proofs.Halves.{left-half, right-half}
@@ -54,19 +56,19 @@ module _ (test : ℕ → Bool) (j : ℕ) (all : (a : ℕ) → 0 < a → depth a 
   pub leaves-within : (n : ℕ) → Leaf test n → depth n ≤ j
   leaves-within n l = end-facts test j n (all-leaves test j n (ends-passing j (le-refl j)) .1 l) .within
 
--- ---- today's test
-module _ (T : ℤ) (c : Curve) (s : Sized 0 c) (j : ℕ) (premise : Flat T c j) where
-  pub all-meet : (n : ℕ) → 0 < n → depth n ≡ j → nodeMeets T c n ≡ true
+-- ---- today's test, with three pieces
+module _ (σ : Setting) (three : σ .pieces ≡ 3) (T : ℤ) (c : Curve) (s : Sized 0 c) (j : ℕ) (premise : Flat T c j) where
+  pub all-meet : (n : ℕ) → 0 < n → depth n ≡ j → nodeMeets σ T c n ≡ true
   all-meet n hn e =
       let d = node-degree c n hn in
-      width-meets T (depth n) (largest c) (nodeCurve c n) (rw d (s .least)) (rw d (s .most))
-      (rw d (quarter-x c (s .least) (s .most) n hn)) (rw d (quarter-y c (s .least) (s .most) n hn)) (rw e premise)
+      rw (meets-thirds σ three T (depth n) (nodeCurve c n)) (width-meets T (depth n) (largest c) (nodeCurve c n) (rw d (s .least)) (rw d (s .most))
+      (rw d (quarter-x c (s .least) (s .most) n hn)) (rw d (quarter-y c (s .least) (s .most) n hn)) (rw e premise))
 
-  pub end-depth : (n : ℕ) → List·Memᴰ n (endsOf T c) → depth n ≤ j
-  end-depth = ends-within (nodeMeets T c) j all-meet deepest
+  pub end-depth : (n : ℕ) → List·Memᴰ n (endsOf σ T c) → depth n ≤ j
+  end-depth = ends-within (nodeMeets σ T c) j all-meet (deepest (c .degree))
 
-  pub leaf-depth : (n : ℕ) → Leaf (nodeMeets T c) n → depth n ≤ j
-  leaf-depth = leaves-within (nodeMeets T c) j all-meet
+  pub leaf-depth : (n : ℕ) → Leaf (nodeMeets σ T c) n → depth n ≤ j
+  leaf-depth = leaves-within (nodeMeets σ T c) j all-meet
 
-  pub none-too-wide : j ≤ deepest → firstFailing (nodeMeets T c) (endsOf T c) ≡ none
-  none-too-wide l = passing-none (nodeMeets T c) (endsOf T c) (ends-passing (nodeMeets T c) j all-meet deepest l)
+  pub none-too-wide : j ≤ deepest (c .degree) → firstFailing (nodeMeets σ T c) (endsOf σ T c) ≡ none
+  none-too-wide l = passing-none (nodeMeets σ T c) (endsOf σ T c) (ends-passing (nodeMeets σ T c) j all-meet (deepest (c .degree)) l)

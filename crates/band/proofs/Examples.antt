@@ -1,38 +1,23 @@
--- Examples of banding beside the starred ones, by computation: what stands behind the records, two curves, the spots of 7 and 8, and a list that is left as it was.
+-- Examples of banding beside the starred ones, by computation: what stands behind the records, two curves, the spots of 7 and 8,
+-- and a list that is left as it was.
 use mathlib.Core.Path.{_≡_, refl}
 use mathlib.Core.List.{List, [], _∷_, _++_}
 use Prim.Native.Nat.{ℕ}
 use lib.ListN.{replicate}
-use lib.IntN.{ℤ, pos, pow, one}
-use Rattle.integers.specs.Rounding.{floor, ceiling}
+use lib.IntN.{ℤ, pos}
+use Rattle.setting.specs.Setting.{standard}
 use Rattle.refusals.specs.Refusals.{numberOf, spotOf}
-use Rattle.curve_halves.specs.Halves.{triangle, left, right}
-use Rattle.curve_nodes.specs.Halves.{leftHalf, rightHalf}
-use Rattle.curve_nodes.specs.Nodes.{descendIn, descend, depth, nodeCurve}
-use Rattle.bound_enclosure.specs.Bounds.{rowSum, high, low}
-use Rattle.bound_node.specs.Boxes.{boxAt, meets}
-use Rattle.outline.specs.Curves.{curveAt}
-use Rattle.integers.specs.First.{firstBad}
-use Rattle.outline.specs.Faults.{faultAt}
-use Rattle.outline.specs.Checks.{outlineFrom, outlined}
 use Rattle.band.specs.declared.banding.Banded.{Banded}
 use Rattle.band.specs.declared.banding.Banded.the-variants.{Done, Refused}
-use Rattle.walk_tree.specs.Tree.{ends, met, firstFailing}
-use Rattle.band_records.specs.Records.{recordOf, recordsOf, allRecords}
-use Rattle.band_passes.specs.Leaves.{firstTooWide, leavesOf, nodesOf}
-use Rattle.band.specs.Banding.{bandCurves, banded, written}
+use Rattle.band.specs.Banding.{banded, written}
+use Rattle.band.proofs.Computing.{computing}
 
--- with at most 64 curves
+-- in the standard setting
 abbrev answer : ℤ → List ℤ → ℕ → Banded
-answer T ns room = banded 64 T ns room
+answer T ns room = banded standard T ns room
 
 abbrev lent : ℤ → List ℤ → List ℤ → List ℤ
-lent T ns old = written 64 T ns old
-
--- what the examples compute through
-computing : ℤ → List ℤ → List ℤ → List ℤ
-unfolding written allRecords recordsOf recordOf banded bandCurves firstTooWide leavesOf nodesOf ends met firstFailing outlined outlineFrom faultAt firstBad curveAt descend descendIn depth nodeCurve meets boxAt high low rowSum floor ceiling leftHalf rightHalf left right triangle pow one
-computing = lent
+lent T ns old = written standard T ns old
 
 -- number and spot of a refusal
 abbrev refusal : Banded → ℕ × ℕ

@@ -9,6 +9,7 @@ use native.Mathlib.Omega.{arith}
 use lib.Dec.{ltb, lit≤}
 use lib.ListN.{length}
 use lib.IntN.{ℤ}
+use Rattle.setting.specs.Setting.{Setting}
 use Rattle.refusals.specs.declared.Refusal.{Refusal}
 use Rattle.refusals.specs.declared.Refusal.the-variants.{Tolerance, Degree, CutShort, Coordinate, TooManyCurves, EmptyOutline, Gap}
 use Rattle.refusals.specs.Refusals.{numberOf}
@@ -56,7 +57,8 @@ outline-early zero ns at r = go (ltb at (length ns))
     go : (more : Bool) → elim more [ true ↦ faulty (TooManyCurves at) | false ↦ curves [] ] ≡ faulty r → Early r
     go true e = subst Early (faulty-is e) (early-at-most (TooManyCurves at) (lit≤ tt))
     go false e = absurd (not-curves e)
-outline-early (suc left) ns at r = go (ltb at (length ns)) (faultAt ns at) (outlineFrom left ns (nextAt ns at)) (fault-early ns at) (outline-early left ns (nextAt ns at) r)
+outline-early (suc left) ns at r = go (ltb at (length ns)) (faultAt ns at) (outlineFrom left ns (nextAt ns at)) (fault-early ns at)
+    (outline-early left ns (nextAt ns at) r)
   where
     go : (more : Bool) (o : Option Refusal) (rest : Outlined) → ((q : Refusal) → o ≡ some q → Early q) → (rest ≡ faulty r → Early r)
         → elim more [ false ↦ curves [] | true ↦ elim o [ some q ↦ faulty q | none ↦ withCurve (curveAt ns at) rest ] ] ≡ faulty r → Early r
@@ -71,19 +73,19 @@ outlined-early most [] r e = subst Early (faulty-is e) (early-at-most EmptyOutli
 outlined-early most (z ∷ ns) r e = outline-early most (z ∷ ns) 0 r e
 
 -- ---- what banding says of the checks
-module _ (most : ℕ) (T : ℤ) (ns : List ℤ) (room : ℕ) where
-  pub banded-curves : (cs : List Curve) → Faultless most T ns cs → banded most T ns room ≡ bandCurves T cs room
+module _ (σ : Setting) (T : ℤ) (ns : List ℤ) (room : ℕ) where
+  pub banded-curves : (cs : List Curve) → Faultless σ T ns cs → banded σ T ns room ≡ bandCurves σ T cs room
   unfolding banded
   banded-curves cs f = rw (f .tolerance, f .outline, banded)
 
-  pub faultless-or : ((cs : List Curve) × Faultless most T ns cs) ⊎ ((r : Refusal) × (banded most T ns room ≡ Refused r) × Early r)
+  pub faultless-or : ((cs : List Curve) × Faultless σ T ns cs) ⊎ ((r : Refusal) × (banded σ T ns room ≡ Refused r) × Early r)
   unfolding banded
   faultless-or = ⊎-elim
-      (λ fine. go fine (outlined most ns) refl)
+      (λ fine. go fine (outlined (σ .most) ns) refl)
       (λ (e : toleranceFine T ≡ false). inr (Tolerance, rw (e, banded), early-at-most Tolerance (lit≤ tt)))
       (either (toleranceFine T))
     where
-      go : toleranceFine T ≡ true → (o : Outlined) → outlined most ns ≡ o
-          → ((cs : List Curve) × Faultless most T ns cs) ⊎ ((r : Refusal) × (banded most T ns room ≡ Refused r) × Early r)
+      go : toleranceFine T ≡ true → (o : Outlined) → outlined (σ .most) ns ≡ o
+          → ((cs : List Curve) × Faultless σ T ns cs) ⊎ ((r : Refusal) × (banded σ T ns room ≡ Refused r) × Early r)
       go fine (curves cs) e = inl (cs, record { tolerance = fine; outline = e })
-      go fine (faulty r) e = inr (r, rw (fine, e, banded), outlined-early most ns r e)
+      go fine (faulty r) e = inr (r, rw (fine, e, banded), outlined-early (σ .most) ns r e)

@@ -1,5 +1,5 @@
--- What banding promises of an outline, gathered: its answer, case by case; what it leaves in the lent list; and, of an outline that it accepts, the leaves,
--- their order, number and depth. The enclosure's own theorems stand with the enclosure.
+-- What banding promises of an outline, gathered: its answer, case by case; what it leaves in the lent list; and, of an outline that it accepts, the
+-- leaves, their order, number and depth. The enclosure's own theorems stand with the enclosure.
 use mathlib.Core.Path.{_≡_, sym, _∙_, ap, subst}
 use mathlib.Core.Logic.{⊎-elim, _↔_}
 use mathlib.Core.List.{List, _∷_, _++_, List·Memᴰ}
@@ -17,33 +17,33 @@ use Rattle.curve_nodes.specs.Nodes.{depth, start}
 use Rattle.outline.proofs.Accepted.{outlined-from, accepted-all}
 use Rattle.band.specs.declared.banding.Banded.{Banded}
 use Rattle.band.specs.declared.banding.Banded.the-variants.{Done, Refused}
-use Rattle.walk_tree.specs.Leaves.{Leaf, Covers, EndToEnd}
-use Rattle.walk_curve.specs.Walked.{deepest, nodeMeets, endsOf}
+use Rattle.walk_tree.specs.Leaves.{Leaf, Spans, EndToEnd}
+use Rattle.walk_curve.specs.Walked.{nodeMeets, endsOf}
 use Rattle.band_records.specs.Records.{allRecords}
-use Rattle.boxes.specs.Records.{recordLength}
+use Rattle.setting.specs.Setting.{Setting, recordLength, deepest}
 use Rattle.band.specs.Banding.{bandCurves, banded, written}
 use Rattle.band_records.specs.Ranges.{SoundList}
 use Rattle.band_passes.specs.Meeting.{AllMeet, FirstWide}
 use Rattle.band.specs.Outcomes.{Faultless, Few, Report, Flat}
 use Rattle.walk_tree.proofs.Leaves.{all-leaves}
-use Rattle.walk_tree.proofs.Covering.{some-end-covers, ends-end-to-end, neighbours-meet, in-order}
+use Rattle.walk_tree.proofs.Covering.{some-end-spans, ends-end-to-end, neighbours-meet, in-order}
 use Rattle.band_passes.proofs.Counting.{nodes-of-curves}
 use Rattle.band.proofs.Depths.{end-depth, none-too-wide}
 use Rattle.walk_tree.proofs.Failing.{none-passing}
 use Rattle.band.proofs.Sound.{some-leaves, records-sound}
 use Rattle.band.proofs.Faults.{Early, banded-curves, faultless-or}
-use Rattle.band.proofs.Answers.{written-refused}
+use Rattle.band.proofs.Answers.{all-records-length, written-refused}
 use Rattle.band.proofs.Cases.{wide-said, few-said, done-said, said-wide, said-few, said-done}
 
 -- ---- the answer of banding, behind the checks before the walk: 1 to 6 and 17
-module _ (most : ℕ) (T : ℤ) (ns : List ℤ) (room : ℕ) where
+module _ (σ : Setting) (T : ℤ) (ns : List ℤ) (room : ℕ) where
   -- an answer that is no refusal of these is the answer for the outline's curves
-  of-curves : {v : Banded} → ((r : Refusal) → Early r → Refused r ≡ v → ⊥) → banded most T ns room ≡ v
-      → (cs : List Curve) × Faultless most T ns cs × (bandCurves T cs room ≡ v)
+  of-curves : {v : Banded} → ((r : Refusal) → Early r → Refused r ≡ v → ⊥) → banded σ T ns room ≡ v
+      → (cs : List Curve) × Faultless σ T ns cs × (bandCurves σ T cs room ≡ v)
   of-curves late e = ⊎-elim
-      (λ f. (f .0, f .1, sym (banded-curves most T ns room (f .0) (f .1)) ∙ e))
+      (λ f. (f .0, f .1, sym (banded-curves σ T ns room (f .0) (f .1)) ∙ e))
       (λ r. absurd (late (r .0) (r .2) (sym (r .1) ∙ e)))
-      (faultless-or most T ns room)
+      (faultless-or σ T ns room)
 
   refused-is : {q r : Refusal} → Refused q ≡ Refused r → numberOf q ≡ numberOf r
   refused-is e = cc
@@ -51,93 +51,97 @@ module _ (most : ℕ) (T : ℤ) (ns : List ℤ) (room : ℕ) where
   not-done : {q : Refusal} {a b c : ℕ} → Refused q ≡ Done a b c → ⊥
   not-done e = let z : _≡_ {A = ℕ} 0 1 = cc in omega arith
 
-  pub wide-exactly : (k n : ℕ) → (banded most T ns room ≡ Refused (TooWide k n)) ↔ ((cs : List Curve) × Faultless most T ns cs × FirstWide T 0 cs k n)
+  pub wide-exactly : (k n : ℕ) → (banded σ T ns room ≡ Refused (TooWide k n)) ↔ ((cs : List Curve) × Faultless σ T ns cs × FirstWide σ T 0 cs k n)
   wide-exactly k n = (
-    λ e. let h = of-curves (λ q l f. l .not-wide (refused-is f)) e in (h .0, h .1, said-wide T (h .0) room k n (h .2)),
-    λ h. banded-curves most T ns room (h .0) (h .1) ∙ wide-said T (h .0) room (h .2),
+    λ e. let h = of-curves (λ q l f. l .not-wide (refused-is f)) e in (h .0, h .1, said-wide σ T (h .0) room k n (h .2)),
+    λ h. banded-curves σ T ns room (h .0) (h .1) ∙ wide-said σ T (h .0) room (h .2),
   )
 
-  pub few-exactly : (l : ℕ) → (banded most T ns room ≡ Refused (TooFewRecords l)) ↔ ((cs : List Curve) × Faultless most T ns cs × Few T cs room l)
+  pub few-exactly : (l : ℕ) → (banded σ T ns room ≡ Refused (TooFewRecords l)) ↔ ((cs : List Curve) × Faultless σ T ns cs × Few σ T cs room l)
   few-exactly l = (
-    λ e. let h = of-curves (λ q m f. m .not-few (refused-is f)) e in (h .0, h .1, said-few T (h .0) room l (h .2)),
-    λ h. banded-curves most T ns room (h .0) (h .1) ∙ few-said T (h .0) room (h .2),
+    λ e. let h = of-curves (λ q m f. m .not-few (refused-is f)) e in (h .0, h .1, said-few σ T (h .0) room l (h .2)),
+    λ h. banded-curves σ T ns room (h .0) (h .1) ∙ few-said σ T (h .0) room (h .2),
   )
 
-  pub done-exactly : (a b c : ℕ) → (banded most T ns room ≡ Done a b c) ↔ ((cs : List Curve) × Faultless most T ns cs × Report T cs room a b c)
+  pub done-exactly : (a b c : ℕ) → (banded σ T ns room ≡ Done a b c) ↔ ((cs : List Curve) × Faultless σ T ns cs × Report σ T cs room a b c)
   done-exactly a b c = (
-    λ e. let h = of-curves (λ q l f. not-done f) e in (h .0, h .1, said-done T (h .0) room a b c (h .2)),
-    λ h. banded-curves most T ns room (h .0) (h .1) ∙ done-said T (h .0) room (h .2),
+    λ e. let h = of-curves (λ q l f. not-done f) e in (h .0, h .1, said-done σ T (h .0) room a b c (h .2)),
+    λ h. banded-curves σ T ns room (h .0) (h .1) ∙ done-said σ T (h .0) room (h .2),
   )
 
   -- nodes = 2 × leaves − curves
-  pub nodes-reported : (a b c : ℕ) → banded most T ns room ≡ Done a b c → c + a ≡ 2 * b
+  pub nodes-reported : (a b c : ℕ) → banded σ T ns room ≡ Done a b c → c + a ≡ 2 * b
   nodes-reported a b c e =
       let h = done-exactly a b c .0 e in
       let r = h .2 in
-      omega (arith, nodes-of-curves T (h .0), r .curves, r .leaves, r .nodes)
+      omega (arith, nodes-of-curves σ T (h .0), r .curves, r .leaves, r .nodes)
 
 -- ---- the lent list
-module _ (most : ℕ) (T : ℤ) (ns old : List ℤ) where
-  pub refused-unaltered : (r : Refusal) → banded most T ns (length old) ≡ Refused r → written most T ns old ≡ old
-  refused-unaltered r e = sym (written-refused most ns T old (sym e))
+module _ (σ : Setting) (T : ℤ) (ns old : List ℤ) where
+  pub refused-unaltered : (r : Refusal) → banded σ T ns (length old) ≡ Refused r → written σ T ns old ≡ old
+  refused-unaltered r e = sym (written-refused σ ns T old (sym e))
 
   -- nothing is refused (`done-exactly`): as many records as there are leaves, and behind them what stood there
-  module _ {cs : List Curve} {a b c : ℕ} (f : Faultless most T ns cs) (r : Report T cs (length old) a b c) where
+  module _ {cs : List Curve} {a b c : ℕ} (f : Faultless σ T ns cs) (r : Report σ T cs (length old) a b c) where
     abbrev records : List ℤ
-    records = allRecords T 0 cs
+    records = allRecords σ T 0 cs
 
-    sound : SoundList most b records
-    sound = subst (λ n. SoundList most n records) (r .leaves) (records-sound most T ns cs (f .outline))
+    whole : length records ≡ recordLength σ * b
+    whole = all-records-length σ T 0 cs ∙ ap (λ n. recordLength σ * n) (r .leaves)
 
-    in-front : written most T ns old ≡ records ++ drop (length records) old
+    in-front : written σ T ns old ≡ records ++ drop (length records) old
     unfolding written
-    in-front = rw (done-exactly most T ns (length old) a b c .1 (cs, f, r), f .outline, written)
+    in-front = rw (done-exactly σ T ns (length old) a b c .1 (cs, f, r), f .outline, written)
 
-    pub records-written : take (recordLength * b) (written most T ns old) ≡ allRecords T 0 cs
-    records-written = ap (take (recordLength * b)) in-front ∙ take-at records (drop (length records) old) (recordLength * b) (sound .whole)
+    pub records-written : take (recordLength σ * b) (written σ T ns old) ≡ allRecords σ T 0 cs
+    records-written =
+        ap (take (recordLength σ * b)) in-front ∙ take-at records (drop (length records) old) (recordLength σ * b) whole
 
-    pub rest-kept : drop (recordLength * b) (written most T ns old) ≡ drop (recordLength * b) old
+    pub rest-kept : drop (recordLength σ * b) (written σ T ns old) ≡ drop (recordLength σ * b) old
     rest-kept =
-        ap (drop (recordLength * b)) in-front
-        ∙ drop-at records (drop (length records) old) (recordLength * b) (sound .whole)
-        ∙ ap (λ n. drop n old) (sound .whole)
+        ap (drop (recordLength σ * b)) in-front
+        ∙ drop-at records (drop (length records) old) (recordLength σ * b) whole
+        ∙ ap (λ n. drop n old) whole
 
-    -- the records pass checks 9 and 10
+    -- the records pass checks 9 and 10, where there are three pieces
     pub written-some : 0 < b
-    written-some = subst (λ n. 0 < n) (r .leaves) (some-leaves most T ns cs (f .outline))
+    written-some = subst (λ n. 0 < n) (r .leaves) (some-leaves σ T ns cs (f .outline))
 
-    pub written-sound : SoundList most b (take (recordLength * b) (written most T ns old))
-    written-sound = rw records-written sound
+    pub written-sound : σ .pieces ≡ 3 → SoundList σ b (take (recordLength σ * b) (written σ T ns old))
+    written-sound three =
+        rw records-written (subst (λ n. SoundList σ n records) (r .leaves) (records-sound σ T ns cs (f .outline) three))
 
 -- ---- the leaves of an accepted outline's curve c
-module _ (T : ℤ) (cs : List Curve) (meet : AllMeet T cs) (c : Curve) (i : List·Memᴰ c cs) where
-  pub leaves-exactly : (n : ℕ) → List·Memᴰ n (endsOf T c) ↔ Leaf (nodeMeets T c) n
-  leaves-exactly n = all-leaves (nodeMeets T c) deepest n (meet .each c i)
+module _ (σ : Setting) (T : ℤ) (cs : List Curve) (meet : AllMeet σ T cs) (c : Curve) (i : List·Memᴰ c cs) where
+  pub leaves-exactly : (n : ℕ) → List·Memᴰ n (endsOf σ T c) ↔ Leaf (nodeMeets σ T c) n
+  leaves-exactly n = all-leaves (nodeMeets σ T c) (deepest (c .degree)) n (meet .each c i)
 
   -- every parameter p / (p + r) lies in the stretch of a leaf
-  pub every-parameter : (p r : ℕ) → (n : ℕ) × Leaf (nodeMeets T c) n × Covers n p r
-  every-parameter p r = let m = some-end-covers p r (nodeMeets T c) deepest in (m .0, leaves-exactly (m .0) .0 (m .1), m .2)
+  pub every-parameter : (p r : ℕ) → (n : ℕ) × Leaf (nodeMeets σ T c) n × Spans n p r
+  every-parameter p r = let m = some-end-spans p r (nodeMeets σ T c) (deepest (c .degree)) in (m .0, leaves-exactly (m .0) .0 (m .1), m .2)
 
 -- by parameter, from 0 to 1, each where the one before ends
-module _ (T : ℤ) (c : Curve) where
-  pub leaves-end-to-end : EndToEnd 0 1 (endsOf T c) 1 1
-  leaves-end-to-end = ends-end-to-end (nodeMeets T c) deepest
+module _ (σ : Setting) (T : ℤ) (c : Curve) where
+  pub leaves-end-to-end : EndToEnd 0 1 (endsOf σ T c) 1 1
+  leaves-end-to-end = ends-end-to-end (nodeMeets σ T c) (deepest (c .degree))
 
-  pub leaves-meet : (xs : List ℕ) (n m : ℕ) (ys : List ℕ) → endsOf T c ≡ xs ++ n ∷ m ∷ ys → (start n + 1) * 2 ^ depth m ≡ start m * 2 ^ depth n
-  leaves-meet = neighbours-meet (nodeMeets T c) deepest
+  pub leaves-meet : (xs : List ℕ) (n m : ℕ) (ys : List ℕ) → endsOf σ T c ≡ xs ++ n ∷ m ∷ ys → (start n + 1) * 2 ^ depth m ≡ start m * 2 ^ depth n
+  leaves-meet = neighbours-meet (nodeMeets σ T c) (deepest (c .degree))
 
-  pub leaves-in-order : (xs : List ℕ) (n : ℕ) (ys : List ℕ) (m : ℕ) (zs : List ℕ) → endsOf T c ≡ xs ++ n ∷ (ys ++ m ∷ zs)
+  pub leaves-in-order : (xs : List ℕ) (n : ℕ) (ys : List ℕ) (m : ℕ) (zs : List ℕ) → endsOf σ T c ≡ xs ++ n ∷ (ys ++ m ∷ zs)
       → (start n + 1) * 2 ^ depth m ≤ start m * 2 ^ depth n
-  leaves-in-order = in-order (nodeMeets T c) deepest
+  leaves-in-order = in-order (nodeMeets σ T c) (deepest (c .degree))
 
--- ---- the depth claim of demand 3
-module _ (most : ℕ) (T : ℤ) (ns : List ℤ) (cs : List Curve) (f : Faultless most T ns cs) where
+-- ---- the depth claim of demand 3, with three pieces
+module _ (σ : Setting) (three : σ .pieces ≡ 3) (T : ℤ) (ns : List ℤ) (cs : List Curve) (f : Faultless σ T ns cs) where
   sized : (c : Curve) → List·Memᴰ c cs → Sized 0 c
-  sized = accepted-all most ns 0 cs (outlined-from most ns cs (f .outline))
+  sized = accepted-all (σ .most) ns 0 cs (outlined-from (σ .most) ns cs (f .outline))
 
-  pub leaf-at-most : (c : Curve) → List·Memᴰ c cs → (j : ℕ) → Flat T c j → (n : ℕ) → List·Memᴰ n (endsOf T c) → depth n ≤ j
-  leaf-at-most c i j premise = end-depth T c (sized c i) j premise
+  pub leaf-at-most : (c : Curve) → List·Memᴰ c cs → (j : ℕ) → Flat T c j → (n : ℕ) → List·Memᴰ n (endsOf σ T c) → depth n ≤ j
+  leaf-at-most c i j premise = end-depth σ three T c (sized c i) j premise
 
   -- check 7 passes where each curve has such a j within the walk's reach
-  pub flat-meets : ((c : Curve) → List·Memᴰ c cs → (j : ℕ) × (j ≤ deepest) × Flat T c j) → AllMeet T cs
-  flat-meets h = record { each = λ c i. let p = h c i in none-passing (nodeMeets T c) (endsOf T c) (none-too-wide T c (sized c i) (p .0) (p .2) (p .1)) }
+  pub flat-meets : ((c : Curve) → List·Memᴰ c cs → (j : ℕ) × (j ≤ deepest (c .degree)) × Flat T c j) → AllMeet σ T cs
+  flat-meets h = record {
+    each = λ c i. let p = h c i in none-passing (nodeMeets σ T c) (endsOf σ T c) (none-too-wide σ three T c (sized c i) (p .0) (p .2) (p .1));
+  }

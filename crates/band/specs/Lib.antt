@@ -1,3 +1,4 @@
--- What a reader must believe of banding: the answer, and what stands in the caller's list. `Outcomes` is what the theorems speak of.
+-- What a reader must believe of banding: the answer, and what stands in the caller's list (Banding). Outcomes is what
+-- the theorems speak of.
 pub mod Banding
 pub mod Outcomes

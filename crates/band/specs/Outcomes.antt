@@ -1,5 +1,5 @@
--- What the theorems of banding speak of: the faults and the report of an outline, and the premise of the depth claim. No contract cites these;
--- crates/band/proofs/Theorems.antt does.
+-- What the theorems of banding speak of: the faults and the report of an outline, and the premise of the depth claim.
+-- No contract cites these; crates/band/proofs/Theorems.antt does.
 use mathlib.Core.Path.{_≡_}
 use mathlib.Core.Bool.{true}
 use mathlib.Core.List.{List}
@@ -11,29 +11,29 @@ use Rattle.integers.specs.Squares.{squared}
 use Rattle.curve_nodes.specs.declared.Curve.{Curve}
 use Rattle.curve_nodes.specs.Differences.{largest}
 use Rattle.outline.specs.Checks.{toleranceFine, curves, outlined}
-use Rattle.boxes.specs.Records.{recordLength}
+use Rattle.setting.specs.Setting.{Setting, recordLength}
 use Rattle.band_passes.specs.Leaves.{leavesOf, nodesOf}
 use Rattle.band_passes.specs.Meeting.{AllMeet}
 
 -- ---- outlines
 -- the checks before the walk, 1 to 6 and 17, find no fault, and the outline's curves are cs
-pub record Faultless (most : ℕ) (T : ℤ) (ns : List ℤ) (cs : List Curve) : Type 0 where
+pub record Faultless (σ : Setting) (T : ℤ) (ns : List ℤ) (cs : List Curve) : Type 0 where
   pub tolerance : toleranceFine T ≡ true
-  pub outline : outlined most ns ≡ curves cs
+  pub outline : outlined (σ .most) ns ≡ curves cs
 
 -- check 8: nothing is too wide, but the l leaves find no room
-pub record Few (T : ℤ) (cs : List Curve) (room l : ℕ) : Type 0 where
-  pub meet : AllMeet T cs
-  pub short : room < recordLength * leavesOf T cs
-  pub leaves : leavesOf T cs ≡ l
+pub record Few (σ : Setting) (T : ℤ) (cs : List Curve) (room l : ℕ) : Type 0 where
+  pub meet : AllMeet σ T cs
+  pub short : room < recordLength σ * leavesOf σ T cs
+  pub leaves : leavesOf σ T cs ≡ l
 
 -- nothing is refused, and a curves, b leaves and c nodes are reported
-pub record Report (T : ℤ) (cs : List Curve) (room a b c : ℕ) : Type 0 where
-  pub meet : AllMeet T cs
-  pub enough : recordLength * leavesOf T cs ≤ room
+pub record Report (σ : Setting) (T : ℤ) (cs : List Curve) (room a b c : ℕ) : Type 0 where
+  pub meet : AllMeet σ T cs
+  pub enough : recordLength σ * leavesOf σ T cs ≤ room
   pub curves : length cs ≡ a
-  pub leaves : leavesOf T cs ≡ b
-  pub nodes : nodesOf T cs ≡ c
+  pub leaves : leavesOf σ T cs ≡ b
+  pub nodes : nodesOf σ T cs ≡ c
 
 -- ---- the premise of the depth claim: 2 × (178 × M + 250 × 4^j)² ≤ (125 × T × 4^j)²
 abbrev pub Flat : ℤ → Curve → ℕ → Type 0

@@ -1,4 +1,4 @@
-// What banding answers. Its definitions and theorems stand here, its code in `band`.
+// The answer of banding.
 use refusals::Refusal;
 
 // What banding answers: the report, or the first fault.

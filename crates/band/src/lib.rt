@@ -1,7 +1,7 @@
 // Banding: the leaves of an outline at a tolerance, as records.
 ghost use mathlib.Core.Path.{_≡_};
-ghost use Prim.Native.Nat.{_≤_};
 ghost use lib.ListN.{length};
+ghost use Rattle.setting.specs.Setting.{standard};
 ghost use Rattle.band.specs.Banding.{banded, written};
 use crate::banding::Banded;
 use crate::outline_band::band_curves;
@@ -11,24 +11,18 @@ use refusals::Refusal;
 pub mod banding;
 pub mod outline_band;
 
-// Puts a band round an outline, at a tolerance in sixteenths: the leaves' records stand at the front of the list afterwards, and what stood behind
-// them stays. A refusal alters nothing. Every outline, tolerance and list may be asked about.
+// Puts a band round an outline, at a tolerance in sixteenths: the leaves' records stand at the front of the list
+// afterwards, and what stood behind them stays. A refusal alters nothing. Every outline, tolerance and list may be
+// asked about.
 pub fn band(outline: &[i32], tolerance: i32, records: &mut [i32]) -> Banded
-    ensures { λ r. ⌜ (r ≡ banded 64 tolerance (now (outline .entry)) (length (now (records .entry)))) × (now (records .exit) ≡ written 64 tolerance (now (outline .entry)) (now (records .entry))) ⌝ }
-{
-    band_most(outline, tolerance, 64, records)
-}
-
-// The same for outlines of at most `most` curves.
-fn band_most(ns: &[i32], tolerance: i32, most: usize, records: &mut [i32]) -> Banded
-    requires { ⌜ most ≤ 65536 ⌝ }
-    ensures { λ r. ⌜ (r ≡ banded most tolerance (now (ns .entry)) (length (now (records .entry)))) × (now (records .exit) ≡ written most tolerance (now (ns .entry)) (now (records .entry))) ⌝ }
+    ensures { λ r. ⌜ r ≡ banded standard tolerance (now (outline .entry)) (length (now (records .entry))) ⌝ }
+    ensures { λ r. ⌜ now (records .exit) ≡ written standard tolerance (now (outline .entry)) (now (records .entry)) ⌝ }
 {
     if !outline_checks::tolerance_fine(tolerance) {
         return Banded::Refused(Refusal::Tolerance);
     }
-    match outline_checks::check_outline(ns, most) {
-        Checked::Refused(refusal) => Banded::Refused(refusal),
-        Checked::Curves(curves) => band_curves(ns, tolerance as i64, curves, records),
+    match outline_checks::check_outline(outline, 64) {
+        Checked::Faulty(refusal) => Banded::Refused(refusal),
+        Checked::Curves(curves) => band_curves(outline, tolerance as i64, curves, records),
     }
 }

@@ -5,18 +5,19 @@ use Prim.Native.Nat.{_+_, _*_, _^_, _≤_}
 use native.Mathlib.Omega.{arith}
 use lib.ListN.{length}
 use lib.IntN.{ℤ}
+use Rattle.setting.specs.Setting.{Setting, deepest}
 use Rattle.curve_nodes.specs.declared.Curve.{Curve}
-use Rattle.walk_curve.specs.Walked.{deepest, nodeMeets}
+use Rattle.walk_curve.specs.Walked.{nodeMeets}
 use Rattle.band_passes.specs.Leaves.{leavesOf, nodesOf}
 use Rattle.walk_tree.proofs.Counting.{nodes-met, few-ends}
 
-pub nodes-of-curves : (T : ℤ) (cs : List Curve) → nodesOf T cs + length cs ≡ 2 * leavesOf T cs
+pub nodes-of-curves : (σ : Setting) (T : ℤ) (cs : List Curve) → nodesOf σ T cs + length cs ≡ 2 * leavesOf σ T cs
 unfolding nodesOf leavesOf
-nodes-of-curves T [] = refl
-nodes-of-curves T (c ∷ cs) = omega (arith, nodes-met (nodeMeets T c) deepest 1, nodes-of-curves T cs)
+nodes-of-curves σ T [] = refl
+nodes-of-curves σ T (c ∷ cs) = omega (arith, nodes-met (nodeMeets σ T c) (deepest (c .degree)) 1, nodes-of-curves σ T cs)
 
 -- at most 256 leaves a curve
-pub few-leaves : (T : ℤ) (cs : List Curve) → leavesOf T cs ≤ 2 ^ deepest * length cs
+pub few-leaves : (σ : Setting) (T : ℤ) (cs : List Curve) → leavesOf σ T cs ≤ 256 * length cs
 unfolding leavesOf
-few-leaves T [] = omega arith
-few-leaves T (c ∷ cs) = omega (arith, few-ends (nodeMeets T c) deepest 1, few-leaves T cs)
+few-leaves σ T [] = omega arith
+few-leaves σ T (c ∷ cs) = omega (arith, few-ends (nodeMeets σ T c) (deepest (c .degree)) 1, few-leaves σ T cs)

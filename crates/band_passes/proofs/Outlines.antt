@@ -13,7 +13,7 @@ use Rattle.outline.specs.Faults.{faultAt}
 use Rattle.outline.specs.Checks.{curves, outlineFrom}
 use Rattle.outline.proofs.Steps.{outline-begins}
 use Rattle.outline.proofs.Accepted.{accepted-head}
-use Rattle.band_passes.specs.Counted.{Readable}
+use Rattle.band_passes.specs.Inside.{Readable}
 
 -- of the n curves of the outline the first k are done; the rest begin at index `at`
 pub record Rest (ns : List ℤ) (n k at : ℕ) (rest : List Curve) : Type 0 where
@@ -39,7 +39,10 @@ rest-next {ns} {n} {k} {at} (c ∷ cs) r h =
       is = ap (λ d. d ∷ cs) (b .is);
       no-fault = b .no-fault;
       sized = subst (Sized 0) (b .is) (accepted-head (n - k) ns at c cs (r .is));
-      on = record { is = ap (λ m. outlineFrom m ns (nextAt ns at)) {x = n - (k + 1)} {y = n - k - 1} (omega arith) ∙ b .rest; count = omega (arith, r .count) };
+      on = record {
+        is = ap (λ m. outlineFrom m ns (nextAt ns at)) {x = n - (k + 1)} {y = n - k - 1} (omega arith) ∙ b .rest;
+        count = omega (arith, r .count);
+      };
     }
 
 -- none are left

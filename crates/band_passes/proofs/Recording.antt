@@ -3,35 +3,38 @@ use mathlib.Core.Path.{_≡_, refl, sym, _∙_, ap, ap₂}
 use mathlib.Core.Bool.{true, false}
 use mathlib.Core.List.{List, [], _∷_, _++_}
 use Prim.Native.Nat.{ℕ, _+_, _*_, _^_, _≤_, _<_}
-use native.Mathlib.Nat.{le-trans, le-of-suc-le-suc}
+use native.Mathlib.Nat.{le-trans, le-of-suc-le-suc, mul-le-mul-left}
 use native.Mathlib.Omega.{arith}
 use lib.Dec.{lit≤}
 use lib.ListN.{length, length-append}
 use lib.Seq.{sets, length-sets}
 use lib.IntN.{ℤ}
+use Rattle.setting.specs.Setting.{Setting, standard, breakPoints, recordLength, deepest}
 use Rattle.integers.proofs.Stores.{sets-append}
 use Rattle.curve_nodes.specs.declared.Curve.{Curve}
 use Rattle.curve_nodes.specs.Nodes.{depth, nodeCurve, after}
 use Rattle.curve_nodes.proofs.Sizes.{node-sized}
-use Rattle.bound_node.specs.Boxes.{Sides, boxAt}
+use Rattle.bound_node.specs.Inside.{SmallBox}
+use Rattle.bound_node.specs.Boxes.{boxAt}
 use Rattle.bound_node.proofs.Sound.{node-box}
-use Rattle.walk_curve.specs.Walked.{deepest, nodeMeets, endsOf}
+use Rattle.walk_curve.specs.Walked.{nodeMeets, endsOf}
 use Rattle.band_records.specs.Records.{boxesTo, nodeNumbers, recordOf, recordsOf}
-use Rattle.band_records.specs.Writing.{Writable}
+use Rattle.band_records.specs.Inside.{Writable}
 use Rattle.band_records.proofs.Lengths.{records-length, records-snoc}
-use Rattle.band_passes.specs.Writing.{Ready}
+use Rattle.band_passes.specs.Inside.{Ready}
 use Rattle.walk_tree.proofs.Failing.{none-passing}
 use Rattle.walk_tree.proofs.Walking.{Walking, walking-start, walking-half, walking-halvable, walking-leaf, walking-done, fewer-passed}
 
 -- ---- a node's boxes fit
-module _ {T : ℤ} {c : Curve} (r : Ready T c) {passed : List ℕ} {n : ℕ} (w : Walking (nodeMeets T c) deepest passed n) where
-  pub writable-node : Writable (depth n) (nodeCurve c n)
+module _ {T : ℤ} {c : Curve} (r : Ready standard T c) {passed : List ℕ} {n : ℕ}
+    (w : Walking (nodeMeets standard T c) (deepest (c .degree)) passed n) where
+  pub writable-node : Writable standard (depth n) (nodeCurve c n)
   writable-node = record { sized = node-sized (r .sized) n (w .node); shallow = w .within; boxes = fits }
     where
       small : {m : ℕ} → m ≤ 2 ^ 24 + 2 ^ 23 → m ≤ 2 ^ 29
       small h = le-trans h (lit≤ tt)
 
-      fits : (i : ℕ) → i < 4 → Sides (2 ^ 29) (boxAt (depth n) (nodeCurve c n) i)
+      fits : (i : ℕ) → i < breakPoints standard → SmallBox (2 ^ 29) (boxAt standard (depth n) (nodeCurve c n) i)
       fits i h = let b = node-box (depth n) (nodeCurve c n) (node-sized (r .sized) n (w .node)) i (le-of-suc-le-suc h) in record {
         x-low = small (b .x .low-size);
         x-high = small (b .x .high-size);
@@ -40,52 +43,52 @@ module _ {T : ℤ} {c : Curve} (r : Ready T c) {passed : List ℕ} {n : ℕ} (w 
       }
 
 -- ---- the list at each step: it was l, and holds the records of the leaves passed
-pub record Recorded (T : ℤ) (c : Curve) (k : ℕ) (l : List ℤ) (at n place : ℕ) (l′ : List ℤ) : Type 0 where
+pub record Recorded (σ : Setting) (T : ℤ) (c : Curve) (k : ℕ) (l : List ℤ) (at n place : ℕ) (l′ : List ℤ) : Type 0 where
   pub passed : List ℕ
-  pub walking : Walking (nodeMeets T c) deepest passed n
-  pub here : place ≡ at + 18 * length passed
-  pub list : l′ ≡ sets l at (recordsOf k c passed)
+  pub walking : Walking (nodeMeets σ T c) (deepest (c .degree)) passed n
+  pub here : place ≡ at + recordLength σ * length passed
+  pub list : l′ ≡ sets l at (recordsOf σ k c passed)
 
-module _ {T : ℤ} {c : Curve} {k : ℕ} {l : List ℤ} {at : ℕ} where
-  pub recorded-start : Recorded T c k l at 1 at l
+module _ {σ : Setting} {T : ℤ} {c : Curve} {k : ℕ} {l : List ℤ} {at : ℕ} where
+  pub recorded-start : Recorded σ T c k l at 1 at l
   unfolding recordsOf
-  recorded-start = record { passed = []; walking = walking-start (nodeMeets T c) deepest; here = omega arith; list = refl }
+  recorded-start = record { passed = []; walking = walking-start (nodeMeets σ T c) (deepest (c .degree)); here = omega arith; list = refl }
 
-  module _ {n place : ℕ} {l′ : List ℤ} (r : Recorded T c k l at n place l′) where
+  module _ {n place : ℕ} {l′ : List ℤ} (r : Recorded σ T c k l at n place l′) where
     pub recorded-length : length l′ ≡ length l
-    recorded-length = ap length (r .list) ∙ length-sets l at (recordsOf k c (r .passed))
+    recorded-length = ap length (r .list) ∙ length-sets l at (recordsOf σ k c (r .passed))
 
-    pub recorded-room : at + 18 * length (endsOf T c) ≤ length l → place + 18 ≤ length l′
-    recorded-room h = omega (arith, recorded-length, r .here, fewer-passed (r .walking))
+    pub recorded-room : at + recordLength σ * length (endsOf σ T c) ≤ length l → place + recordLength σ ≤ length l′
+    recorded-room h = omega (arith, recorded-length, r .here, mul-le-mul-left (recordLength σ) (fewer-passed (r .walking)))
 
-    pub recorded-half : Ready T c → nodeMeets T c n ≡ false → Recorded T c k l at (2 * n) place l′
+    pub recorded-half : Ready σ T c → nodeMeets σ T c n ≡ false → Recorded σ T c k l at (2 * n) place l′
     recorded-half h e = record {
       passed = r .passed;
-      walking = walking-half (r .walking) e (walking-halvable (r .walking) (none-passing (nodeMeets T c) (endsOf T c) (h .passing)) e);
+      walking = walking-half (r .walking) e (walking-halvable (r .walking) (none-passing (nodeMeets σ T c) (endsOf σ T c) (h .passing)) e);
       here = r .here;
       list = r .list;
     }
 
     -- one record more
-    more : {l″ : List ℤ} → l″ ≡ sets l′ place (recordOf k c n) → l″ ≡ sets l at (recordsOf k c (r .passed ++ n ∷ []))
+    more : {l″ : List ℤ} → l″ ≡ sets l′ place (recordOf σ k c n) → l″ ≡ sets l at (recordsOf σ k c (r .passed ++ n ∷ []))
     more e =
-        e ∙ ap₂ (λ x p. sets x p (recordOf k c n)) (r .list) (r .here ∙ ap (λ m. at + m) (sym (records-length k c (r .passed))))
-        ∙ sym (sets-append l at (recordsOf k c (r .passed)) (recordOf k c n))
-        ∙ ap (sets l at) (sym (records-snoc k c (r .passed) n))
+        e ∙ ap₂ (λ x p. sets x p (recordOf σ k c n)) (r .list) (r .here ∙ ap (λ m. at + m) (sym (records-length σ k c (r .passed))))
+        ∙ sym (sets-append l at (recordsOf σ k c (r .passed)) (recordOf σ k c n))
+        ∙ ap (sets l at) (sym (records-snoc σ k c (r .passed) n))
 
-    on : place + 18 ≡ at + 18 * length (r .passed ++ n ∷ [])
-    on = omega (arith, r .here, length-append (r .passed) (n ∷ []))
+    on : place + recordLength σ ≡ at + recordLength σ * length (r .passed ++ n ∷ [])
+    on = omega (arith, r .here, ap (λ m. recordLength σ * m) (length-append (r .passed) (n ∷ [])))
 
-    pub recorded-leaf : {l″ : List ℤ} → nodeMeets T c n ≡ true → (after n ≡ 1 → ⊥) → l″ ≡ sets l′ place (recordOf k c n)
-        → Recorded T c k l at (after n) (place + 18) l″
+    pub recorded-leaf : {l″ : List ℤ} → nodeMeets σ T c n ≡ true → (after n ≡ 1 → ⊥) → l″ ≡ sets l′ place (recordOf σ k c n)
+        → Recorded σ T c k l at (after n) (place + recordLength σ) l″
     recorded-leaf e h f = record { passed = r .passed ++ n ∷ []; walking = walking-leaf (r .walking) e h; here = on; list = more f }
 
-    pub recorded-done : {l″ : List ℤ} → nodeMeets T c n ≡ true → after n ≡ 1 → l″ ≡ sets l′ place (recordOf k c n)
-        → (place + 18 ≡ at + 18 * length (endsOf T c)) × (l″ ≡ sets l at (recordsOf k c (endsOf T c)))
+    pub recorded-done : {l″ : List ℤ} → nodeMeets σ T c n ≡ true → after n ≡ 1 → l″ ≡ sets l′ place (recordOf σ k c n)
+        → (place + recordLength σ ≡ at + recordLength σ * length (endsOf σ T c)) × (l″ ≡ sets l at (recordsOf σ k c (endsOf σ T c)))
     recorded-done e h f = rw (walking-done (r .walking) e h) (on, more f)
 
 -- ---- from what the code called
-pub put : (l : List ℤ) (place k : ℕ) (c : Curve) (n : ℕ) {p : Curve} {l′ : List ℤ} → p ≡ nodeCurve c n
-    → l′ ≡ sets l place (nodeNumbers k n (boxesTo 4 (depth n) p)) → l′ ≡ sets l place (recordOf k c n)
+pub put : (σ : Setting) (l : List ℤ) (place k : ℕ) (c : Curve) (n : ℕ) {p : Curve} {l′ : List ℤ} → p ≡ nodeCurve c n
+    → l′ ≡ sets l place (nodeNumbers k n (boxesTo σ (breakPoints σ) (depth n) p)) → l′ ≡ sets l place (recordOf σ k c n)
 unfolding recordOf
-put l place k c n e f = f ∙ ap (λ p. sets l place (nodeNumbers k n (boxesTo 4 (depth n) p))) e
+put σ l place k c n e f = f ∙ ap (λ p. sets l place (nodeNumbers k n (boxesTo σ (breakPoints σ) (depth n) p))) e

@@ -1,6 +1,5 @@
--- What a reader must believe of the passes: check 7, and the leaves and nodes of an outline's curves. `Meeting` is what theorems speak of; `Counted` and
--- `Writing` are only for the contracts of the passes.
+-- What a reader must believe of the passes: check 7, and the leaves and nodes of an outline's curves (Leaves). Meeting
+-- is what theorems speak of; Inside is only for contracts within the engine.
 pub mod Leaves
 pub mod Meeting
-pub mod Counted
-pub mod Writing
+pub mod Inside

@@ -1,8 +1,7 @@
 // The first pass over the curves of an outline: it counts their leaves or finds a node that is still too wide.
 ghost use mathlib.Core.Path.{_≡_};
-ghost use Rattle.outline.specs.Checks.{outlineFrom};
-ghost use Rattle.band_passes.specs.Leaves.{curvesOf};
-ghost use Rattle.band_passes.specs.Counted.{Readable, countedOf};
+ghost use Rattle.setting.specs.Setting.{standard};
+ghost use Rattle.band_passes.specs.Inside.{Readable, curvesIn, countedOf};
 use crate::passes::Counted;
 use outline::curve_values::curve_at;
 use outline::outline_curves::next_at;
@@ -13,15 +12,15 @@ use walk_curve::walk;
 // The leaves of an outline without faults that has this many curves.
 pub fn count(ns: &[i32], t: i64, curves: usize) -> Counted
     requires { ⌜ Readable (now ns) curves ⌝ }
-    ensures { λ r. ⌜ r ≡ countedOf t (curvesOf (outlineFrom curves (now (ns .entry)) 0)) ⌝ }
+    ensures { λ r. ⌜ r ≡ countedOf standard t (curvesIn (now (ns .entry)) curves) ⌝ }
 {
     let mut leaves: usize = 0;
     let mut at: usize = 0;
     let mut k: usize = 0;
     while k < curves {
         match walk(curve_at(ns, at), t) {
-            Walked::TooWide(node) => {
-                return Counted::Refused(Refusal::TooWide {
+            Walked::WideNode(node) => {
+                return Counted::Stopped(Refusal::TooWide {
                     curve: k as u32,
                     node,
                 });
@@ -33,5 +32,5 @@ pub fn count(ns: &[i32], t: i64, curves: usize) -> Counted
         at = next_at(ns, at);
         k += 1;
     }
-    Counted::Leaves(leaves)
+    Counted::Total(leaves)
 }

@@ -3,11 +3,10 @@ ghost use mathlib.Core.Path.{_≡_};
 ghost use Prim.Native.Nat.{_+_, _*_, _≤_, _<_, _^_};
 ghost use lib.ListN.{length};
 ghost use lib.Seq.{sets};
-ghost use Rattle.outline.specs.Checks.{outlineFrom};
+ghost use Rattle.setting.specs.Setting.{standard, recordLength};
 ghost use Rattle.walk_curve.specs.Walked.{endsOf};
 ghost use Rattle.band_records.specs.Records.{recordsOf, allRecords};
-ghost use Rattle.band_passes.specs.Leaves.{curvesOf};
-ghost use Rattle.band_passes.specs.Writing.{Ready, Fillable};
+ghost use Rattle.band_passes.specs.Inside.{curvesIn, Ready, Fillable};
 use band_records::put_record;
 use curve_nodes::Curve;
 use outline::curve_values::curve_at;
@@ -16,8 +15,11 @@ use walk_curve::Part;
 
 // The records of a curve's leaves, from place `at` on. It returns the place after them.
 pub fn write_curve(records: &mut [i32], at: usize, number: u32, curve: Curve, t: i64) -> usize
-    requires { ⌜ (Ready t curve) × (number < 2 ^ 31) × (at + 18 * length (endsOf t curve) ≤ length (now records)) ⌝ }
-    ensures { λ r. ⌜ (r ≡ at + 18 * length (endsOf t curve)) × (now (records .exit) ≡ sets (now (records .entry)) at (recordsOf number curve (endsOf t curve))) ⌝ }
+    requires { ⌜ (Ready standard t curve) × (number < 2 ^ 31)
+        × (at + recordLength standard * length (endsOf standard t curve) ≤ length (now records)) ⌝ }
+    ensures { λ r. ⌜ r ≡ at + recordLength standard * length (endsOf standard t curve) ⌝ }
+    ensures { λ r. ⌜ now (records .exit)
+        ≡ sets (now (records .entry)) at (recordsOf standard number curve (endsOf standard t curve)) ⌝ }
 {
     let mut part = Part { node: 1, curve };
     let mut place = at;
@@ -39,8 +41,9 @@ pub fn write_curve(records: &mut [i32], at: usize, number: u32, curve: Curve, t:
 
 // The records of every leaf of an outline, from the front of the list on.
 pub fn write_all(records: &mut [i32], ns: &[i32], t: i64, curves: usize)
-    requires { ⌜ Fillable t (now ns) curves (length (now records)) ⌝ }
-    ensures { λ _. ⌜ now (records .exit) ≡ sets (now (records .entry)) 0 (allRecords t 0 (curvesOf (outlineFrom curves (now (ns .entry)) 0))) ⌝ }
+    requires { ⌜ Fillable standard t (now ns) curves (length (now records)) ⌝ }
+    ensures { λ _. ⌜ now (records .exit)
+        ≡ sets (now (records .entry)) 0 (allRecords standard t 0 (curvesIn (now (ns .entry)) curves)) ⌝ }
 {
     let mut at: usize = 0;
     let mut place: usize = 0;

@@ -1,8 +1,8 @@
-// What the two passes over the curves of an outline find. The code stands in `leaf_count` and `leaf_writing`.
+// What the first pass over the curves of an outline finds; the second finds nothing.
 use refusals::Refusal;
 
-// What the first pass finds.
+// How many leaves there are in all, or the refusal of check 7.
 pub enum Counted {
-    Leaves(usize),
-    Refused(Refusal),
+    Total(usize),
+    Stopped(Refusal),
 }

@@ -17,43 +17,46 @@ use Rattle.curve_nodes.specs.declared.Curve.{Curve}
 use Rattle.curve_nodes.specs.Bounds.{Sized}
 use Rattle.curve_nodes.specs.Nodes.{depth, nodeCurve}
 use Rattle.curve_nodes.proofs.Sizes.{node-sized}
-use Rattle.bound_rows.specs.Rows.{pieces}
 use Rattle.bound_node.specs.Boxes.{boxAt}
-use Rattle.bound_node.proofs.Sound.{Sound, node-box}
-use Rattle.walk_curve.specs.Walked.{deepest, nodeMeets, endsOf}
+use Rattle.bound_node.proofs.Sound.{Sound, SoundBox, node-box}
+use Rattle.walk_curve.specs.Walked.{nodeMeets, endsOf}
 use Rattle.band_records.specs.Records.{boxNumbers, boxesTo, recordOf, recordsOf}
-use Rattle.boxes.specs.Records.{recordLength}
+use Rattle.setting.specs.Setting.{Setting, breakPoints, recordLength, deepest}
 use Rattle.boxes.specs.Ranges.{farthest, Interval}
 use Rattle.band_records.specs.Ranges.{SoundRecord, SoundList}
 use Rattle.walk_tree.proofs.Leaves.{end-facts}
+use Rattle.walk_curve.proofs.Thirds.{box-thirds}
 use Rattle.band_records.proofs.Writing.{boxes-length}
-use Rattle.band_records.proofs.Lengths.{record-length}
+use Rattle.band_records.proofs.Lengths.{in-records, behind-records, record-length}
 
 -- ---- one record: a leaf's
 -- the four numbers of box i
-box-at : (n k : ℕ) (c : Curve) (i s : ℕ) → i < n → s < 4 → entry (boxesTo n k c) (4 * i + s) ≡ entry (boxNumbers (boxAt k c i)) s
-box-at zero k c i s hi hs = absurd (omega arith)
-box-at (suc n) k c i s hi hs = ⊎-elim
+box-at : (σ : Setting) (n k : ℕ) (c : Curve) (i s : ℕ) → i < n → s < 4 → entry (boxesTo σ n k c) (4 * i + s) ≡ entry (boxNumbers (boxAt σ k c i)) s
+box-at σ zero k c i s hi hs = absurd (omega arith)
+box-at σ (suc n) k c i s hi hs = ⊎-elim
     (λ e.
-    ap (entry (boxesTo n k c ++ boxNumbers (boxAt k c n))) {x = 4 * i + s} {y = length (boxesTo n k c) + s} (omega (arith, e, boxes-length n k c))
-    ∙ getD-append-add (boxesTo n k c) (boxNumbers (boxAt k c n)) s (pos 0) ∙ ap (λ j. entry (boxNumbers (boxAt k c j)) s) (sym e))
-    (λ l. List·getD-append (boxesTo n k c) (boxNumbers (boxAt k c n)) (pos 0) (4 * i + s) (omega (arith, boxes-length n k c)) ∙ box-at n k c i s l hs)
+    ap (entry (boxesTo σ n k c ++ boxNumbers (boxAt σ k c n))) {x =
+    4 * i + s} {y = length (boxesTo σ n k c) + s} (omega (arith, e, boxes-length σ n k c))
+    ∙ getD-append-add (boxesTo σ n k c) (boxNumbers (boxAt σ k c n)) s (pos 0) ∙ ap (λ j. entry (boxNumbers (boxAt σ k c j)) s) (sym e))
+    (λ l. List·getD-append (boxesTo σ n k c) (boxNumbers (boxAt σ k c n)) (pos 0) (4 * i + s) (omega (arith, boxes-length σ n k c))
+    ∙ box-at σ n k c i s l hs)
     (eq-or-lt-of-le (le-of-suc-le-suc hi))
 
-module _ (k : ℕ) (c : Curve) (n : ℕ) where
-  pub record-curve : entry (recordOf k c n) 0 ≡ pos k
+module _ (σ : Setting) (k : ℕ) (c : Curve) (n : ℕ) where
+  pub record-curve : entry (recordOf σ k c n) 0 ≡ pos k
   unfolding recordOf
   record-curve = refl
 
-  pub record-node : entry (recordOf k c n) 1 ≡ pos n
+  pub record-node : entry (recordOf σ k c n) 1 ≡ pos n
   unfolding recordOf
   record-node = refl
 
-  pub record-box : (i s : ℕ) → i ≤ pieces → s < 4 → entry (recordOf k c n) (4 * i + (2 + s)) ≡ entry (boxNumbers (boxAt (depth n) (nodeCurve c n) i)) s
+  pub record-box : (i s : ℕ) → i ≤ σ .pieces → s < 4
+      → entry (recordOf σ k c n) (4 * i + (2 + s)) ≡ entry (boxNumbers (boxAt σ (depth n) (nodeCurve c n) i)) s
   unfolding recordOf
   record-box i s hi hs =
-      ap (entry (recordOf k c n)) {x = 4 * i + (2 + s)} {y = suc (suc (4 * i + s))} (omega arith)
-      ∙ box-at (suc pieces) (depth n) (nodeCurve c n) i s (omega arith) hs
+      ap (entry (recordOf σ k c n)) {x = 4 * i + (2 + s)} {y = suc (suc (4 * i + s))} (omega arith)
+      ∙ box-at σ (breakPoints σ) (depth n) (nodeCurve c n) i s (omega arith) hs
 
 interval : {l h a b : ℤ} → a ≡ l → b ≡ h → Sound (2 ^ 24 + 2 ^ 23) l h → Interval a b
 interval {l} {h} e f s = rw (e, f) (record {
@@ -62,24 +65,26 @@ interval {l} {h} e f s = rw (e, f) (record {
   to = abs-high {B = farthest} h (le-trans (s .high-size) (lit≤ tt));
 })
 
-pub leaf-sound : (most : ℕ) (T : ℤ) (k : ℕ) (c : Curve) (n : ℕ) → k < most → Sized 0 c → List·Memᴰ n (endsOf T c)
-    → SoundRecord most (entry (recordOf k c n))
+pub leaf-sound : (σ : Setting) → σ .pieces ≡ 3 → (T : ℤ) (k : ℕ) (c : Curve) (n : ℕ) → k < σ .most → Sized 0 c → List·Memᴰ n (endsOf σ T c)
+    → SoundRecord σ (entry (recordOf σ k c n))
 unfolding recordOf
-leaf-sound most T k c n hk s i =
-    let f = end-facts (nodeMeets T c) deepest n i in
-    let b = node-box (depth n) (nodeCurve c n) (node-sized s n (f .node)) in
+leaf-sound σ three T k c n hk s i =
+    let f = end-facts (nodeMeets σ T c) (deepest (c .degree)) n i in
+    let b : (i : ℕ) → i ≤ σ .pieces → SoundBox (2 ^ 24 + 2 ^ 23) (boxAt σ (depth n) (nodeCurve c n) i) =
+    λ i h. rw (box-thirds σ three (depth n) (nodeCurve c n) i)
+    (node-box (depth n) (nodeCurve c n) (node-sized s n (f .node)) i (omega (arith, h, three))) in
     record {
       curve-from = pos-le (omega arith);
       curve-below = pos-lt hk;
       node-from = pos-le (f .node);
       node-to = pos-le (omega (arith, f .below));
-      x = λ i h. interval (record-box k c n i 0 h (omega arith)) (record-box k c n i 1 h (omega arith)) (b i h .x);
-      y = λ i h. interval (record-box k c n i 2 h (omega arith)) (record-box k c n i 3 h (omega arith)) (b i h .y);
+      x = λ i h. interval (record-box σ k c n i 0 h (omega arith)) (record-box σ k c n i 1 h (omega arith)) (b i h .x);
+      y = λ i h. interval (record-box σ k c n i 2 h (omega arith)) (record-box σ k c n i 3 h (omega arith)) (b i h .y);
     }
 
 -- ---- by place: side s is the low and the high at places 2s + 2 and 2s + 3; a number of a box is one or the other
-module _ {most : ℕ} {number : ℕ → ℤ} (r : SoundRecord most number) where
-  pub each-side : (s : ℕ) → s < 8 → Interval (number (2 * s + 2)) (number (2 * s + 3))
+module _ {σ : Setting} {number : ℕ → ℤ} (r : SoundRecord σ number) where
+  pub each-side : (s : ℕ) → s < 2 * breakPoints σ → Interval (number (2 * s + 2)) (number (2 * s + 3))
   each-side s h = ⊎-elim
       (λ e. subst (λ p. Interval (number (p + 2)) (number (p + 3))) {x = 4 * (s / 2)} {y = 2 * s} (omega arith) (r .x (s / 2) (omega arith)))
       (λ e. subst₂ (λ p q. Interval (number p) (number q)) {x = 4 * (s / 2) + 4} {y = 2 * s + 2} {u = 4 * (s / 2) + 5} {v = 2 * s + 3}
@@ -89,7 +94,7 @@ module _ {most : ℕ} {number : ℕ → ℤ} (r : SoundRecord most number) where
   abbrev InRange : ℕ → Type 0
   InRange p = (negℤ (pos farthest) ≤ℤ number p) × (number p ≤ℤ pos farthest)
 
-  pub each-number : (p : ℕ) → 2 ≤ p → p < recordLength → (negℤ (pos farthest) ≤ℤ number p) × (number p ≤ℤ pos farthest)
+  pub each-number : (p : ℕ) → 2 ≤ p → p < recordLength σ → (negℤ (pos farthest) ≤ℤ number p) × (number p ≤ℤ pos farthest)
   each-number p l h =
       let s = (p - 2) / 2 in
       let i = each-side s (omega arith) in
@@ -99,9 +104,9 @@ module _ {most : ℕ} {number : ℕ → ℤ} (r : SoundRecord most number) where
       (lt-or-ge (p % 2) 1)
 
 -- ---- lists of records
-module _ {most : ℕ} where
+module _ {σ : Setting} where
   -- the numbers at the places of a record decide
-  same : {f g : ℕ → ℤ} → ((p : ℕ) → p < recordLength → g p ≡ f p) → SoundRecord most f → SoundRecord most g
+  same : {f g : ℕ → ℤ} → ((p : ℕ) → p < recordLength σ → g p ≡ f p) → SoundRecord σ f → SoundRecord σ g
   same e s = record {
     curve-from = rw (e 0 (omega arith)) (s .curve-from);
     curve-below = rw (e 0 (omega arith)) (s .curve-below);
@@ -111,26 +116,32 @@ module _ {most : ℕ} where
     y = λ i h. rw (e (4 * i + 4) (omega arith), e (4 * i + 5) (omega arith)) (s .y i h);
   }
 
-  pub list-nil : SoundList most 0 []
-  list-nil = record { whole = refl; each = λ i h. absurd (omega arith) }
+  pub list-nil : SoundList σ 0 []
+  list-nil = record { whole = omega arith; each = λ i h. absurd (omega arith) }
 
-  list-one : (r : List ℤ) → length r ≡ recordLength → SoundRecord most (entry r) → SoundList most 1 r
-  list-one r e s = record { whole = e; each = λ i h. same (λ p l. ap (entry r) {x = recordLength * i + p} {y = p} (omega arith)) s }
+  list-one : (r : List ℤ) → length r ≡ recordLength σ → SoundRecord σ (entry r) → SoundList σ 1 r
+  list-one r e s = record {
+    whole = omega (arith, e);
+    each = λ i h. let z : i ≡ 0 = omega arith in same (λ p l. ap (entry r) {x = recordLength σ * i + p} {y = p} (rw z (omega arith))) s;
+  }
 
-  pub list-append : {m n : ℕ} {a b : List ℤ} → SoundList most m a → SoundList most n b → SoundList most (m + n) (a ++ b)
+  pub list-append : {m n : ℕ} {a b : List ℤ} → SoundList σ m a → SoundList σ n b → SoundList σ (m + n) (a ++ b)
   list-append {m} {n} {a} {b} s t = record {
     whole = length-append a b ∙ omega (arith, s .whole, t .whole);
     each = λ i h. ⊎-elim
-        (λ l. same (λ p q. List·getD-append a b (pos 0) (recordLength * i + p) (omega (arith, s .whole))) (s .each i l))
+        (λ l. same (λ p q. List·getD-append a b (pos 0) (recordLength σ * i + p)
+        (omega (arith, s .whole, in-records (recordLength σ) i m p l q))) (s .each i l))
         (λ l. same (λ p q.
-        ap (entry (a ++ b)) {x = recordLength * i + p} {y = length a + (recordLength * (i - m) + p)} (omega (arith, s .whole))
-        ∙ getD-append-add a b (recordLength * (i - m) + p) (pos 0)) (t .each (i - m) (omega arith)))
+        ap (entry (a ++ b)) {x = recordLength σ * i + p} {y = length a + (recordLength σ * (i - m) + p)}
+        (omega (arith, s .whole, behind-records (recordLength σ) i m l))
+        ∙ getD-append-add a b (recordLength σ * (i - m) + p) (pos 0)) (t .each (i - m) (omega arith)))
         (lt-or-ge i m);
   }
 
-  pub list-records : (k : ℕ) (c : Curve) (ns : List ℕ) → ((n : ℕ) → List·Memᴰ n ns → SoundRecord most (entry (recordOf k c n)))
-      → SoundList most (length ns) (recordsOf k c ns)
+  pub list-records : (k : ℕ) (c : Curve) (ns : List ℕ) → ((n : ℕ) → List·Memᴰ n ns → SoundRecord σ (entry (recordOf σ k c n)))
+      → SoundList σ (length ns) (recordsOf σ k c ns)
   unfolding recordsOf
   list-records k c [] h = list-nil
-  list-records k c (n ∷ ns) h = subst (λ m. SoundList most m (recordOf k c n ++ recordsOf k c ns)) {x = 1 + length ns} {y = suc (length ns)} (omega arith)
-      (list-append (list-one (recordOf k c n) (record-length k c n) (h n (List·Memᴰ·head refl))) (list-records k c ns (λ m i. h m (List·Memᴰ·tail i))))
+  list-records k c (n ∷ ns) h = subst (λ m. SoundList σ m (recordOf σ k c n ++ recordsOf σ k c ns)) {x = 1 + length ns} {y = suc (length ns)}
+      (omega arith) (list-append (list-one (recordOf σ k c n) (record-length σ k c n) (h n (List·Memᴰ·head refl)))
+      (list-records k c ns (λ m i. h m (List·Memᴰ·tail i))))

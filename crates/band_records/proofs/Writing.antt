@@ -7,9 +7,10 @@ use native.Mathlib.Numerals.{add-one, add-two, add-three}
 use lib.ListN.{length, set, length-append}
 use lib.Seq.{sets}
 use lib.IntN.{ℤ, pos}
+use Rattle.setting.specs.Setting.{Setting}
 use Rattle.integers.proofs.Stores.{sets-append}
 use Rattle.curve_nodes.specs.declared.Curve.{Curve}
-use Rattle.bound_node.specs.declared.node_boxes.Box.{Box}
+use Rattle.bound_node.specs.declared.node_boxes.WideBox.{WideBox}
 use Rattle.bound_node.specs.Boxes.{boxAt}
 use Rattle.band_records.specs.Records.{boxNumbers, boxesTo, nodeNumbers}
 
@@ -27,17 +28,18 @@ pub head-sets : (l : List ℤ) (at k n : ℕ) (vs : List ℤ) {a b : ℤ} {l′ 
 head-sets l at k n vs ea eb e = e ∙ ap₂ (λ x y. sets (set (set l at x) (at + 1) y) (at + 2) vs) ea eb ∙ rw (add-one, add-two)
 
 -- ---- the boxes of a node
-pub boxes-length : (n k : ℕ) (c : Curve) → length (boxesTo n k c) ≡ 4 * n
-boxes-length zero k c = refl
-boxes-length (suc n) k c = length-append (boxesTo n k c) (boxNumbers (boxAt k c n)) ∙ ap (λ m. m + 4) (boxes-length n k c) ∙ four-more n
+pub boxes-length : (σ : Setting) (n k : ℕ) (c : Curve) → length (boxesTo σ n k c) ≡ 4 * n
+boxes-length σ zero k c = refl
+boxes-length σ (suc n) k c = length-append (boxesTo σ n k c) (boxNumbers (boxAt σ k c n)) ∙ ap (λ m. m + 4) (boxes-length σ n k c) ∙ four-more n
   where
     four-more : (n : ℕ) → 4 * n + 4 ≡ 4 * suc n
     four-more n = omega arith
 
 -- one box more
-pub boxes-more : (l l′ : List ℤ) (at i k : ℕ) (c : Curve) {b : Box} → l′ ≡ sets (sets l at (boxesTo i k c)) (at + 4 * i) (boxNumbers b) → b ≡ boxAt k c i
-    → l′ ≡ sets l at (boxesTo (i + 1) k c)
-boxes-more l l′ at i k c e f =
-    e ∙ ap₂ (λ j b. sets (sets l at (boxesTo i k c)) (at + j) (boxNumbers b)) (sym (boxes-length i k c)) f
-    ∙ sym (sets-append l at (boxesTo i k c) (boxNumbers (boxAt k c i)))
-    ∙ ap (λ n. sets l at (boxesTo n k c)) (sym (add-one i))
+pub boxes-more : (σ : Setting) (l l′ : List ℤ) (at i k : ℕ) (c : Curve) {b : WideBox}
+    → l′ ≡ sets (sets l at (boxesTo σ i k c)) (at + 4 * i) (boxNumbers b) → b ≡ boxAt σ k c i
+    → l′ ≡ sets l at (boxesTo σ (i + 1) k c)
+boxes-more σ l l′ at i k c e f =
+    e ∙ ap₂ (λ j b. sets (sets l at (boxesTo σ i k c)) (at + j) (boxNumbers b)) (sym (boxes-length σ i k c)) f
+    ∙ sym (sets-append l at (boxesTo σ i k c) (boxNumbers (boxAt σ k c i)))
+    ∙ ap (λ n. sets l at (boxesTo σ n k c)) (sym (add-one i))

@@ -1,4 +1,5 @@
--- What a reader must believe of leaf records: their numbers, and the ranges of these. `Writing` is only for the contracts of the functions that write them.
+-- What a reader must believe of leaf records: their numbers (Records), and the ranges of these (Ranges). Inside is only
+-- for contracts within the engine.
 pub mod Records
 pub mod Ranges
-pub mod Writing
+pub mod Inside

@@ -1,6 +1,6 @@
 -- The code of one coordinate: what each function holds is its formula, within its bound.
 --     mul-result c = fits! (search bounded depth 40) tt
---     returns c = holds! (search bounded depth 40) tt refl
+--     returns c = computed! (search bounded depth 40) tt refl
 use mathlib.Core.Path.{_≡_, refl, sym, _∙_, ap, ap₂, subst}
 use mathlib.Core.Bool.{Bool, true, false, _&&_, cond}
 use mathlib.Core.List.{List, [], _∷_}
@@ -14,6 +14,8 @@ use lib.IntN.{ℤ, pos, natAbs, negℤ, _+ℤ_, _-ℤ_, _*ℤ_, +ℤ-idl, +ℤ-i
 use lib.Signed.{ltZ, shrZ, quotZ, _<ℤ_, ltZ-yes}
 use mir.Syntax.{w64}
 use mir.Facts.{toZ-ofZ}
+use borrow.Author.Needs.{needs}
+use Rattle.setting.specs.Setting.{standard, breakPoints}
 use Rattle.integers.specs.Entry.{entry}
 use Rattle.integers.specs.Rounding.{floor, ceiling}
 use Rattle.integers.proofs.Table.{and-left, and-right}
@@ -26,17 +28,18 @@ use Rattle.integers.proofs.Machine.{Held, Count, abs-shift, tests}
 use Rattle.curve_nodes.specs.Differences.{difference}
 use Rattle.curve_halves.specs.Sizes.{Each}
 use Rattle.curve_halves.specs.Halves.{listed}
-use Rattle.curve_halves.proofs.Values.{listed-ext}
+use Rattle.curve_halves.proofs.Values.{listed-entry, listed-ext}
 use Rattle.curve_nodes.proofs.Sizes.{each-wider}
 use Rattle.curve_halves.proofs.Halving.{held-entry}
-use Rattle.bound_rows.specs.Rows.{thirds}
-use Rattle.bound_enclosure.specs.Bounds.{exchanged, rowSum}
-use Rattle.bound_enclosure.specs.Thirds.{over, highOf, lowOf}
-use Rattle.bound_coordinate.specs.Terms.{Small, Holds, HoldsFour, numerator, term}
+use Rattle.bound_rows.specs.Rows.{Row, pieces, thirds}
+use Rattle.bound_rows.proofs.Rule.{rows-thirds}
+use Rattle.bound_enclosure.specs.Bounds.{exchanged, rowSum, high, low}
+use Rattle.bound_enclosure.specs.AtDepth.{over, highOf, lowOf}
+use Rattle.bound_coordinate.specs.Inside.{Boundable, Small, Computed, AllComputed, largestTerm, largestSum, Terms, numerator, term}
 use Rattle.bound_enclosure.proofs.Reduced.{low-reduced, high-reduced}
 
-pub holds! : {B : ℕ} {z r : ℤ} (s : Held r) → T (s .test && leb (s .bound) B) → s .value ≡ z → Holds B z r
-holds! {B} {z} {r} s t e =
+pub computed! : {B : ℕ} {z r : ℤ} (s : Held r) → T (s .test && leb (s .bound) B) → s .value ≡ z → Computed B z r
+computed! {B} {z} {r} s t e =
     let u = and-left (s .test) (leb (s .bound) B) t in
     record {
       is = s .is u ∙ e;
@@ -44,26 +47,26 @@ holds! {B} {z} {r} s t e =
     }
 
 pub small! : {B : ℕ} {z : ℤ} (s : Held z) → T (s .test && leb (s .bound) B) → Small B z
-small! s t = record { size = holds! s t refl .size }
+small! s t = record { size = computed! s t refl .size }
 
-pub holds-as : {B : ℕ} {y z r : ℤ} → z ≡ y → Holds B z r → Holds B y r
-holds-as e h = record { is = h .is ∙ e; size = h .size }
+pub computed-as : {B : ℕ} {y z r : ℤ} → z ≡ y → Computed B z r → Computed B y r
+computed-as e h = record { is = h .is ∙ e; size = h .size }
 
 -- ---- what the code starts from
-abbrev pub point : {i : ℕ} → i < 4 → Count i
-point h = record { bound = 4; under = h }
+abbrev pub point : {i : ℕ} → i < breakPoints standard → Count i
+point h = record { bound = breakPoints standard; under = h }
 
-abbrev pub held-holds : {B : ℕ} {z r : ℤ} → Holds B z r → Held r
-held-holds {B} {z} {r} h = record { value = z; bound = B; test = true; is = λ t. h .is; under = λ t. subst (λ x. natAbs x ≤ B) (h .is) (h .size) }
+abbrev pub held-computed : {B : ℕ} {z r : ℤ} → Computed B z r → Held r
+held-computed {B} {z} {r} h = record { value = z; bound = B; test = true; is = λ t. h .is; under = λ t. subst (λ x. natAbs x ≤ B) (h .is) (h .size) }
 
 abbrev pub held-small : {B : ℕ} {z : ℤ} → Small B z → Held z
 held-small {B} {z} h = record { value = z; bound = B; test = true; is = λ t. refl; under = λ t. h .size }
 
-pub ruleset bounded = (held-entry, held-holds, held-small, tests)
+pub ruleset bounded = (held-entry, held-computed, held-small, tests)
 
--- ---- four numbers
-pub each-four : {B : ℕ} {a b c d : ℤ} → natAbs a ≤ B → natAbs b ≤ B → natAbs c ≤ B → natAbs d ≤ B → Each B (a ∷ b ∷ c ∷ d ∷ [])
-each-four {B} {a} {b} {c} {d} ha hb hc hd = record { under = under }
+-- ---- the numbers at the four break points
+pub each-point : {B : ℕ} {a b c d : ℤ} → natAbs a ≤ B → natAbs b ≤ B → natAbs c ≤ B → natAbs d ≤ B → Each B (a ∷ b ∷ c ∷ d ∷ [])
+each-point {B} {a} {b} {c} {d} ha hb hc hd = record { under = under }
   where
     under : (k : ℕ) → natAbs (entry (a ∷ b ∷ c ∷ d ∷ []) k) ≤ B
     under zero = ha
@@ -72,8 +75,9 @@ each-four {B} {a} {b} {c} {d} ha hb hc hd = record { under = under }
     under (suc (suc (suc zero))) = hd
     under (suc (suc (suc (suc k)))) = zero-le
 
--- four numbers whose sizes a computed test bounds
-pub each-by : {B : ℕ} {a b c d : ℤ} → T (leb (natAbs a) B && (leb (natAbs b) B && (leb (natAbs c) B && leb (natAbs d) B))) → Each B (a ∷ b ∷ c ∷ d ∷ [])
+-- numbers whose sizes a computed test bounds
+pub each-by : {B : ℕ} {a b c d : ℤ} → T (leb (natAbs a) B && (leb (natAbs b) B && (leb (natAbs c) B && leb (natAbs d) B)))
+    → Each B (a ∷ b ∷ c ∷ d ∷ [])
 each-by {B} {a} {b} {c} {d} t =
     let p = leb (natAbs a) B in
     let q = leb (natAbs b) B in
@@ -81,30 +85,25 @@ each-by {B} {a} {b} {c} {d} t =
     let s = leb (natAbs d) B in
     let u = and-right p (q && (r && s)) t in
     let v = and-right q (r && s) u in
-    each-four (leb→le (natAbs a) B (and-left p (q && (r && s)) t)) (leb→le (natAbs b) B (and-left q (r && s) u))
+    each-point (leb→le (natAbs a) B (and-left p (q && (r && s)) t)) (leb→le (natAbs b) B (and-left q (r && s) u))
     (leb→le (natAbs c) B (and-left r s v)) (leb→le (natAbs d) B (and-right r s v))
 
-pub four-hold : {B : ℕ} (f : ℕ → ℤ) {a b c d : ℤ} → Holds B (f 0) a → Holds B (f 1) b → Holds B (f 2) c → Holds B (f 3) d → HoldsFour B f (a ∷ b ∷ c ∷ d ∷ [])
-four-hold f ha hb hc hd = record {
+pub points-computed : {B : ℕ} (f : ℕ → ℤ) {a b c d : ℤ} → Computed B (f 0) a → Computed B (f 1) b → Computed B (f 2) c → Computed B (f 3) d
+    → AllComputed (breakPoints standard) B f (a ∷ b ∷ c ∷ d ∷ [])
+points-computed f ha hb hc hd = record {
   is = λ j. ha .is j ∷ hb .is j ∷ hc .is j ∷ hd .is j ∷ [];
-  size = each-four (ha .size) (hb .size) (hc .size) (hd .size);
+  size = each-point (ha .size) (hb .size) (hc .size) (hd .size);
 }
 
-pub four-as : {B C : ℕ} {f g : ℕ → ℤ} {rs : List ℤ} → T (leb B C) → ((i : ℕ) → i < 4 → f i ≡ g i) → HoldsFour B f rs → HoldsFour C g rs
-four-as {B} {C} {f} {g} t e h = record { is = h .is ∙ listed-ext 4 f g e; size = each-wider (leb→le B C t) (h .size) }
+-- ---- any n numbers
+pub all-as : {n B C : ℕ} {f g : ℕ → ℤ} {rs : List ℤ} → T (leb B C) → ((i : ℕ) → i < n → f i ≡ g i) → AllComputed n B f rs → AllComputed n C g rs
+all-as {n} {B} {C} {f} {g} t e h = record { is = h .is ∙ listed-ext n f g e; size = each-wider (leb→le B C t) (h .size) }
 
-pub entry-listed : (f : ℕ → ℤ) (i : ℕ) → i < 4 → entry (listed 4 f) i ≡ f i
-entry-listed f zero h = refl
-entry-listed f (suc zero) h = refl
-entry-listed f (suc (suc zero)) h = refl
-entry-listed f (suc (suc (suc zero))) h = refl
-entry-listed f (suc (suc (suc (suc i)))) h = absurd (omega arith)
-
-pub one-of : {B : ℕ} {f : ℕ → ℤ} {rs : List ℤ} → HoldsFour B f rs → (i : ℕ) → i < 4 → Holds B (f i) (entry rs i)
-one-of {B} {f} {rs} h i l = record { is = ap (λ xs. entry xs i) (h .is) ∙ entry-listed f i l; size = h .size .under i }
+pub one-of : {n B : ℕ} {f : ℕ → ℤ} {rs : List ℤ} → AllComputed n B f rs → (i : ℕ) → i < n → Computed B (f i) (entry rs i)
+one-of {n} {B} {f} h i l = record { is = ap (λ xs. entry xs i) (h .is) ∙ listed-entry n f i l; size = h .size .under i }
 
 -- what a function returned, as its caller holds it
-pub stored-is : {B : ℕ} {z r : ℤ} → Holds B z r → T (ltb B (2 ^ 63)) → stored w64 r ≡ z
+pub stored-is : {B : ℕ} {z r : ℤ} → Computed B z r → T (ltb B (2 ^ 63)) → stored w64 r ≡ z
 stored-is {B} {z} {r} h t = toZ-ofZ (fits-size {w = w64} {z = r} (record { bound = B; under = h .size }) t) ∙ h .is
 
 pub each-stored : {B : ℕ} {cs : List ℤ} → Each B cs → (k : ℕ) → T (ltb B (2 ^ 63)) → stored w64 (entry cs k) ≡ entry cs k
@@ -126,27 +125,38 @@ module _ (high low : List ℤ) (i : ℕ) (δ : ℤ) where
   unfolding term
   term-other t = ap (λ (b : Bool). cond b (entry low i) (entry high i) *ℤ δ) (sym t)
 
--- ---- the sums, by the degree
-pub sum-line : (i : ℕ) (cs : List ℤ) → pos 0 ≡ rowSum (thirds 1) i 0 cs
-unfolding rowSum
-sum-line i cs = refl
+-- ---- the sums, for any rows: none, one, and two, from what the code called. δ and ε are the differences as the code holds them.
+module _ (cs : List ℤ) where
+  pub no-rows : AllComputed (breakPoints standard) largestSum (λ i. rowSum [] i 0 cs) (pos 0 ∷ pos 0 ∷ pos 0 ∷ pos 0 ∷ [])
+  unfolding rowSum
+  no-rows = let none : Computed largestSum (pos 0) (pos 0) = record { is = refl; size = zero-le } in
+      points-computed (λ i. pos 0) none none none none
 
--- one row, and two
-module _ (h l : List ℤ) (i : ℕ) (cs : List ℤ) where
-  pub sum-one : term h l i (difference cs 0) ≡ rowSum (record { high = h; low = l } ∷ []) i 0 cs
-  unfolding rowSum term
-  sum-one = sym (+ℤ-idr (term h l i (difference cs 0)))
+  module _ (h l : List ℤ) {δ : ℤ} (first : Computed (2 ^ 46) (difference cs 0) δ) where
+    term-stored : (i : ℕ) → term h l i (stored w64 δ) ≡ term h l i (difference cs 0)
+    term-stored i = ap (term h l i) (stored-is first tt)
 
-  pub sum-two : (h₁ l₁ : List ℤ) → term h l i (difference cs 0) +ℤ term h₁ l₁ i (difference cs 1) ≡ rowSum (record { high = h; low = l } ∷ record { high = h₁; low = l₁ } ∷ []) i 0 cs
-  unfolding rowSum term
-  sum-two h₁ l₁ = ap (λ z. term h l i (difference cs 0) +ℤ z) (sym (+ℤ-idr (term h₁ l₁ i (difference cs 1))))
+    pub one-row : {rs : List ℤ} → AllComputed (breakPoints standard) largestTerm (λ i. term h l i (stored w64 δ)) rs
+        → AllComputed (breakPoints standard) largestSum (λ i. rowSum (record { high = h; low = l } ∷ []) i 0 cs) rs
+    unfolding rowSum term
+    one-row = all-as tt (λ i t. term-stored i ∙ sym (+ℤ-idr (term h l i (difference cs 0))))
+
+    pub two-rows : (h′ l′ : List ℤ) {ε : ℤ} → Computed (2 ^ 46) (difference cs 1) ε → {xs ys rs : List ℤ}
+        → AllComputed (breakPoints standard) largestTerm (λ i. term h l i (stored w64 δ)) xs
+        → AllComputed (breakPoints standard) largestTerm (λ i. term h′ l′ i (stored w64 ε)) ys
+        → AllComputed (breakPoints standard) largestSum (λ i. entry xs i +ℤ entry ys i) rs
+        → AllComputed (breakPoints standard) largestSum (λ i. rowSum (record { high = h; low = l } ∷ record { high = h′; low = l′ } ∷ []) i 0 cs) rs
+    unfolding rowSum term
+    two-rows h′ l′ second a b = all-as tt (λ i t. ap₂ _+ℤ_
+        (one-of a i t .is ∙ term-stored i)
+        (one-of b i t .is ∙ ap (term h′ l′ i) (stored-is second tt) ∙ sym (+ℤ-idr (term h′ l′ i (difference cs 1)))))
 
 -- ---- the shift by which the code divides
 pub shift-small : {d k : ℕ} → d ≤ 3 → k ≤ 8 → d * k ≤ 24
 shift-small h l = mul-le-mul h l
 
 -- ---- what a caller holds of a result, and a quotient by 1875
-pub restored : {B : ℕ} {z r : ℤ} → Holds B z r → T (ltb B (2 ^ 63)) → Holds B z (stored w64 r)
+pub restored : {B : ℕ} {z r : ℤ} → Computed B z r → T (ltb B (2 ^ 63)) → Computed B z (stored w64 r)
 restored {B} {z} {r} h t = record { is = stored-is h t; size = subst (λ x. natAbs x ≤ B) (h .is ∙ sym (stored-is h t)) (h .size) }
 
 quotient-size : (B : ℕ) (n : ℤ) → natAbs n ≤ B * 1875 → natAbs (floor n (pos 1875)) ≤ B
@@ -159,9 +169,9 @@ pub floor-shifted : (n : ℤ) (k : ℕ) → 0 < k → floor (shrZ n k) (pos 1875
 floor-shifted n k some = ap (λ z. floor z (pos 1875)) (shift-floor n k) ∙ floor-floor {d = pos k} {e = pos 1875} (pos-lt some) (ltZ-yes tt) n
 
 -- raised by B times 1875 the dividend is not negative, and the quotient towards zero is the floor
-pub raised-holds : (B : ℕ) (n : ℤ) {r : ℤ} → natAbs n ≤ B * 1875 → (k : ℕ) → 0 < k → r ≡ quotZ (pos B *ℤ pos 1875 +ℤ shrZ n k) (pos 1875) -ℤ pos B
-    → Holds B (floor n (pos 1875 *ℤ pos k)) r
-raised-holds B n {r} h k some e =
+pub raised-computed : (B : ℕ) (n : ℤ) {r : ℤ} → natAbs n ≤ B * 1875 → (k : ℕ) → 0 < k → r ≡ quotZ (pos B *ℤ pos 1875 +ℤ shrZ n k) (pos 1875) -ℤ pos B
+    → Computed B (floor n (pos 1875 *ℤ pos k)) r
+raised-computed B n {r} h k some e =
     let x = shrZ n k in
     let q = floor x (pos 1875) in
     let l = le-trans (abs-shift n k) h in
@@ -172,9 +182,10 @@ raised-holds B n {r} h k some e =
     record { is = f ∙ floor-shifted n k some; size = subst (λ z. natAbs z ≤ B) (sym f) (quotient-size B x l) }
 
 -- minus the floor of the negated number is the ceiling
-pub ceiling-holds : {B : ℕ} (n d : ℤ) {r s : ℤ} → Holds B (floor (pos 0 -ℤ n) d) r → s ≡ pos 0 -ℤ floor (pos 0 -ℤ n) d → Holds B (ceiling n d) s
+pub ceiling-computed : {B : ℕ} (n d : ℤ) {r s : ℤ} → Computed B (floor (pos 0 -ℤ n) d) r → s ≡ pos 0 -ℤ floor (pos 0 -ℤ n) d
+    → Computed B (ceiling n d) s
 unfolding ceiling
-ceiling-holds {B} n d h e =
+ceiling-computed {B} n d h e =
     let q = floor (pos 0 -ℤ n) d in
     let f = e ∙ +ℤ-idl (negℤ q) in
     record {
@@ -186,31 +197,38 @@ ceiling-holds {B} n d h e =
 pub over-positive : (d k : ℕ) → pos 0 <ℤ over d k
 over-positive d k = pos-lt (pow-pos (d * k))
 
--- ---- from what the code called
-high-from : {B : ℕ} (d k : ℕ) (cs : List ℤ) (i : ℕ) {first last sum r : ℤ} → first ≡ entry cs 0 → last ≡ entry cs d → sum ≡ rowSum (thirds d) i 0 cs
-    → Holds B (ceiling (numerator i first last sum) (pos 1875 *ℤ over d k)) r → Holds B (highOf d k cs i) r
-high-from d k cs i {first} {last} {sum} e f g = holds-as
-    (ap (λ x. ceiling (numerator i x last sum) (pos 1875 *ℤ over d k)) e
-    ∙ ap₂ (λ y z. ceiling (numerator i (entry cs 0) y z) (pos 1875 *ℤ over d k)) f g
-    ∙ sym (high-reduced (lit< tt) (over-positive d k) (thirds d) d cs i))
+-- ---- what a bound is computed from, as its caller holds it
+pub terms-held : {d : ℕ} {cs sums : List ℤ} → Boundable cs d → Each largestSum sums → (i : ℕ)
+    → Terms (stored w64 (entry cs 0)) (stored w64 (entry cs d)) (stored w64 (entry sums i))
+terms-held {d} v e i = record { of-first = each-small (v .values) 0 tt; of-last = each-small (v .values) d tt; of-sum = each-small e i tt }
 
-pub high-at : (d k : ℕ) (cs : List ℤ) (i : ℕ) → i < 4 → Each (2 ^ 44) cs → {sums : List ℤ} → HoldsFour (8800 * 2 ^ 46) (λ j. rowSum (thirds d) j 0 cs) sums
-    → {r : ℤ} → Holds (2 ^ 51) (ceiling (numerator i (stored w64 (entry cs 0)) (stored w64 (entry cs d)) (stored w64 (entry sums i))) (pos 1875 *ℤ over d k)) r
-    → Holds (2 ^ 51) (highOf d k cs i) (stored w64 r)
-high-at d k cs i l v e h =
-    restored (high-from d k cs i (each-stored v 0 tt) (each-stored v d tt) (stored-is (one-of e i l) tt) h) tt
+pub shift-held : {d k : ℕ} {cs : List ℤ} → Boundable cs d → k ≤ 8 → d * k ≤ 24
+shift-held v l = shift-small (v .most) l
 
-low-from : {B : ℕ} (d k : ℕ) (cs : List ℤ) (i : ℕ) {first last sum r : ℤ} → first ≡ entry cs 0 → last ≡ entry cs d
-    → sum ≡ rowSum (exchanged (thirds d)) i 0 cs
-    → Holds B (floor (numerator i first last sum) (pos 1875 *ℤ over d k)) r → Holds B (lowOf d k cs i) r
-low-from d k cs i {first} {last} {sum} e f g = holds-as
-    (ap (λ x. floor (numerator i x last sum) (pos 1875 *ℤ over d k)) e
-    ∙ ap₂ (λ y z. floor (numerator i (entry cs 0) y z) (pos 1875 *ℤ over d k)) f g
-    ∙ sym (low-reduced (lit< tt) (over-positive d k) (thirds d) d cs i))
+pub ruleset bounding = (terms-held, shift-held, needs)
 
-pub low-at : (d k : ℕ) (cs : List ℤ) (i : ℕ) → i < 4 → Each (2 ^ 44) cs
-    → {sums : List ℤ} → HoldsFour (8800 * 2 ^ 46) (λ j. rowSum (exchanged (thirds d)) j 0 cs) sums → {r : ℤ}
-    → Holds (2 ^ 51) (floor (numerator i (stored w64 (entry cs 0)) (stored w64 (entry cs d)) (stored w64 (entry sums i))) (pos 1875 *ℤ over d k)) r
-    → Holds (2 ^ 51) (lowOf d k cs i) (stored w64 r)
-low-at d k cs i l v e h =
-    restored (low-from d k cs i (each-stored v 0 tt) (each-stored v d tt) (stored-is (one-of e i l) tt) h) tt
+-- ---- from what the code called: its rows are those of three pieces
+module _ (d k : ℕ) (cs : List ℤ) (v : Boundable cs d) (i : ℕ) (l : i < breakPoints standard) (sums : List ℤ) where
+  -- the numerator as the code holds it
+  abbrev held : ℤ
+  held = numerator i (stored w64 (entry cs 0)) (stored w64 (entry cs d)) (stored w64 (entry sums i))
+
+  -- it is that of the definition
+  numerator-is : (ρs : List Row) → AllComputed (breakPoints standard) largestSum (λ j. rowSum ρs j 0 cs) sums
+      → held ≡ numerator i (entry cs 0) (entry cs d) (rowSum ρs i 0 cs)
+  numerator-is ρs e = ap (λ x. numerator i x (stored w64 (entry cs d)) (stored w64 (entry sums i))) (each-stored (v .values) 0 tt)
+      ∙ ap₂ (numerator i (entry cs 0)) (each-stored (v .values) d tt) (stored-is (one-of e i l) tt)
+
+  pub high-at : {r : ℤ} → AllComputed (breakPoints standard) largestSum (λ j. rowSum (thirds d) j 0 cs) sums
+      → Computed (2 ^ 51) (ceiling held (pos 1875 *ℤ over d k)) r → Computed (2 ^ 51) (highOf standard d k cs i) (stored w64 r)
+  high-at e h = restored (computed-as
+      (ap (λ n. ceiling n (pos 1875 *ℤ over d k)) (numerator-is (thirds d) e)
+      ∙ sym (high-reduced (lit< tt) (over-positive d k) (thirds d) d cs i)
+      ∙ ap (λ ρs. high pieces ρs (over d k) d cs i) (sym (rows-thirds d (v .least) (v .most)))) h) tt
+
+  pub low-at : {r : ℤ} → AllComputed (breakPoints standard) largestSum (λ j. rowSum (exchanged (thirds d)) j 0 cs) sums
+      → Computed (2 ^ 51) (floor held (pos 1875 *ℤ over d k)) r → Computed (2 ^ 51) (lowOf standard d k cs i) (stored w64 r)
+  low-at e h = restored (computed-as
+      (ap (λ n. floor n (pos 1875 *ℤ over d k)) (numerator-is (exchanged (thirds d)) e)
+      ∙ sym (low-reduced (lit< tt) (over-positive d k) (thirds d) d cs i)
+      ∙ ap (λ ρs. low pieces ρs (over d k) d cs i) (sym (rows-thirds d (v .least) (v .most)))) h) tt

@@ -1,2 +1,2 @@
--- What the contracts of the functions of one coordinate cite; what a low and a high are stands in `enclosure`.
-pub mod Terms
+-- There is nothing that a reader must believe: what a low and a high are stands in `bound_enclosure`.
+pub mod Inside

@@ -1,23 +1,26 @@
 -- The enclosure theorem: at every rational parameter the lows and the highs, joined by straight lines, enclose the curve. One proof, for every
--- degree, number of pieces, rows that pass the test, and denominator; `enclosure` is it for today's table.
+-- degree, number of pieces, rows that pass the test, and denominator; `enclosure` is it for the table of one to eight pieces.
 use mathlib.Core.Path.{_≡_, refl, ap}
 use mathlib.Core.Bool.{Bool, true, false, not, cond}
 use mathlib.Core.List.{List, [], _∷_}
 use Prim.Native.Nat.{ℕ, suc, _+_, _*_, _-_, _≤_, _<_, zero-le}
-use native.Mathlib.Nat.{lt-of-le-of-lt, zero-lt-suc}
+use native.Mathlib.Nat.{lt-of-le-of-lt}
 use lib.Dec.{T}
 use lib.ListN.{length}
 use lib.IntN.{ℤ, pos, negℤ, _+ℤ_, _-ℤ_, _*ℤ_, pow}
 use lib.Signed.{ltZ, _≤ℤ_, _<ℤ_, ltZ-yes, ltZ-no}
+use Rattle.setting.specs.Setting.{HasRows}
 use Rattle.integers.specs.Entry.{entry}
 use Rattle.integers.specs.Rounding.{ceiling}
 use Rattle.integers.proofs.Ring.{sides}
-use Rattle.integers.proofs.Order.{pow-nonneg, times-positive, balance, NonNeg, natural, gap, gap<, nonneg-by, nonneg-cancel, le-of-gap, le-by, pos-lt, _+₀_, _×₀_}
+use Rattle.integers.proofs.Order.{pow-nonneg, times-positive, balance, NonNeg, natural, gap, gap<, nonneg-by, nonneg-cancel, le-of-gap, le-by, pos-lt}
+use Rattle.integers.proofs.Order.{_+₀_, _×₀_}
 use Rattle.integers.proofs.Rounding.{ceiling-is}
 use Rattle.integers.proofs.Table.{and-left, and-right, every-below, below, every}
 use Rattle.curve_bernstein.specs.Value.{value}
 use Rattle.curve_nodes.specs.Differences.{difference}
-use Rattle.bound_rows.specs.Rows.{Row, pieces, thirds}
+use Rattle.bound_rows.specs.Rows.{Row}
+use Rattle.bound_rows.specs.Table.{rowsOf}
 use Rattle.bound_enclosure.specs.Bounds.{chord, rowSum, high, low}
 use Rattle.bound_rows.specs.Hats.{hat}
 use Rattle.bound_rows.specs.Joined.{Place, joined}
@@ -25,7 +28,8 @@ use Rattle.bound_enclosure.specs.Enclosed.{Encloses}
 use Rattle.bound_rows.proofs.Negated.{negated, value-negated}
 use Rattle.bound_rows.proofs.Degrees.{degrees}
 use Rattle.bound_enclosure.proofs.SecondDifferences.{hatSum, Form, form-1, form-2, form-3}
-use Rattle.bound_rows.proofs.Rows.{passes, tested, low-line, high-line, table-tested, table-count}
+use Rattle.bound_rows.proofs.Rows.{passes, tested, low-line, high-line}
+use Rattle.bound_rows.proofs.Rule.{rows-count, rows-tested}
 use Rattle.bound_enclosure.proofs.Negation.{low-is}
 use Rattle.bound_rows.proofs.Places.{Located, located, place-at}
 
@@ -88,7 +92,8 @@ module _ {m d : ℕ} {ρs : List Row} (known : Enclosable m d ρs) {D : ℤ} (hD
       le-of-gap (nonneg-cancel some (nonneg-cancel (pos-lt (known .positive)) (nonneg-cancel {k = pos 10000} (ltZ-yes tt)
       (nonneg-by (pos d ∷ pos m ∷ D ∷ W ∷ pos i ∷ pos a ∷ pos b ∷ pos p ∷ pos r ∷ v ∷ H ∷ c0 ∷ cd ∷ rowSum ρs i 0 cs ∷ rowSum ρs (suc i) 0 cs
       ∷ ceiling (n i) Q ∷ ceiling (n (suc i)) Q ∷ [])
-      (natural d ×₀ pow-nonneg (p + r) (d - 1) ×₀ (natural a ×₀ gap (ceiling-is (n i) Q hQ .above) +₀ natural b ×₀ gap (ceiling-is (n (suc i)) Q hQ .above))
+      (natural d ×₀ pow-nonneg (p + r) (d - 1) ×₀ (natural a ×₀ gap (ceiling-is (n i) Q hQ .above)
+      +₀ natural b ×₀ gap (ceiling-is (n (suc i)) Q hQ .above))
       +₀ natural 16 ×₀ natural m ×₀ rw (known .count) at (sums m d (known .positive) hi w ρs 0 cs (known .pass))
       +₀ balance (negℤ (pos 160000) *ℤ pos m) (known .form (pos p) (pos r) cs)
       +₀ balance (pos 160000 *ℤ pos d *ℤ W *ℤ pos m *ℤ c0) (ap pos (w .whole))
@@ -108,28 +113,25 @@ module _ {m d : ℕ} {ρs : List Row} (known : Enclosable m d ρs) {D : ℤ} (hD
   pub encloses : (cs : List ℤ) → Encloses m ρs D d cs i a b p r
   encloses cs = record { below = over-low cs; above = under-high cs }
 
--- ---- today's table
-pub enclosable : (d : ℕ) → 1 ≤ d → d ≤ 3 → Enclosable pieces d (thirds d)
-enclosable d least most = record {
-  positive = least;
-  count = table-count d least most;
-  pass = table-tested d least most;
-  form = degrees Form form-1 form-2 form-3 d least most;
-}
+-- ---- the table's rows
+module _ (m d : ℕ) (rows : HasRows m) (least : 1 ≤ d) (most : d ≤ 3) where
+  pub enclosable : Enclosable m d (rowsOf m d)
+  enclosable = record {
+    positive = least;
+    count = rows-count m d;
+    pass = rows-tested m d rows most;
+    form = degrees Form form-1 form-2 form-3 d least most;
+  }
 
-pub enclosure : (d : ℕ) → 1 ≤ d → d ≤ 3 → (D : ℤ) → pos 0 <ℤ D → (cs : List ℤ) (i a b p r : ℕ) → i < pieces → Place pieces i a b p r
-    → Encloses pieces (thirds d) D d cs i a b p r
-enclosure d least most D hD cs i a b p r hi w = encloses (enclosable d least most) hD hi w cs
+  module _ (D : ℤ) (hD : pos 0 <ℤ D) (cs : List ℤ) where
+    pub enclosure : (i a b p r : ℕ) → i < m → Place m i a b p r → Encloses m (rowsOf m d) D d cs i a b p r
+    enclosure i a b p r hi w = encloses enclosable hD hi w cs
 
--- every rational parameter has a place
-pub enclosure-at : (d : ℕ) → 1 ≤ d → d ≤ 3 → (D : ℤ) → pos 0 <ℤ D → (cs : List ℤ) (p r : ℕ)
-    → (l : Located pieces p r) × Encloses pieces (thirds d) D d cs (l .piece) (l .near) (l .far) p r
-enclosure-at d least most D hD cs p r =
-    let l = located pieces p r (zero-lt-suc 2) in
-    (l, enclosure d least most D hD cs (l .piece) (l .near) (l .far) p r (l .inside) (l .place))
+    -- every rational parameter has a place
+    pub enclosure-at : (p r : ℕ) → (l : Located m p r) × Encloses m (rowsOf m d) D d cs (l .piece) (l .near) (l .far) p r
+    enclosure-at p r = let l = located m p r (rows .least) in (l, enclosure (l .piece) (l .near) (l .far) p r (l .inside) (l .place))
 
--- every two weights on a piece have a parameter
-pub enclosure-between : (d : ℕ) → 1 ≤ d → d ≤ 3 → (D : ℤ) → pos 0 <ℤ D → (cs : List ℤ) (i a b : ℕ) → i < pieces
-    → Encloses pieces (thirds d) D d cs i (pieces * a) (pieces * b) (a * i + b * suc i) (a * (pieces - i) + b * (pieces - suc i))
-enclosure-between d least most D hD cs i a b hi =
-    enclosure d least most D hD cs i (pieces * a) (pieces * b) (a * i + b * suc i) (a * (pieces - i) + b * (pieces - suc i)) hi (place-at pieces i a b hi)
+    -- every two weights on a piece have a parameter
+    pub enclosure-between : (i a b : ℕ) → i < m
+        → Encloses m (rowsOf m d) D d cs i (m * a) (m * b) (a * i + b * suc i) (a * (m - i) + b * (m - suc i))
+    enclosure-between i a b hi = enclosure i (m * a) (m * b) (a * i + b * suc i) (a * (m - i) + b * (m - suc i)) hi (place-at m i a b hi)

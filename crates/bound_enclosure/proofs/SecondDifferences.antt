@@ -37,4 +37,5 @@ form-4 p r cs = ring (p ∷ r ∷ entry cs 0 ∷ entry cs 1 ∷ entry cs 2 ∷ e
 
 pub form-5 : Form 5
 unfolding hatSum hat value sum choose pow one
-form-5 p r cs = ring (p ∷ r ∷ entry cs 0 ∷ entry cs 1 ∷ entry cs 2 ∷ entry cs 3 ∷ entry cs 4 ∷ entry cs 5 ∷ []) (search sides depth 40 fits 99999) refl
+form-5 p r cs = ring (p ∷ r ∷ entry cs 0 ∷ entry cs 1 ∷ entry cs 2 ∷ entry cs 3 ∷ entry cs 4 ∷ entry cs 5 ∷ [])
+    (search sides depth 40 fits 99999) refl

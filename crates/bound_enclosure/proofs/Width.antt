@@ -1,5 +1,5 @@
 -- The width law: how far apart a high and its low can be, from a bound on the second differences.
-use mathlib.Core.Path.{_≡_, refl, _∙_, ap}
+use mathlib.Core.Path.{_≡_, refl, _∙_, ap, subst}
 use mathlib.Core.Bool.{Bool, cond, _&&_}
 use mathlib.Core.List.{List, [], _∷_}
 use Prim.Native.Nat.{ℕ, suc, _+_, _*_, _-_, _^_, _≤_, _<_, zero-le, suc-le-suc}
@@ -9,19 +9,23 @@ use lib.Dec.{T}
 use lib.ListN.{length}
 use lib.IntN.{ℤ, pos, negsuc, negℤ, natAbs, _+ℤ_, _-ℤ_, _*ℤ_}
 use lib.Signed.{nonNeg, ltZ, leZ, _≤ℤ_, _<ℤ_, ltZ-yes, leZ-yes}
+use Rattle.setting.specs.Setting.{Setting, HasRows, standard}
 use Rattle.integers.specs.Entry.{entry}
 use Rattle.integers.specs.Rounding.{floor, ceiling}
 use Rattle.integers.proofs.Ring.{ring, sides}
-use Rattle.integers.proofs.Order.{times-positive, balance, NonNeg, natural, gap, gap<, nonneg-by, nonneg-cancel, le-of-gap, le-by, pos-le, pos-lt, *ℤ-cancel, _+₀_, _×₀_}
+use Rattle.integers.proofs.Order.{times-positive, balance, NonNeg, natural, gap, gap<, nonneg-by, nonneg-cancel, le-of-gap, le-by, pos-le, pos-lt}
+use Rattle.integers.proofs.Order.{*ℤ-cancel, _+₀_, _×₀_}
 use Rattle.integers.proofs.Ranges.{no-lt}
 use Rattle.integers.proofs.Rounding.{floor-is, ceiling-is}
 use Rattle.integers.proofs.Table.{and-left, and-right, below}
 use Rattle.curve_nodes.specs.Differences.{difference}
-use Rattle.bound_rows.specs.Rows.{Row, pieces, thirds}
+use Rattle.bound_rows.specs.Rows.{Row, pieces}
+use Rattle.bound_rows.specs.Table.{rowsOf}
+use Rattle.bound_rows.specs.Rule.{gapSum, gapOf}
 use Rattle.bound_enclosure.specs.Bounds.{exchanged, chord, rowSum, high, low}
-use Rattle.bound_enclosure.specs.Thirds.{highOf, lowOf}
-use Rattle.bound_rows.proofs.Gaps.{gapSum, ordered, apart, table-apart}
-use Rattle.bound_rows.proofs.Rows.{table-count}
+use Rattle.bound_enclosure.specs.AtDepth.{highOf, lowOf}
+use Rattle.bound_rows.proofs.Gaps.{ordered, gapsWithin}
+use Rattle.bound_rows.proofs.Rule.{rows-count, rows-apart, pieces-have-rows, gap-thirds}
 
 -- ---- the two sums of row × difference
 -- one term: the rows' gap times the size of the difference
@@ -54,7 +58,7 @@ sums-apart z W i cs (ρ ∷ ρs) k t small =
     first = record { holds = and-left (nonNeg (entry (ρ .high) i -ℤ entry (ρ .low) i)) (ordered ρs i) t }
 
 -- ---- the law, for rows at most G apart: z is 4^depth and M the largest second difference of the undivided curve. Rounding adds less than 2.
-module _ (m G d : ℕ) (ρs : List Row) (some : 0 < m) (t : T (apart m G ρs)) (D z M : ℕ) (hD : 0 < D) (cs : List ℤ)
+module _ (m G d : ℕ) (ρs : List Row) (some : 0 < m) (t : T (gapsWithin m G ρs)) (D z M : ℕ) (hD : 0 < D) (cs : List ℤ)
     (small : (k : ℕ) → k < length ρs → z * natAbs (difference cs k) ≤ D * M) where
   pub width-within : (i : ℕ) → i ≤ m
       → (pos 10000 *ℤ pos z *ℤ (high m ρs (pos D) d cs i -ℤ low m ρs (pos D) d cs i)) ≤ℤ (pos 16 *ℤ pos G *ℤ pos M +ℤ pos 20000 *ℤ pos z)
@@ -76,25 +80,32 @@ module _ (m G d : ℕ) (ρs : List Row) (some : 0 < m) (t : T (apart m G ρs)) (
       +₀ natural z ×₀ (gap< (ceiling-is N Q hQ .below) +₀ gap< (floor-is N′ Q hQ .above) +₀ natural 2))
       (search sides depth 40 fits 9999) refl)))
 
--- ---- today's rows, at a depth and at any node
-module _ (d depth M : ℕ) (cs : List ℤ) (least : 1 ≤ d) (most : d ≤ 3) where
-  abbrev widthAt : ℕ → ℤ
-  widthAt i = highOf d depth cs i -ℤ lowOf d depth cs i
+-- ---- the rows of a setting: G is that of the degree and the number of pieces
+module _ (σ : Setting) (h : HasRows (σ .pieces)) (d depth z M : ℕ) (cs : List ℤ) (most : d ≤ 3)
+    (small : (k : ℕ) → k < d - 1 → z * natAbs (difference cs k) ≤ 2 ^ (d * depth) * M) where
+  pub width-gap : (i : ℕ) → i ≤ σ .pieces → (pos 10000 *ℤ pos z *ℤ (highOf σ d depth cs i -ℤ lowOf σ d depth cs i))
+      ≤ℤ (pos 16 *ℤ pos (gapOf (σ .pieces) d) *ℤ pos M +ℤ pos 20000 *ℤ pos z)
+  width-gap = width-within (σ .pieces) (gapOf (σ .pieces) d) d (rowsOf (σ .pieces) d) (h .least) (rows-apart (σ .pieces) d h most)
+      (2 ^ (d * depth)) z M (one-le-pow (d * depth) 2 (zero-lt-suc 1)) cs (λ k l. small k (subst (λ n. k < n) (rows-count (σ .pieces) d) l))
 
-  within : (z : ℕ) → ((k : ℕ) → k < d - 1 → z * natAbs (difference cs k) ≤ 2 ^ (d * depth) * M)
-      → (i : ℕ) → i ≤ pieces → (pos 125 *ℤ pos z *ℤ widthAt i) ≤ℤ (pos 178 *ℤ pos M +ℤ pos 250 *ℤ pos z)
-  within z small i hi = *ℤ-cancel {k = pos 80} (ltZ-yes tt) (le-by (pos M ∷ pos z ∷ highOf d depth cs i ∷ lowOf d depth cs i ∷ [])
-      (gap (width-within pieces 890 d (thirds d) (omega arith) (table-apart d least most)
-      (2 ^ (d * depth)) z M (one-le-pow (d * depth) 2 (zero-lt-suc 1)) cs (λ k h. small k (omega (arith, table-count d least most))) i hi))
+-- ---- three pieces, where G is 890 at most: at a depth and at any node
+module _ (d depth M : ℕ) (cs : List ℤ) (least : 1 ≤ d) (most : d ≤ 3) where
+  within : (z : ℕ) → ((k : ℕ) → k < d - 1 → z * natAbs (difference cs k) ≤ 2 ^ (d * depth) * M) → (i : ℕ) → i ≤ pieces
+      → (pos 125 *ℤ pos z *ℤ (highOf standard d depth cs i -ℤ lowOf standard d depth cs i)) ≤ℤ (pos 178 *ℤ pos M +ℤ pos 250 *ℤ pos z)
+  within z small i hi =
+      let G = gapOf pieces d in
+      *ℤ-cancel {k = pos 80} (ltZ-yes tt) (le-by (pos M ∷ pos z ∷ pos G ∷ highOf standard d depth cs i ∷ lowOf standard d depth cs i ∷ [])
+      (gap (width-gap standard pieces-have-rows d depth z M cs most small i hi) +₀ natural 16 ×₀ natural M ×₀ gap (pos-le (gap-thirds d least most)))
       (search sides depth 20) refl)
 
   pub width : ((k : ℕ) → k < d - 1 → 4 ^ depth * natAbs (difference cs k) ≤ 2 ^ (d * depth) * M)
       → (i : ℕ) → i ≤ pieces
-      → (pos 125 *ℤ pos (4 ^ depth) *ℤ (highOf d depth cs i -ℤ lowOf d depth cs i)) ≤ℤ (pos 178 *ℤ pos M +ℤ pos 250 *ℤ pos (4 ^ depth))
+      → (pos 125 *ℤ pos (4 ^ depth) *ℤ (highOf standard d depth cs i -ℤ lowOf standard d depth cs i))
+      ≤ℤ (pos 178 *ℤ pos M +ℤ pos 250 *ℤ pos (4 ^ depth))
   width = within (4 ^ depth)
 
   -- from the differences of the node itself
   pub width-most : ((k : ℕ) → k < d - 1 → natAbs (difference cs k) ≤ 2 ^ (d * depth) * M)
-      → (i : ℕ) → i ≤ pieces → (pos 125 *ℤ (highOf d depth cs i -ℤ lowOf d depth cs i)) ≤ℤ (pos 178 *ℤ pos M +ℤ pos 250)
-  width-most small i hi = le-by (pos M ∷ highOf d depth cs i ∷ lowOf d depth cs i ∷ [])
+      → (i : ℕ) → i ≤ pieces → (pos 125 *ℤ (highOf standard d depth cs i -ℤ lowOf standard d depth cs i)) ≤ℤ (pos 178 *ℤ pos M +ℤ pos 250)
+  width-most small i hi = le-by (pos M ∷ highOf standard d depth cs i ∷ lowOf standard d depth cs i ∷ [])
       (gap (within 1 (λ k h. rw one-mul (small k h)) i hi)) (search sides depth 20) refl

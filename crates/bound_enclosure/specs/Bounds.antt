@@ -1,5 +1,6 @@
--- The low and the high of a coordinate at a break point (document 01, "Enclosure rows"). Nothing here fixes the number m of pieces, the rows, one
--- for each second difference, or the denominator D over which the control values `cs` of degree d are whole.
+-- The low and the high of a coordinate at a break point (document 01, "Enclosure rows"). Nothing here fixes the number
+-- m of pieces, the rows, one for each second difference, or the denominator D over which the control values `cs` of
+-- degree d are whole.
 use mathlib.Core.Bool.{cond}
 use mathlib.Core.List.{List, [], _∷_}
 use Prim.Native.Nat.{ℕ, suc}
@@ -15,20 +16,27 @@ abbrev pub exchanged : List Row → List Row
 exchanged [] = []
 exchanged (ρ ∷ ρs) = record { high = ρ .low; low = ρ .high } ∷ exchanged ρs
 
--- Sum of row × difference at break point i, over the differences from place k on: the high row for a difference that is not negative, the low row
--- for a negative one, each difference by its own sign.
+-- Sum of row × difference at break point i, over the differences from place k on: the high row for a difference that is
+-- not negative, the low row for a negative one, each difference by its own sign.
 unfoldable pub rowSum : List Row → ℕ → ℕ → List ℤ → ℤ
 rowSum [] i k cs = pos 0
-rowSum (ρ ∷ ρs) i k cs = cond (ltZ (difference cs k) (pos 0)) (entry (ρ .low) i) (entry (ρ .high) i) *ℤ difference cs k +ℤ rowSum ρs i (suc k) cs
+rowSum (ρ ∷ ρs) i k cs =
+    cond (ltZ (difference cs k) (pos 0)) (entry (ρ .low) i) (entry (ρ .high) i) *ℤ difference cs k
+    +ℤ rowSum ρs i (suc k) cs
 
 -- 10000 m times the chord's value at break point i of m
 abbrev pub chord : ℕ → ℕ → ℕ → List ℤ → ℤ
 chord m d i cs = pos 10000 *ℤ ((pos m -ℤ pos i) *ℤ entry cs 0 +ℤ pos i *ℤ entry cs d)
 
--- the high at break point i, in sixteenths: 16 × (((m − i) × C0 + i × Cd) / m + sum of row × difference / 10000), rounded up
+-- the high at break point i, in sixteenths: 16 × (((m − i) × C0 + i × Cd) / m + sum of row × difference / 10000),
+-- rounded up
 unfoldable pub high : (m : ℕ) → List Row → (D : ℤ) (d : ℕ) → List ℤ → ℕ → ℤ
-high m ρs D d cs i = ceiling (pos 16 *ℤ (chord m d i cs +ℤ pos m *ℤ rowSum ρs i 0 cs)) (pos 10000 *ℤ pos m *ℤ D)
+high m ρs D d cs i = ceiling
+    (pos 16 *ℤ (chord m d i cs +ℤ pos m *ℤ rowSum ρs i 0 cs))
+    (pos 10000 *ℤ pos m *ℤ D)
 
 -- the low swaps the rows and is rounded down
 unfoldable pub low : (m : ℕ) → List Row → (D : ℤ) (d : ℕ) → List ℤ → ℕ → ℤ
-low m ρs D d cs i = floor (pos 16 *ℤ (chord m d i cs +ℤ pos m *ℤ rowSum (exchanged ρs) i 0 cs)) (pos 10000 *ℤ pos m *ℤ D)
+low m ρs D d cs i = floor
+    (pos 16 *ℤ (chord m d i cs +ℤ pos m *ℤ rowSum (exchanged ρs) i 0 cs))
+    (pos 10000 *ℤ pos m *ℤ D)

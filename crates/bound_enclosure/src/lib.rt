@@ -1,1 +1,2 @@
-// The enclosure of a coordinate by the tabled rows. There is no code here: the functions stand in `row_sums`, `bounds`, `spread`, `node_boxes` and `node_test`.
+// The low and the high of a coordinate by the rows, and the laws that they enclose it and how far apart they are. There
+// is no code here: that of one coordinate stands in `bound_coordinate`.

@@ -1,9 +1,7 @@
--- Laws of the code of the spread.
+-- Laws of a node: its boxes, their code, the test that it meets the tolerance, and the spreads that decide it. Each file opens with what it holds.
 pub mod Spreads
--- Laws of the boxes of a node. Each file opens with what it holds.
 pub mod Examples
 pub mod Boxes
--- Laws of the boxes of a node, of the test of a node, and of the spreads that decide it.
 pub mod Sound
 pub mod Narrow
 pub mod Apart

@@ -9,6 +9,7 @@ use native.Mathlib.Omega.{arith}
 use lib.Dec.{T}
 use lib.IntN.{ℤ, pos, natAbs, _+ℤ_, _-ℤ_, _*ℤ_}
 use lib.Signed.{ltZ, _≤ℤ_, _<ℤ_, leZ-yes}
+use Rattle.setting.specs.Setting.{Setting, breakPoints, standard}
 use Rattle.integers.specs.Squares.{squared}
 use Rattle.integers.proofs.Ring.{sides}
 use Rattle.integers.proofs.Order.{NonNeg, natural, nonneg, gap, le-by, lt-le, pos-lt, times-positive, *ℤ-cancel, _+₀_, _×₀_}
@@ -17,28 +18,28 @@ use Rattle.integers.proofs.Table.{and-left, and-right, both-pass}
 use Rattle.integers.proofs.Ranges.{T-true, lt-yes, lt-no, yes-le, no-le}
 use Rattle.curve_nodes.specs.declared.Curve.{Curve}
 use Rattle.curve_nodes.specs.Differences.{difference}
-use Rattle.bound_node.specs.declared.node_boxes.Box.{Box}
-use Rattle.bound_rows.specs.Rows.{pieces}
-use Rattle.bound_enclosure.specs.Thirds.{lowOf, highOf}
+use Rattle.bound_node.specs.declared.node_boxes.WideBox.{WideBox}
+use Rattle.bound_rows.proofs.Rule.{pieces-have-rows}
+use Rattle.bound_enclosure.specs.AtDepth.{lowOf, highOf}
 use Rattle.bound_node.specs.Boxes.{boxAt, narrow, allNarrow, meets}
 use Rattle.bound_enclosure.proofs.Width.{width}
 use Rattle.bound_node.proofs.Sound.{low-high}
 
 -- width squared plus height squared at break point i
-abbrev pub diagonal : ℕ → Curve → ℕ → ℤ
-diagonal depth c i =
-    squared (highOf (c .degree) depth (c .x) i -ℤ lowOf (c .degree) depth (c .x) i)
-    +ℤ squared (highOf (c .degree) depth (c .y) i -ℤ lowOf (c .degree) depth (c .y) i)
+abbrev pub diagonal : Setting → ℕ → Curve → ℕ → ℤ
+diagonal σ depth c i =
+    squared (highOf σ (c .degree) depth (c .x) i -ℤ lowOf σ (c .degree) depth (c .x) i)
+    +ℤ squared (highOf σ (c .degree) depth (c .y) i -ℤ lowOf σ (c .degree) depth (c .y) i)
 
-pub record Narrow (tolerance : ℤ) (depth : ℕ) (c : Curve) : Type 0 where
-  pub each : (i : ℕ) → i ≤ pieces → diagonal depth c i ≤ℤ squared tolerance
+pub record Narrow (σ : Setting) (tolerance : ℤ) (depth : ℕ) (c : Curve) : Type 0 where
+  pub each : (i : ℕ) → i ≤ σ .pieces → diagonal σ depth c i ≤ℤ squared tolerance
 
 pub refuted : {b : Bool} → (b ≡ true → ⊥) → b ≡ false
 refuted {b = true} f = absurd (f refl)
 refuted {b = false} f = refl
 
 -- ---- the test of one box, as code asks it
-module _ (tolerance : ℤ) (b : Box) where
+module _ (tolerance : ℤ) (b : WideBox) where
   abbrev across : ℤ
   across = squared (b .«x_high» -ℤ b .«x_low») +ℤ squared (b .«y_high» -ℤ b .«y_low»)
 
@@ -49,7 +50,7 @@ module _ (tolerance : ℤ) (b : Box) where
   shorter-narrow e = yes-le {a = across} {b = squared tolerance} (lt-no e)
 
 -- ---- the test of several boxes
-module _ (tolerance : ℤ) (box : ℕ → Box) where
+module _ (tolerance : ℤ) (box : ℕ → WideBox) where
   each-narrow : (n : ℕ) → T (allNarrow n tolerance box) → (i : ℕ) → i < n → T (narrow tolerance (box i))
   each-narrow zero t i h = absurd (not-suc-le-zero h)
   each-narrow (suc n) t i h = ⊎-elim
@@ -59,46 +60,48 @@ module _ (tolerance : ℤ) (box : ℕ → Box) where
 
   all-narrow : (n : ℕ) → ((i : ℕ) → i < n → T (narrow tolerance (box i))) → T (allNarrow n tolerance box)
   all-narrow zero f = tt
-  all-narrow (suc n) f = both-pass (allNarrow n tolerance box) (narrow tolerance (box n)) (all-narrow n (λ i l. f i (omega arith))) (f n (le-refl (suc n)))
+  all-narrow (suc n) f = both-pass (allNarrow n tolerance box) (narrow tolerance (box n))
+      (all-narrow n (λ i l. f i (omega arith))) (f n (le-refl (suc n)))
 
-module _ (tolerance : ℤ) (depth : ℕ) (c : Curve) where
-  pub meets-narrow : meets tolerance depth c ≡ true → Narrow tolerance depth c
+module _ (σ : Setting) (tolerance : ℤ) (depth : ℕ) (c : Curve) where
+  pub meets-narrow : meets σ tolerance depth c ≡ true → Narrow σ tolerance depth c
   unfolding meets boxAt
-  meets-narrow e = record { each = λ i h. leZ-yes (each-narrow tolerance (boxAt depth c) (suc pieces) (subst T (sym e) tt) i (suc-le-suc h)) }
+  meets-narrow e = record { each = λ i h. leZ-yes (each-narrow tolerance (boxAt σ depth c) (breakPoints σ) (subst T (sym e) tt) i (suc-le-suc h)) }
 
-  pub narrow-meets : Narrow tolerance depth c → meets tolerance depth c ≡ true
+  pub narrow-meets : Narrow σ tolerance depth c → meets σ tolerance depth c ≡ true
   unfolding meets boxAt
-  narrow-meets n = T-true (allNarrow (suc pieces) tolerance (boxAt depth c))
-      (all-narrow tolerance (boxAt depth c) (suc pieces) (λ i l. n .each i (le-of-suc-le-suc l) .le))
+  narrow-meets n = T-true (allNarrow (breakPoints σ) tolerance (boxAt σ depth c))
+      (all-narrow tolerance (boxAt σ depth c) (breakPoints σ) (λ i l. n .each i (le-of-suc-le-suc l) .le))
 
   -- one box that is not narrow decides
-  pub wide-fails : (i : ℕ) → i ≤ pieces → narrow tolerance (boxAt depth c i) ≡ false → meets tolerance depth c ≡ false
+  pub wide-fails : (i : ℕ) → i ≤ σ .pieces → narrow tolerance (boxAt σ depth c i) ≡ false → meets σ tolerance depth c ≡ false
   unfolding meets
-  wide-fails i h e = refuted (λ m. subst T e (each-narrow tolerance (boxAt depth c) (suc pieces) (subst T (sym m) tt) i (suc-le-suc h)))
-
-  -- where three are narrow, the last decides
-  pub last-decides : narrow tolerance (boxAt depth c 1) ≡ true → narrow tolerance (boxAt depth c 2) ≡ true → narrow tolerance (boxAt depth c 0) ≡ true
-      → narrow tolerance (boxAt depth c 3) ≡ meets tolerance depth c
-  unfolding meets
-  last-decides e f g =
-      let n : ℕ → Bool = λ i. narrow tolerance (boxAt depth c i) in
-      sym (ap (λ x. x && n 1 && n 2 && n 3) g ∙ ap (λ x. x && n 2 && n 3) e ∙ ap (λ x. x && n 3) f)
+  wide-fails i h e = refuted (λ m. subst T e (each-narrow tolerance (boxAt σ depth c) (breakPoints σ) (subst T (sym m) tt) i (suc-le-suc h)))
 
   -- no width and no height is above a tolerance that is not negative
-  module _ (some : NonNeg tolerance) (n : Narrow tolerance depth c) (i : ℕ) (hi : i ≤ pieces) where
+  module _ (some : NonNeg tolerance) (n : Narrow σ tolerance depth c) (i : ℕ) (hi : i ≤ σ .pieces) where
     abbrev w : ℤ
-    w = highOf (c .degree) depth (c .x) i -ℤ lowOf (c .degree) depth (c .x) i
+    w = highOf σ (c .degree) depth (c .x) i -ℤ lowOf σ (c .degree) depth (c .x) i
 
     abbrev h : ℤ
-    h = highOf (c .degree) depth (c .y) i -ℤ lowOf (c .degree) depth (c .y) i
+    h = highOf σ (c .degree) depth (c .y) i -ℤ lowOf σ (c .degree) depth (c .y) i
 
-    pub narrow-x : (highOf (c .degree) depth (c .x) i -ℤ lowOf (c .degree) depth (c .x) i) ≤ℤ tolerance
+    pub narrow-x : (highOf σ (c .degree) depth (c .x) i -ℤ lowOf σ (c .degree) depth (c .x) i) ≤ℤ tolerance
     narrow-x = root-mono some (left-square w h (n .each i hi))
 
-    pub narrow-y : (highOf (c .degree) depth (c .y) i -ℤ lowOf (c .degree) depth (c .y) i) ≤ℤ tolerance
+    pub narrow-y : (highOf σ (c .degree) depth (c .y) i -ℤ lowOf σ (c .degree) depth (c .y) i) ≤ℤ tolerance
     narrow-y = root-mono some (right-square w h (n .each i hi))
 
--- ---- the width law of a curve: with Z = 125 z, a width w and a height h, Z w and Z h are at most X, and 2 X² ≤ (Z T)²
+-- three pieces: where three boxes are narrow, the last decides
+module _ (tolerance : ℤ) (depth : ℕ) (c : Curve) where
+  pub last-decides : narrow tolerance (boxAt standard depth c 1) ≡ true → narrow tolerance (boxAt standard depth c 2) ≡ true
+      → narrow tolerance (boxAt standard depth c 0) ≡ true → narrow tolerance (boxAt standard depth c 3) ≡ meets standard tolerance depth c
+  unfolding meets
+  last-decides e f g =
+      let n : ℕ → Bool = λ i. narrow tolerance (boxAt standard depth c i) in
+      sym (ap (λ x. x && n 1 && n 2 && n 3) g ∙ ap (λ x. x && n 2 && n 3) e ∙ ap (λ x. x && n 3) f)
+
+-- ---- the width law of a curve, in three pieces: with Z = 125 z, a width w and a height h, Z w and Z h are at most X, and 2 X² ≤ (Z T)²
 flat-narrow : {Z X w h : ℤ} (t : ℤ) → pos 0 <ℤ Z → NonNeg X → NonNeg w → NonNeg h → (Z *ℤ w) ≤ℤ X → (Z *ℤ h) ≤ℤ X
     → (pos 2 *ℤ squared X) ≤ℤ squared (Z *ℤ t) → (squared w +ℤ squared h) ≤ℤ squared t
 flat-narrow {Z} {X} {w} {h} t hZ hX hw hh a b premise = *ℤ-cancel {k = squared Z} (times-positive hZ hZ) (le-by (Z ∷ X ∷ t ∷ w ∷ h ∷ [])
@@ -111,10 +114,11 @@ pub width-meets : (tolerance : ℤ) (depth M : ℕ) (c : Curve) → 1 ≤ c .deg
     → ((k : ℕ) → k < c .degree - 1 → 4 ^ depth * natAbs (difference (c .x) k) ≤ 2 ^ (c .degree * depth) * M)
     → ((k : ℕ) → k < c .degree - 1 → 4 ^ depth * natAbs (difference (c .y) k) ≤ 2 ^ (c .degree * depth) * M)
     → (pos 2 *ℤ squared (pos 178 *ℤ pos M +ℤ pos 250 *ℤ pos (4 ^ depth))) ≤ℤ squared (pos 125 *ℤ tolerance *ℤ pos (4 ^ depth))
-    → meets tolerance depth c ≡ true
-width-meets tolerance depth M c least most bx by premise = narrow-meets tolerance depth c (record {
+    → meets standard tolerance depth c ≡ true
+width-meets tolerance depth M c least most bx by premise = narrow-meets standard tolerance depth c (record {
   each = λ i hi. flat-narrow tolerance (pos-lt positive) (natural (178 * M + 250 * 4 ^ depth))
-      (gap (low-high (c .degree) depth (c .x) least most i hi)) (gap (low-high (c .degree) depth (c .y) least most i hi))
+      (gap (low-high standard pieces-have-rows (c .degree) depth (c .x) least most i hi))
+      (gap (low-high standard pieces-have-rows (c .degree) depth (c .y) least most i hi))
       (width (c .degree) depth M (c .x) least most bx i hi) (width (c .degree) depth M (c .y) least most by i hi) turned;
 })
   where

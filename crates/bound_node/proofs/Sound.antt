@@ -9,6 +9,7 @@ use native.Mathlib.Omega.{arith}
 use lib.Dec.{lit≤}
 use lib.IntN.{ℤ, pos, negℤ, natAbs, _-ℤ_, _*ℤ_, pow}
 use lib.Signed.{_≤ℤ_, _<ℤ_, ltZ-yes}
+use Rattle.setting.specs.Setting.{Setting, HasRows, standard, breakPoints}
 use Rattle.integers.proofs.Ring.{ring, sides}
 use Rattle.integers.proofs.Order.{pow-positive, times-positive, balance, natural, gap, le-by, pos-lt, *ℤ-cancel, ≤ℤ-trans, _+₀_, _×₀_}
 use Rattle.integers.proofs.Size.{abs-within}
@@ -16,14 +17,16 @@ use Rattle.curve_bernstein.specs.Value.{value}
 use Rattle.curve_halves.specs.Sizes.{Each}
 use Rattle.curve_nodes.specs.Bounds.{Sized}
 use Rattle.curve_nodes.specs.declared.Curve.{Curve}
-use Rattle.bound_node.specs.declared.node_boxes.Box.{Box}
+use Rattle.bound_node.specs.declared.node_boxes.WideBox.{WideBox}
 use Rattle.bound_node.specs.declared.node_boxes.NodeBoxes.{NodeBoxes}
 use Rattle.bound_rows.specs.Rows.{Row, pieces}
 use Rattle.bound_enclosure.specs.Bounds.{high, low}
-use Rattle.bound_enclosure.specs.Thirds.{highOf, lowOf}
-use Rattle.bound_node.specs.Boxes.{Sides, boxAt, boxesOf, boxOf, narrow}
-use Rattle.bound_node.proofs.Boxes.{box-of}
+use Rattle.bound_enclosure.specs.AtDepth.{highOf, lowOf}
+use Rattle.bound_node.specs.Inside.{boxesOf, boxIn, SmallBox}
+use Rattle.bound_node.specs.Boxes.{boxAt, narrow}
+use Rattle.bound_node.proofs.Boxes.{box-in}
 use Rattle.bound_rows.specs.Joined.{Place}
+use Rattle.bound_rows.proofs.Rule.{pieces-have-rows}
 use Rattle.integers.proofs.RingLaws.{pow-last}
 use Rattle.curve_nodes.proofs.Sizes.{difference-under}
 use Rattle.curve_nodes.proofs.Values.{value-high, value-low}
@@ -110,30 +113,29 @@ module _ {m d : ℕ} {ρs : List Row} (known : Enclosable m d ρs) (some : 0 < m
                 (le-by ρ (gap low-under +₀ gap width) (search sides depth 20) refl);
           }
 
--- ---- today's rows: control values are within 2^20 of a unit, so second differences are within 2^22, and a width within 2^23 sixteenths
-module _ (d depth : ℕ) (cs : List ℤ) (least : 1 ≤ d) (most : d ≤ 3) where
-  abbrev D : ℕ
-  D = 2 ^ (d * depth)
+-- ---- the rows of a setting
+pub low-high : (σ : Setting) → HasRows (σ .pieces) → (d depth : ℕ) (cs : List ℤ) → 1 ≤ d → d ≤ 3 → (i : ℕ) → i ≤ σ .pieces
+    → lowOf σ d depth cs i ≤ℤ highOf σ d depth cs i
+low-high σ rows d depth cs least most =
+    order (enclosable (σ .pieces) d rows least most) (rows .least) (2 ^ (d * depth)) (one-le-pow (d * depth) 2 (zero-lt-suc 1)) cs
 
-  pub low-high : (i : ℕ) → i ≤ pieces → lowOf d depth cs i ≤ℤ highOf d depth cs i
-  low-high = order (enclosable d least most) (zero-lt-suc 2) D (one-le-pow (d * depth) 2 (zero-lt-suc 1)) cs
+-- ---- three pieces: control values are within 2^20 of a unit, so second differences are within 2^22, and a width within 2^23 sixteenths
+module _ (d depth : ℕ) (cs : List ℤ) (least : 1 ≤ d) (most : d ≤ 3) (each : Each (2 ^ 20 * 2 ^ (d * depth)) cs) where
+  pub width-under : (i : ℕ) → i ≤ pieces → (highOf standard d depth cs i -ℤ lowOf standard d depth cs i) ≤ℤ pos (2 ^ 23)
+  width-under i hi = *ℤ-cancel {k = pos 125} (ltZ-yes tt) (le-by (highOf standard d depth cs i ∷ lowOf standard d depth cs i ∷ [])
+      (gap (width-most d depth (2 ^ 22) cs least most (λ k h. omega (arith, difference-under each k)) i hi) +₀ natural 301989638)
+      (search sides depth 20) refl)
 
-  module _ (each : Each (2 ^ 20 * 2 ^ (d * depth)) cs) where
-    pub width-under : (i : ℕ) → i ≤ pieces → (highOf d depth cs i -ℤ lowOf d depth cs i) ≤ℤ pos (2 ^ 23)
-    width-under i hi = *ℤ-cancel {k = pos 125} (ltZ-yes tt) (le-by (highOf d depth cs i ∷ lowOf d depth cs i ∷ [])
-        (gap (width-most d depth (2 ^ 22) cs least most (λ k h. omega (arith, difference-under each k)) i hi) +₀ natural 301989638)
-        (search sides depth 20) refl)
-
-    pub bounds-sound : (i : ℕ) → i ≤ pieces → Sound (2 ^ 24 + 2 ^ 23) (lowOf d depth cs i) (highOf d depth cs i)
-    bounds-sound i hi = sound (enclosable d least most) (zero-lt-suc 2) D (one-le-pow (d * depth) 2 (zero-lt-suc 1)) cs i hi
-        (2 ^ 20) (2 ^ 23) each (width-under i hi)
+  pub bounds-sound : (i : ℕ) → i ≤ pieces → Sound (2 ^ 24 + 2 ^ 23) (lowOf standard d depth cs i) (highOf standard d depth cs i)
+  bounds-sound i hi = sound (enclosable pieces d pieces-have-rows least most) (zero-lt-suc 2)
+      (2 ^ (d * depth)) (one-le-pow (d * depth) 2 (zero-lt-suc 1)) cs i hi (2 ^ 20) (2 ^ 23) each (width-under i hi)
 
 -- a box of a node
-pub record SoundBox (B : ℕ) (b : Box) : Type 0 where
+pub record SoundBox (B : ℕ) (b : WideBox) : Type 0 where
   pub x : Sound B (b .«x_low») (b .«x_high»)
   pub y : Sound B (b .«y_low») (b .«y_high»)
 
-pub node-box : (depth : ℕ) (c : Curve) → Sized depth c → (i : ℕ) → i ≤ pieces → SoundBox (2 ^ 24 + 2 ^ 23) (boxAt depth c i)
+pub node-box : (depth : ℕ) (c : Curve) → Sized depth c → (i : ℕ) → i ≤ pieces → SoundBox (2 ^ 24 + 2 ^ 23) (boxAt standard depth c i)
 unfolding boxAt
 node-box depth c s i hi = record {
   x = bounds-sound (c .degree) depth (c .x) (s .least) (s .most) (s .x) i hi;
@@ -141,11 +143,12 @@ node-box depth c s i hi = record {
 }
 
 -- ---- as the code holds its boxes
-module _ (depth : ℕ) (c : Curve) {bs : NodeBoxes} (e : bs ≡ boxesOf depth c) (i : ℕ) (h : i < 4) {b : Box} (f : b ≡ boxOf bs i) where
-  box-is : b ≡ boxAt depth c i
-  box-is = f ∙ ap (λ w. boxOf w i) e ∙ box-of depth c i h
+module _ (depth : ℕ) (c : Curve) {bs : NodeBoxes} (e : bs ≡ boxesOf standard depth c)
+    (i : ℕ) (h : i < breakPoints standard) {b : WideBox} (f : b ≡ boxIn bs i) where
+  box-is : b ≡ boxAt standard depth c i
+  box-is = f ∙ ap (λ w. boxIn w i) e ∙ box-in standard depth c i h
 
-  pub box-small : Sized depth c → Sides (2 ^ 25) b
+  pub box-small : Sized depth c → SmallBox (2 ^ 25) b
   box-small s =
       let n = node-box depth c s i (le-of-suc-le-suc h) in
       rw box-is (record {
@@ -159,5 +162,5 @@ module _ (depth : ℕ) (c : Curve) {bs : NodeBoxes} (e : bs ≡ boxesOf depth c)
       small l = le-trans l (lit≤ tt)
 
   -- what a test of the box says
-  pub box-tested : (T : ℤ) {t : ℤ} {r v : Bool} → t ≡ T → r ≡ narrow t b → r ≡ v → narrow T (boxAt depth c i) ≡ v
+  pub box-tested : (T : ℤ) {t : ℤ} {r v : Bool} → t ≡ T → r ≡ narrow t b → r ≡ v → narrow T (boxAt standard depth c i) ≡ v
   box-tested T g p q = sym (p ∙ ap₂ narrow g box-is) ∙ q

@@ -2,7 +2,8 @@
 use mathlib.Core.Path.{_≡_, sym, _∙_, ap, ap₂, subst}
 use mathlib.Core.List.{List, [], _∷_}
 use Prim.Native.Nat.{ℕ, _+_, _-_, _*_, _/_, _%_, _^_, _≤_, _<_, zero-le}
-use native.Mathlib.Nat.{add-zero, mul-comm, mul-le-mul, le-refl, le-trans, lt-of-le-of-lt, div-le-self, div-div-eq-div-mul, mod-eq-of-lt, div-eq-of-lt}
+use native.Mathlib.Nat.{add-zero, mul-comm, mul-le-mul, le-refl, le-trans, lt-of-le-of-lt, div-le-self, div-div-eq-div-mul, mod-eq-of-lt}
+use native.Mathlib.Nat.{div-eq-of-lt}
 use native.Mathlib.Omega.{arith}
 use lib.Dec.{lit<}
 use lib.Pow.{pow-mono, pow-pos}
@@ -12,9 +13,10 @@ use mir.Val.{toZ}
 use mir.Facts.{toZ-pos}
 use Rattle.integers.proofs.Ranges.{stored}
 use Rattle.curve_nodes.specs.Differences.{difference}
-use Rattle.bound_coordinate.specs.Terms.{Small, Holds}
-use Rattle.bound_coordinate.proofs.Coordinates.{holds-as, stored-is, restored}
-use Rattle.bound_node.specs.Spread.{up, apart, spread, Spreads}
+use Rattle.bound_rows.specs.Table.{table, rowsOf}
+use Rattle.bound_coordinate.specs.Inside.{Small, Computed}
+use Rattle.bound_coordinate.proofs.Coordinates.{computed-as, stored-is, restored}
+use Rattle.bound_node.specs.Inside.{up, spreadSum, spread, Spreads}
 
 pub same-size : {B r : ℕ} {z : ℤ} → r ≡ natAbs z → Small B z → (r ≡ natAbs z) × (r ≤ B)
 same-size e h = (e, rw e (h .size))
@@ -42,8 +44,8 @@ module _ (n s : ℕ) (h : n ≤ 2 ^ 60) (l : s ≤ 24) where
   whole-less : (n + (unit s - 1)) / 2 ^ s / 625 < 2 ^ 63
   whole-less = lt-of-le-of-lt whole-under (lit< tt)
 
-  pub whole-holds : Holds (2 ^ 61) (pos (up n (unit s))) (toZ w64 ((n + (unit s - 1)) / 2 ^ s / 625))
-  whole-holds =
+  pub whole-computed : Computed (2 ^ 61) (pos (up n (unit s))) (toZ w64 ((n + (unit s - 1)) / 2 ^ s / 625))
+  whole-computed =
       let e = toZ-pos w64 whole-less in
       record {
         is = e ∙ ap pos (div-div-eq-div-mul (n + (unit s - 1)) (2 ^ s) 625 ∙ ap (λ q. (n + (unit s - 1)) / q) (mul-comm (2 ^ s) 625));
@@ -52,7 +54,7 @@ module _ (n s : ℕ) (h : n ≤ 2 ^ 60) (l : s ≤ 24) where
 
 -- ---- the spreads, by the degree
 -- the size of a difference, as the caller holds it
-pub size-is : {n : ℕ} {δ r : ℤ} → Holds (2 ^ 46) δ r → n ≡ natAbs (stored w64 r) → n ≡ natAbs δ
+pub size-is : {n : ℕ} {δ r : ℤ} → Computed (2 ^ 46) δ r → n ≡ natAbs (stored w64 r) → n ≡ natAbs δ
 size-is h e = e ∙ ap natAbs (stored-is h tt)
 
 abbrev over : (d k n : ℕ) → ℤ
@@ -60,30 +62,30 @@ over d k n = pos (up n (unit (d * k)))
 
 module _ {d : ℕ} (k : ℕ) (cs : List ℤ) where
   pub line-spreads : d ≡ 1 → Spreads d k cs (pos 0 ∷ pos 0 ∷ [])
-  unfolding spread apart
+  unfolding spread spreadSum table rowsOf
   line-spreads e = rw e (record { first = none; second = none })
     where
       less : (s : ℕ) → 0 + (unit s - 1) < unit s
       less s = omega (arith, unit-some s)
 
-      none : Holds (2 ^ 61) (over 1 k 0) (pos 0)
+      none : Computed (2 ^ 61) (over 1 k 0) (pos 0)
       none = record { is = ap pos (sym (div-eq-of-lt (less (1 * k)))); size = zero-le }
 
-  pub quadratic-spreads : {n : ℕ} {r : ℤ} → d ≡ 2 → n ≡ natAbs (difference cs 0) → Holds (2 ^ 61) (over d k (278 * n)) r
+  pub quadratic-spreads : {n : ℕ} {r : ℤ} → d ≡ 2 → n ≡ natAbs (difference cs 0) → Computed (2 ^ 61) (over d k (278 * n)) r
       → Spreads d k cs (stored w64 r ∷ stored w64 r ∷ [])
-  unfolding spread apart
+  unfolding spread spreadSum table rowsOf
   quadratic-spreads {n} {r} e f h = rw e (record { first = one; second = one })
     where
-      one : Holds (2 ^ 61) (over 2 k (278 * natAbs (difference cs 0) + 0)) (stored w64 r)
-      one = restored (holds-as (ap₂ (λ (x y : ℕ). over y k (278 * x)) f e ∙ ap (over 2 k) (sym (add-zero (278 * natAbs (difference cs 0))))) h) tt
+      one : Computed (2 ^ 61) (over 2 k (278 * natAbs (difference cs 0) + 0)) (stored w64 r)
+      one = restored (computed-as (ap₂ (λ (x y : ℕ). over y k (278 * x)) f e ∙ ap (over 2 k) (sym (add-zero (278 * natAbs (difference cs 0))))) h) tt
 
   pub cubic-spreads : {m n : ℕ} {r s : ℤ} → d ≡ 3 → m ≡ natAbs (difference cs 0) → n ≡ natAbs (difference cs 1)
-      → Holds (2 ^ 61) (over d k (697 * m + 193 * n)) r → Holds (2 ^ 61) (over d k (193 * m + 697 * n)) s
+      → Computed (2 ^ 61) (over d k (697 * m + 193 * n)) r → Computed (2 ^ 61) (over d k (193 * m + 697 * n)) s
       → Spreads d k cs (stored w64 r ∷ stored w64 s ∷ [])
-  unfolding spread apart
+  unfolding spread spreadSum table rowsOf
   cubic-spreads {m} {n} e f g h l = rw e (record { first = two 697 193 h; second = two 193 697 l })
     where
-      two : (x y : ℕ) {q : ℤ} → Holds (2 ^ 61) (over d k (x * m + y * n)) q
-          → Holds (2 ^ 61) (over 3 k (x * natAbs (difference cs 0) + (y * natAbs (difference cs 1) + 0))) (stored w64 q)
-      two x y h = restored (holds-as (ap (λ z. over z k (x * m + y * n)) e
+      two : (x y : ℕ) {q : ℤ} → Computed (2 ^ 61) (over d k (x * m + y * n)) q
+          → Computed (2 ^ 61) (over 3 k (x * natAbs (difference cs 0) + (y * natAbs (difference cs 1) + 0))) (stored w64 q)
+      two x y h = restored (computed-as (ap (λ z. over z k (x * m + y * n)) e
           ∙ ap₂ (λ (u v : ℕ). over 3 k (x * u + v)) f (ap (λ (z : ℕ). y * z) g ∙ sym (add-zero (y * natAbs (difference cs 1))))) h) tt

@@ -1,4 +1,3 @@
--- What the contracts of the quick test of a node cite.
-pub mod Spread
--- What a reader must believe of a node's boxes: the boxes, and the test that a node meets the tolerance.
+-- What a reader must believe of a node: its boxes, and the test that it meets the tolerance.
 pub mod Boxes
+pub mod Inside

@@ -3,11 +3,13 @@ ghost use mathlib.Core.Path.{_≡_};
 ghost use Prim.Native.Nat.{_≤_, _^_};
 ghost use lib.IntN.{_+ℤ_};
 ghost use lib.Signed.{ltZ};
+ghost use Rattle.setting.specs.Setting.{standard};
 ghost use Rattle.integers.specs.Squares.{squared};
 ghost use Rattle.curve_nodes.specs.Bounds.{Sized};
-ghost use Rattle.bound_node.specs.Boxes.{Sides, narrow, meets};
-ghost use Rattle.bound_coordinate.specs.Terms.{Small};
-use crate::node_boxes::Box;
+ghost use Rattle.bound_node.specs.Inside.{SmallBox};
+ghost use Rattle.bound_node.specs.Boxes.{narrow, meets};
+ghost use Rattle.bound_coordinate.specs.Inside.{Small};
+use crate::node_boxes::WideBox;
 use curve_nodes::Curve;
 
 // The diagonal of a box is longer than the length that has this square.
@@ -19,8 +21,8 @@ fn is_longer(width: i64, height: i64, square: i64) -> bool
 }
 
 // The box is narrow: its diagonal is at most t.
-fn is_narrow(b: Box, t: i64) -> bool
-    requires { ⌜ (Sides (2 ^ 25) b) × (Small (2 ^ 24) t) ⌝ }
+fn is_narrow(b: WideBox, t: i64) -> bool
+    requires { ⌜ (SmallBox (2 ^ 25) b) × (Small (2 ^ 24) t) ⌝ }
     ensures { λ r. ⌜ r ≡ narrow t b ⌝ }
 {
     let x_low = b.x_low;
@@ -36,7 +38,7 @@ fn is_narrow(b: Box, t: i64) -> bool
 // The boxes at all four break points are narrow. The inner ones come first: they are seldom narrower than the others.
 fn boxes_meet(curve: Curve, depth: u32, t: i64) -> bool
     requires { ⌜ (Sized depth curve) × (depth ≤ 8) × (Small (2 ^ 24) t) ⌝ }
-    ensures { λ r. ⌜ r ≡ meets t depth curve ⌝ }
+    ensures { λ r. ⌜ r ≡ meets standard t depth curve ⌝ }
 {
     let boxes = crate::node_boxes::boxes_of(curve, depth);
     if !is_narrow(boxes.at(1), t) {
@@ -57,7 +59,7 @@ fn boxes_meet(curve: Curve, depth: u32, t: i64) -> bool
 // keeps them out of line and the rest inside the walks.
 pub fn meets(curve: Curve, depth: u32, t: i64) -> bool
     requires { ⌜ (Sized depth curve) × (depth ≤ 8) ⌝ }
-    ensures { λ r. ⌜ r ≡ meets t depth curve ⌝ }
+    ensures { λ r. ⌜ r ≡ meets standard t depth curve ⌝ }
 {
     if t < -16777216 {
         return true;

@@ -2,8 +2,8 @@
 ghost use mathlib.Core.Path.{_≡_};
 ghost use Prim.Native.Nat.{_≤_, _^_, _*_, _-_};
 ghost use lib.IntN.{pos, natAbs};
-ghost use Rattle.bound_coordinate.specs.Terms.{Readable, Small, Holds};
-ghost use Rattle.bound_node.specs.Spread.{up, Spreads};
+ghost use Rattle.bound_coordinate.specs.Inside.{Boundable, Small, Computed};
+ghost use Rattle.bound_node.specs.Inside.{up, Spreads};
 use bound_coordinate::row_sums::difference_at;
 
 // The size of a second difference.
@@ -18,18 +18,18 @@ fn size(difference: i64) -> u64
     }
 }
 
-// The fraction of what is apart over 625 times a power of 2, rounded up: one less than the denominator is added.
-fn whole(apart: u64, more: u64, shift: u32) -> i64
-    requires { ⌜ (apart ≤ 2 ^ 60) × (more ≡ 625 * 2 ^ shift - 1) × (shift ≤ 24) ⌝ }
-    ensures { λ r. ⌜ Holds (2 ^ 61) (pos (up apart (625 * 2 ^ shift))) r ⌝ }
+// The fraction of a sum over 625 times a power of 2, rounded up: one less than the denominator is added.
+fn whole(sum: u64, more: u64, shift: u32) -> i64
+    requires { ⌜ (sum ≤ 2 ^ 60) × (more ≡ 625 * 2 ^ shift - 1) × (shift ≤ 24) ⌝ }
+    ensures { λ r. ⌜ Computed (2 ^ 61) (pos (up sum (625 * 2 ^ shift))) r ⌝ }
 {
-    (((apart + more) >> shift) / 625) as i64
+    (((sum + more) >> shift) / 625) as i64
 }
 
 // The spread of one coordinate at break points 1 and 2: the gaps of its rows there times the sizes of its second
 // differences, in sixteenths rounded up.
 pub fn spread(c: [i64; 4], degree: u32, depth: u32) -> [i64; 2]
-    requires { ⌜ (Readable c degree) × (depth ≤ 8) ⌝ }
+    requires { ⌜ (Boundable c degree) × (depth ≤ 8) ⌝ }
     ensures { λ r. ⌜ Spreads degree depth c r ⌝ }
 {
     let shift = degree * depth;

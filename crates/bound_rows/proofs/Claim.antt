@@ -3,11 +3,11 @@ use mathlib.Core.Path.{refl}
 use Prim.Native.Nat.{ℕ, _<_}
 use native.Mathlib.Omega.{arith}
 use lib.IntN.{ℤ, pos}
-use Rattle.bound_rows.specs.Rows.{Row, pieces, thirds}
+use Rattle.bound_rows.specs.Rows.{Row, rowAt, pieces, thirds}
 use Rattle.bound_rows.specs.Joined.{Place, RowBounds}
 use Rattle.bound_rows.specs.Claim.{Bounds, EachRowBounds}
 use Rattle.bound_rows.proofs.Places.{located}
-use Rattle.bound_rows.proofs.Rows.{rowAt, row-2-first, row-3-first, row-3-second}
+use Rattle.bound_rows.proofs.Rows.{row-2-first, row-3-first, row-3-second}
 
 everywhere : {ρ : Row} {d : ℕ} {P : (p r : ℤ) → ℤ}
     → ((p r i a b : ℕ) → i < pieces → Place pieces i a b p r → RowBounds ρ d (P (pos p) (pos r)) i a b p r) → Bounds ρ d P

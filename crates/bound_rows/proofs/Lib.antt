@@ -8,3 +8,4 @@ pub mod Gaps
 pub mod Places
 pub mod Tabled
 pub mod Claim
+pub mod Rule

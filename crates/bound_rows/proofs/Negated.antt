@@ -21,7 +21,8 @@ entry-negated (c ∷ cs) (suc k) = entry-negated cs k
 pub value-negated : (p r : ℤ) (d : ℕ) (cs : List ℤ) → value p r d (negated cs) ≡ negℤ (value p r d cs)
 value-negated p r d cs =
     value-is p r d (negated cs)
-    ∙ casteljau-ext p r d (entry (negated cs)) (λ k. negℤ (pos 1) *ℤ entry cs k +ℤ pos 0 *ℤ entry cs k) (λ k l. entry-negated cs k ∙ turn (entry cs k))
+    ∙ casteljau-ext p r d (entry (negated cs)) (λ k. negℤ (pos 1) *ℤ entry cs k +ℤ pos 0 *ℤ entry cs k)
+    (λ k l. entry-negated cs k ∙ turn (entry cs k))
     ∙ casteljau-mix p r (negℤ (pos 1)) (pos 0) d (entry cs) (entry cs)
     ∙ sym (turn (casteljau p r d (entry cs)))
     ∙ ap negℤ (sym (value-is p r d cs))

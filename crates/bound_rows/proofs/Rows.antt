@@ -1,5 +1,5 @@
--- The rule of the rows, by one computed test: on each piece the Bernstein coefficients of the polynomial less the line are not negative, or those of
--- its halves are not (bernstein's `nonnegative`). The test is right for every degree and number of pieces.
+-- Rows that pass a computed test, joined by lines, bound their polynomials: on each piece the Bernstein coefficients of the polynomial less the
+-- line are not negative, or those of its halves are not (`nonnegative`). The test is right for every degree and number of pieces.
 use mathlib.Core.Path.{_≡_, refl, sym, _∙_, ap, ap₂}
 use mathlib.Core.Bool.{Bool, _&&_}
 use mathlib.Core.List.{List, [], _∷_}
@@ -7,7 +7,7 @@ use Prim.Native.Nat.{ℕ, suc, _+_, _-_, _≤_, _<_, zero-le, suc-le-suc}
 use native.Mathlib.Nat.{add-comm, lt-of-le-of-lt}
 use native.Mathlib.Omega.{arith}
 use lib.Dec.{T}
-use lib.ListN.{length, getD}
+use lib.ListN.{length}
 use lib.IntN.{ℤ, pos, negℤ, _+ℤ_, _-ℤ_, _*ℤ_, pow, one}
 use lib.Signed.{_≤ℤ_}
 use Rattle.integers.specs.Entry.{entry}
@@ -19,7 +19,7 @@ use Rattle.curve_bernstein.proofs.Recursion.{casteljau-ext, casteljau-mix, valu
 use Rattle.curve_bernstein.proofs.Stretch.{stretch, stretch-value}
 use Rattle.curve_bernstein.proofs.Nonnegative.{nonnegative, nonnegative-right, value-times}
 use Rattle.curve_halves.specs.Halves.{listed}
-use Rattle.bound_rows.specs.Rows.{Row, pieces, thirds}
+use Rattle.bound_rows.specs.Rows.{Row, rowAt, pieces, thirds}
 use Rattle.bound_rows.specs.Hats.{hat}
 use Rattle.bound_rows.specs.Joined.{Place, joined, RowBounds}
 use Rattle.bound_rows.specs.Claim.{polynomial2First, polynomial3First, polynomial3Second}
@@ -40,9 +40,13 @@ against m d h row i =
     let piece = pieceOf m d h i in
     listed (suc d) (λ j. pos 10000 *ℤ entry piece j +ℤ negℤ (pow (pos m) d) *ℤ (pos d *ℤ entry row i +ℤ pos j *ℤ (entry row (suc i) -ℤ entry row i)))
 
+-- how often the test may halve a piece: 7 times are needed, first for 2 pieces of degree 3
+abbrev halvings : ℕ
+halvings = 7
+
 -- the low row is nowhere above the polynomial on piece i, and the high row nowhere below
 abbrev pub passes : (m d : ℕ) → List ℤ → Row → ℕ → Bool
-passes m d h ρ i = nonnegative d 5 (against m d h (ρ .low) i) && nonnegative d 5 (negated (against m d h (ρ .high) i))
+passes m d h ρ i = nonnegative d halvings (against m d h (ρ .low) i) && nonnegative d halvings (negated (against m d h (ρ .high) i))
 
 -- all rows of degree d, on all pieces
 abbrev pub tested : (m d : ℕ) → List Row → Bool
@@ -86,16 +90,16 @@ module _ (m d : ℕ) (hd : 0 < d) (h : List ℤ) {i a b p r : ℕ} (hi : i < m) 
       ∙ ap (λ (q : ℕ). pos 10000 *ℤ (M *ℤ v) +ℤ negℤ M *ℤ (pos d *ℤ pow (pos q) (d - 1) *ℤ joined (entry row) i a b)) (add-comm b a ∙ w .whole)
       ∙ ring (M ∷ v ∷ line row ∷ []) (search sides depth 20) refl
 
-  not-negative : (cs : List ℤ) {z : ℤ} → T (nonnegative d 5 cs) → value (pos b) (pos a) d cs ≡ pow (pos m) d *ℤ z → NonNeg z
+  not-negative : (cs : List ℤ) {z : ℤ} → T (nonnegative d halvings cs) → value (pos b) (pos a) d cs ≡ pow (pos m) d *ℤ z → NonNeg z
   not-negative cs t e = nonneg-cancel (pow-positive (pos-lt (lt-of-le-of-lt zero-le hi)) d)
-      (nonneg-≡ (nonnegative-right d 5 cs t (pos b) (pos a) (natural b) (natural a)) (sym e))
+      (nonneg-≡ (nonnegative-right d halvings cs t (pos b) (pos a) (natural b) (natural a)) (sym e))
 
   module _ (ρ : Row) (t : T (passes m d h ρ i)) where
-    low-passes : T (nonnegative d 5 (against m d h (ρ .low) i))
-    low-passes = and-left (nonnegative d 5 (against m d h (ρ .low) i)) (nonnegative d 5 (negated (against m d h (ρ .high) i))) t
+    low-passes : T (nonnegative d halvings (against m d h (ρ .low) i))
+    low-passes = and-left (nonnegative d halvings (against m d h (ρ .low) i)) (nonnegative d halvings (negated (against m d h (ρ .high) i))) t
 
-    high-passes : T (nonnegative d 5 (negated (against m d h (ρ .high) i)))
-    high-passes = and-right (nonnegative d 5 (against m d h (ρ .low) i)) (nonnegative d 5 (negated (against m d h (ρ .high) i))) t
+    high-passes : T (nonnegative d halvings (negated (against m d h (ρ .high) i)))
+    high-passes = and-right (nonnegative d halvings (against m d h (ρ .low) i)) (nonnegative d halvings (negated (against m d h (ρ .high) i))) t
 
     pub low-line : line (ρ .low) ≤ℤ polynomial
     low-line = le-of-gap (not-negative (against m d h (ρ .low) i) low-passes (against-value (ρ .low)))
@@ -108,10 +112,6 @@ module _ (m d : ℕ) (hd : 0 < d) (h : List ℤ) {i a b p r : ℕ} (hi : i < m) 
         ∙ ap negℤ (against-value (ρ .high)) ∙ ring (M ∷ polynomial ∷ x ∷ []) (search sides depth 20) refl))
 
 -- ---- the rule: rows that pass, joined by lines, bound their polynomials at every rational parameter
--- row k, which belongs to second difference k
-abbrev pub rowAt : List Row → ℕ → Row
-rowAt ρs k = getD ρs k (record { high = []; low = [] })
-
 module _ (m d : ℕ) (ρs : List Row) (hd : 0 < d) (t : T (tested m d ρs)) {k : ℕ} (hk : k < length ρs)
     {i a b p r : ℕ} (hi : i < m) (w : Place m i a b p r) where
   row-passes : T (passes m d (hat d k) (rowAt ρs k) i)
@@ -132,28 +132,30 @@ module _ (m d : ℕ) (ρs : List Row) (hd : 0 < d) (t : T (tested m d ρs)) {k :
       let l = joined (entry (rowAt ρs k .low)) i a b in
       let h = joined (entry (rowAt ρs k .high)) i a b in
       record {
-        below = *ℤ-cancel (pos-lt hd) (le-by (pos d ∷ P ∷ v ∷ W ∷ l ∷ []) (gap row-below +₀ balance (negℤ (pos 10000)) is) (search sides depth 20) refl);
-        above = *ℤ-cancel (pos-lt hd) (le-by (pos d ∷ P ∷ v ∷ W ∷ h ∷ []) (gap row-above +₀ balance (pos 10000) is) (search sides depth 20) refl);
+        below = *ℤ-cancel (pos-lt hd)
+            (le-by (pos d ∷ P ∷ v ∷ W ∷ l ∷ []) (gap row-below +₀ balance (negℤ (pos 10000)) is) (search sides depth 20) refl);
+        above = *ℤ-cancel (pos-lt hd)
+            (le-by (pos d ∷ P ∷ v ∷ W ∷ h ∷ []) (gap row-above +₀ balance (pos 10000) is) (search sides depth 20) refl);
       }
 
--- ---- today's table, tested once
-pub table-tested : (d : ℕ) → 1 ≤ d → d ≤ 3 → T (tested pieces d (thirds d))
+-- ---- document 01's rows, tested once
+pub thirds-tested : (d : ℕ) → 1 ≤ d → d ≤ 3 → T (tested pieces d (thirds d))
 unfolding hat pow one
-table-tested = degrees (λ d. T (tested pieces d (thirds d))) tt tt tt
+thirds-tested = degrees (λ d. T (tested pieces d (thirds d))) tt tt tt
 
-pub table-count : (d : ℕ) → 1 ≤ d → d ≤ 3 → length (thirds d) ≡ d - 1
-table-count = degrees (λ d. length (thirds d) ≡ d - 1) refl refl refl
-
--- ---- today's rows, in document 01's words: u is p / (p + r)
+-- ---- document 01's rows, in its words: u is p / (p + r)
 module _ {i a b p r : ℕ} (hi : i < pieces) (w : Place pieces i a b p r) where
   -- −u(1−u)
   pub row-2-first : RowBounds (rowAt (thirds 2) 0) 2 (polynomial2First (pos p) (pos r)) i a b p r
-  row-2-first = row-bounds pieces 2 (thirds 2) (omega arith) (table-tested 2 (omega arith) (omega arith)) (omega arith) hi w (hat-2-first (pos p) (pos r))
+  row-2-first = row-bounds pieces 2 (thirds 2)
+      (omega arith) (thirds-tested 2 (omega arith) (omega arith)) (omega arith) hi w (hat-2-first (pos p) (pos r))
 
   -- −u(1−u)(2−u)
   pub row-3-first : RowBounds (rowAt (thirds 3) 0) 3 (polynomial3First (pos p) (pos r)) i a b p r
-  row-3-first = row-bounds pieces 3 (thirds 3) (omega arith) (table-tested 3 (omega arith) (omega arith)) (omega arith) hi w (hat-3-first (pos p) (pos r))
+  row-3-first = row-bounds pieces 3 (thirds 3)
+      (omega arith) (thirds-tested 3 (omega arith) (omega arith)) (omega arith) hi w (hat-3-first (pos p) (pos r))
 
   -- −u(1−u)(1+u)
   pub row-3-second : RowBounds (rowAt (thirds 3) 1) 3 (polynomial3Second (pos p) (pos r)) i a b p r
-  row-3-second = row-bounds pieces 3 (thirds 3) (omega arith) (table-tested 3 (omega arith) (omega arith)) (omega arith) hi w (hat-3-second (pos p) (pos r))
+  row-3-second = row-bounds pieces 3 (thirds 3)
+      (omega arith) (thirds-tested 3 (omega arith) (omega arith)) (omega arith) hi w (hat-3-second (pos p) (pos r))

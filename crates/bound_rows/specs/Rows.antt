@@ -1,6 +1,7 @@
--- The enclosure rows (document 01, "Enclosure rows"), in ten-thousandths at the break points.
+-- The enclosure rows of document 01, "Enclosure rows", in ten-thousandths at the break points 0 to 3.
 use mathlib.Core.List.{List, [], _∷_}
 use Prim.Native.Nat.{ℕ, zero, suc}
+use lib.ListN.{getD}
 use lib.IntN.{ℤ, pos, negℤ}
 
 -- the rows of one second difference
@@ -8,7 +9,11 @@ pub record Row : Type 0 where
   pub high : List ℤ
   pub low : List ℤ
 
--- how many pieces a node has: its break points are 0 to 3
+-- row k, which belongs to second difference k
+abbrev pub rowAt : List Row → ℕ → Row
+rowAt ρs k = getD ρs k (record { high = []; low = [] })
+
+-- how many pieces document 01 has
 abbrev pub pieces : ℕ
 pieces = 3
 
@@ -20,8 +25,19 @@ abbrev pub thirds : ℕ → List Row
 thirds zero = []
 thirds (suc zero) = []
 thirds (suc (suc zero)) =
-    record { high = pos 0 ∷ minus 2222 ∷ minus 2222 ∷ pos 0 ∷ []; low = minus 278 ∷ minus 2500 ∷ minus 2500 ∷ minus 278 ∷ [] } ∷ []
+    record {
+      high = pos 0 ∷ minus 2222 ∷ minus 2222 ∷ pos 0 ∷ [];
+      low = minus 278 ∷ minus 2500 ∷ minus 2500 ∷ minus 278 ∷ [];
+    }
+    ∷ []
 thirds (suc (suc (suc zero))) =
-    record { high = pos 0 ∷ minus 3703 ∷ minus 2962 ∷ pos 0 ∷ []; low = minus 696 ∷ minus 4400 ∷ minus 3155 ∷ minus 88 ∷ [] }
-    ∷ record { high = pos 0 ∷ minus 2962 ∷ minus 3703 ∷ pos 0 ∷ []; low = minus 88 ∷ minus 3155 ∷ minus 4400 ∷ minus 696 ∷ [] } ∷ []
+    record {
+      high = pos 0 ∷ minus 3703 ∷ minus 2962 ∷ pos 0 ∷ [];
+      low = minus 696 ∷ minus 4400 ∷ minus 3155 ∷ minus 88 ∷ [];
+    }
+    ∷ record {
+      high = pos 0 ∷ minus 2962 ∷ minus 3703 ∷ pos 0 ∷ [];
+      low = minus 88 ∷ minus 3155 ∷ minus 4400 ∷ minus 696 ∷ [];
+    }
+    ∷ []
 thirds (suc (suc (suc (suc d)))) = []

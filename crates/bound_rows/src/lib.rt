@@ -1,1 +1,2 @@
-// The enclosure rows, and the polynomials that they bound. There is no code here: the rows stand in the code of `row_sums`.
+// The enclosure rows of one to eight pieces, their rule, and the polynomials that they bound. There is no code here:
+// the rows of three pieces stand in the code of `bound_coordinate`.

@@ -14,7 +14,8 @@ use Rattle.integers.proofs.Between.{between-low, between-high}
 use Rattle.integers.proofs.First.{moved, bad-moved, bad-below}
 use Rattle.integers.proofs.Both.{both-true}
 use Rattle.boxes.specs.declared.Box.{Box}
-use Rattle.boxes.specs.Ranges.{farthest, inRange, lowFine, sideFine, boxNumberFine, numbersOf, boxFault, placeOr, Interval}
+use Rattle.boxes.specs.Ranges.{farthest, inRange, lowFine, boxNumberFine, numbersOf, boxFault, placeOr, Interval}
+use Rattle.boxes.specs.Inside.{sideFine}
 
 -- ---- test by test: x low, x high, y low, y high
 abbrev pub faultBy : Bool → Bool → Bool → Bool → ℕ
@@ -24,12 +25,16 @@ faultBy true true false d = 2
 faultBy true true true false = 3
 faultBy true true true true = 4
 
-pub fault-by : (b : Box) → placeOr 4 (boxFault b) ≡ faultBy (lowFine (b .«x_low») (b .«x_high»)) (inRange (b .«x_high»)) (lowFine (b .«y_low») (b .«y_high»)) (inRange (b .«y_high»))
+pub fault-by : (b : Box) → placeOr 4 (boxFault b)
+    ≡ faultBy (lowFine (b .«x_low») (b .«x_high»)) (inRange (b .«x_high»)) (lowFine (b .«y_low») (b .«y_high»)) (inRange (b .«y_high»))
 unfolding boxFault firstBad
 fault-by b = go (lowFine (b .«x_low») (b .«x_high»)) (inRange (b .«x_high»)) (lowFine (b .«y_low») (b .«y_high»)) (inRange (b .«y_high»))
   where
     go : (p q r s : Bool)
-        → placeOr 4 (elim p [ true ↦ elim q [ true ↦ elim r [ true ↦ elim s [ true ↦ none | false ↦ some 3 ] | false ↦ some 2 ] | false ↦ some 1 ] | false ↦ some 0 ]) ≡ faultBy p q r s
+        → placeOr 4 (elim p [
+          | true ↦ elim q [ true ↦ elim r [ true ↦ elim s [ true ↦ none | false ↦ some 3 ] | false ↦ some 2 ] | false ↦ some 1 ]
+          | false ↦ some 0
+        ]) ≡ faultBy p q r s
     go false q r s = refl
     go true false r s = refl
     go true true false s = refl

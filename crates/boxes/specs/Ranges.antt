@@ -21,16 +21,10 @@ inRange z = between (negℤ (pos farthest)) (pos farthest) z
 abbrev pub lowFine : ℤ → ℤ → Bool
 lowFine low high = inRange low && leZ low high
 
--- a low and a high that are both fine, in three comparisons; for a private function
-abbrev pub sideFine : ℤ → ℤ → Bool
-sideFine low high = leZ (negℤ (pos farthest)) low && leZ low high && leZ high (pos farthest)
-
--- The number z at place p of a list of boxes, in front of `next`: at an even place stands a low, and next is its high; at an odd place stands a high.
+-- The number z at place p of a list of boxes, in front of `next`: at an even place stands a low, and next is its high;
+-- at an odd place stands a high.
 abbrev pub boxNumberFine : ℕ → ℤ → ℤ → Bool
 boxNumberFine p z next = elim (p % 2) [ zero ↦ lowFine z next | suc _ ↦ inRange z ]
-
-abbrev pub boxOf : ℤ → ℤ → ℤ → ℤ → Box
-boxOf a b c d = record { «x_low» = a; «x_high» = b; «y_low» = c; «y_high» = d }
 
 abbrev pub numbersOf : Box → List ℤ
 numbersOf b = b .«x_low» ∷ b .«x_high» ∷ b .«y_low» ∷ b .«y_high» ∷ []
@@ -47,7 +41,7 @@ abbrev pub placeOr : ℕ → Option ℕ → ℕ
 placeOr n (some p) = p
 placeOr n none = n
 
--- ---- in words: a low and a high in range, the low not above the high
+-- in words: a low and a high in range, the low not above the high
 pub record Interval (low high : ℤ) : Type 0 where
   pub from : negℤ (pos farthest) ≤ℤ low
   pub order : low ≤ℤ high

@@ -1,6 +1,7 @@
 // Boxes in whole sixteenths, as callers hand them over, and the range of their numbers and of a point's.
 ghost use mathlib.Core.Path.{_≡_};
-ghost use Rattle.boxes.specs.Ranges.{inRange, lowFine, sideFine, boxOf, boxFault, placeOr};
+ghost use Rattle.boxes.specs.Ranges.{inRange, lowFine, boxFault, placeOr};
+ghost use Rattle.boxes.specs.Inside.{sideFine, boxOf};
 
 // A box: what lies from the lows to the highs, edges included.
 #[repr(C)]
@@ -11,7 +12,8 @@ pub struct Box {
     pub y_high: i32,
 }
 
-// Whether a number of a box or of a point is in its range, −536,870,912 to 536,870,912. Every number may be asked about.
+// Whether a number of a box or of a point is in its range, −536,870,912 to 536,870,912. Every number may be asked
+// about.
 pub fn in_range(n: i32) -> bool
     ensures { λ r. ⌜ r ≡ inRange n ⌝ }
 {
@@ -39,8 +41,8 @@ pub fn side_fine(low: i32, high: i32) -> bool
 }
 
 impl Box {
-    // The place of the first bad number, 0 to 3 in the order of the fields, or 4 where all are fine. A low above its high is named by the low. The numbers are looked
-    // at one by one only where one is bad.
+    // The place of the first bad number, 0 to 3 in the order of the fields, or 4 where all are fine. A low above its
+    // high is named by the low. The numbers are looked at one by one only where one is bad.
     pub fn fault(self) -> usize
         ensures { λ r. ⌜ r ≡ placeOr 4 (boxFault self) ⌝ }
     {
@@ -57,7 +59,7 @@ impl Box {
     }
 }
 
-// The same number by number.
+// The place of the first bad number of a box, or 4, number by number.
 fn first_bad(x_low: i32, x_high: i32, y_low: i32, y_high: i32) -> usize
     ensures { λ r. ⌜ r ≡ placeOr 4 (boxFault (boxOf «x_low» «x_high» «y_low» «y_high»)) ⌝ }
 {

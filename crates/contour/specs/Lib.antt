@@ -1,5 +1,5 @@
--- What a reader must believe of answers in numbers.
-pub mod CAnswers
+-- What a reader must believe of the C interface: the numbers of each answer (Numbers, Drawings), and of what outcome
+-- they are (Answers).
+pub mod Numbers
 pub mod Drawings
--- What a reader must believe of the C interface: the numbers of an outcome, and what they are of.
 pub mod Answers

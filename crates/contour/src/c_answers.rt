@@ -1,6 +1,6 @@
 // Answers in numbers, as the C interface gives them: 0 and 0 and what was found, or a refusal's number and spot.
 ghost use mathlib.Core.Path.{_≡_};
-ghost use Rattle.contour.specs.CAnswers.{answerOf, judgingAnswerOf};
+ghost use Rattle.contour.specs.Numbers.{bandAnswerOf, judgingAnswerOf};
 ghost use Rattle.contour.specs.Drawings.{drawingOf};
 use band::banding::Banded;
 use draw::drawing::Drawn;
@@ -18,7 +18,7 @@ pub struct Answer {
 
 // The numbers of an answer.
 pub fn in_numbers(banded: Banded) -> Answer
-    ensures { λ r. ⌜ r ≡ answerOf banded ⌝ }
+    ensures { λ r. ⌜ r ≡ bandAnswerOf banded ⌝ }
 {
     match banded {
         Banded::Done {
@@ -42,7 +42,8 @@ pub fn in_numbers(banded: Banded) -> Answer
     }
 }
 
-// What judging answers, in numbers: a refusal's number and spot, or 0 and 0 and whether the point is on, with the record and the cover that hold it.
+// What judging answers, in numbers: a refusal's number and spot, or 0 and 0 and whether the point is on, with the
+// record and the cover that hold it.
 #[repr(C)]
 pub struct JudgingAnswer {
     pub refusal: u32,

@@ -1,9 +1,10 @@
 // The C interface: what a program in another language calls. include/contour_band.h says the same for C.
 ghost use mathlib.Core.Path.{_≡_};
 ghost use lib.ListN.{length};
+ghost use Rattle.setting.specs.Setting.{standard};
 ghost use Rattle.band.specs.Banding.{banded, written};
 ghost use Rattle.draw.specs.Drawing.{drawn, drawnInto};
-ghost use Rattle.contour.specs.CAnswers.{answerOf};
+ghost use Rattle.contour.specs.Numbers.{bandAnswerOf};
 ghost use Rattle.contour.specs.Drawings.{drawingOf};
 ghost use Rattle.engine.specs.Outcomes.{writtenFor};
 ghost use Rattle.contour.specs.Answers.{outcomeAnswerOf, JudgedInNumbers, AnsweredInNumbers};
@@ -22,7 +23,9 @@ pub mod c_answers;
 // Puts a band round an outline at a tolerance in sixteenths, and writes the leaves' records to the front of the list.
 #[no_mangle]
 pub extern "C" fn contour_band(outline: &[i32], tolerance: i32, records: &mut [i32]) -> Answer
-    ensures { λ r. ⌜ (r ≡ answerOf (banded 64 tolerance (now (outline .entry)) (length (now (records .entry))))) × (now (records .exit) ≡ written 64 tolerance (now (outline .entry)) (now (records .entry))) ⌝ }
+    ensures { λ r. ⌜ r
+        ≡ bandAnswerOf (banded standard tolerance (now (outline .entry)) (length (now (records .entry)))) ⌝ }
+    ensures { λ r. ⌜ now (records .exit) ≡ written standard tolerance (now (outline .entry)) (now (records .entry)) ⌝ }
 {
     let banded = band::band(outline, tolerance, records);
     in_numbers(banded)
@@ -60,7 +63,8 @@ pub extern "C" fn contour_band_and_judge(
     x: i32,
     y: i32,
 ) -> OutcomeAnswer
-    ensures { λ r. ⌜ now (records .exit) ≡ writtenFor 64 tolerance (now (outline .entry)) x y (now (records .entry)) ⌝ }
+    ensures { λ r. ⌜ now (records .exit)
+        ≡ writtenFor standard tolerance (now (outline .entry)) x y (now (records .entry)) ⌝ }
     ensures { λ r. ⌜ AnsweredInNumbers tolerance (now (outline .entry)) x y (now (records .entry)) r ⌝ }
 {
     let outcome = band_and_judge(outline, tolerance, records, x, y);
@@ -106,8 +110,9 @@ fn outcome_in_numbers(outcome: Outcome) -> OutcomeAnswer
 // Draws the convex hull of two boxes, and writes x and y of its vertices to the front of the list.
 #[no_mangle]
 pub extern "C" fn contour_draw(first: Box, second: Box, vertices: &mut [i32]) -> Drawing
-    ensures { λ r. ⌜ (r ≡ drawingOf (drawn first second (length (now (vertices .entry))))) × (now (vertices .exit) ≡ drawnInto first second (now (vertices .entry))) ⌝ }
+    ensures { λ r. ⌜ r ≡ drawingOf (drawn first second (length (now (vertices .entry)))) ⌝ }
+    ensures { λ r. ⌜ now (vertices .exit) ≡ drawnInto first second (now (vertices .entry)) ⌝ }
 {
-    let drawn = draw::cover::draw(first, second, vertices);
+    let drawn = draw::draw(first, second, vertices);
     drawing_in_numbers(drawn)
 }

@@ -18,6 +18,6 @@ Idle Again = Unit {0}
 Idle Failed = Unit {0}
 
 -- a list of n holds the text that was read
-abbrev pub Holds : Input → ℕ → Type 0
-Holds (Text k) n = k ≤ n
-Holds Unreadable n = Unit {0}
+abbrev pub InputFits : Input → ℕ → Type 0
+InputFits (Text k) n = k ≤ n
+InputFits Unreadable n = Unit {0}

@@ -2,7 +2,7 @@
 // error says why. What is read and written no contract can say, so these functions only move bytes, and say how many.
 ghost use Prim.Native.Nat.{_≤_};
 ghost use lib.ListN.{length};
-ghost use Rattle.contour_band.specs.Steps.{Fits, Idle, Holds};
+ghost use Rattle.contour_band.specs.Steps.{Fits, Idle, InputFits};
 
 // What one call of `read` or `write` did.
 enum Step {
@@ -43,7 +43,7 @@ fn put_answer(text: &[u8]) {
 // Reads standard input to its end, or until the list is full. A proved loop has to end, and nothing says that an input
 // does, so the turns are counted down from a number that no run uses up.
 fn read_text(text: &mut [u8]) -> Input
-    ensures { λ r. ⌜ Holds r (length (now (text .exit))) ⌝ }
+    ensures { λ r. ⌜ InputFits r (length (now (text .exit))) ⌝ }
 {
     let mut n: usize = 0;
     let mut turns = u64::MAX;

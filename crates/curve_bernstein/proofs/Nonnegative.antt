@@ -53,11 +53,13 @@ halved : (p r : ℤ) (n : ℕ) (cs : List ℤ) → NonNeg (value (pos 2 *ℤ p) 
 halved p r n cs h = nonneg-cancel (pow-positive {k = pos 2} (ltZ-yes tt) n) (nonneg-≡ h (sym (value-times (pos 2) p r n cs)))
 
 from-left : (p r : ℤ) (n : ℕ) (cs : List ℤ) → NonNeg (value (pos 2 *ℤ p) (r -ℤ p) n (left n cs)) → NonNeg (value p r n cs)
-from-left p r n cs h = halved p r n cs (nonneg-≡ h (sym (half-part-value 0 (pos 2 *ℤ p) (r -ℤ p) n cs (left n cs) (stretch-is (pos 0) (pos 2) (pos 1) (pos 1) n cs)
+from-left p r n cs h = halved p r n cs (nonneg-≡ h (sym (half-part-value 0 (pos 2 *ℤ p) (r -ℤ p) n cs (left n cs)
+    (stretch-is (pos 0) (pos 2) (pos 1) (pos 1) n cs)
     ∙ ap₂ (λ x y. value x y n cs) (ring (p ∷ r ∷ []) (search sides depth 20) refl) (ring (p ∷ r ∷ []) (search sides depth 20) refl))))
 
 from-right : (p r : ℤ) (n : ℕ) (cs : List ℤ) → NonNeg (value (p -ℤ r) (pos 2 *ℤ r) n (right n cs)) → NonNeg (value p r n cs)
-from-right p r n cs h = halved p r n cs (nonneg-≡ h (sym (half-part-value 1 (p -ℤ r) (pos 2 *ℤ r) n cs (right n cs) (stretch-is (pos 1) (pos 1) (pos 2) (pos 0) n cs)
+from-right p r n cs h = halved p r n cs (nonneg-≡ h (sym (half-part-value 1 (p -ℤ r) (pos 2 *ℤ r) n cs (right n cs)
+    (stretch-is (pos 1) (pos 1) (pos 2) (pos 0) n cs)
     ∙ ap₂ (λ x y. value x y n cs) (ring (p ∷ r ∷ []) (search sides depth 20) refl) (ring (p ∷ r ∷ []) (search sides depth 20) refl))))
 
 -- the test with this fuel is right for n + 1 coefficients
@@ -79,4 +81,5 @@ nonnegative-right n zero cs t p r hp hr = value-nonneg hp hr n cs (entry-nonnega
 nonnegative-right n (suc fuel) cs t p r hp hr = by-halves n fuel (nonnegative-right n fuel) cs p r hp hr (all-nonnegative cs) (entry-nonnegative cs) t
 
 pub nonnegative-sound : (n fuel : ℕ) (cs : List ℤ) → T (nonnegative n fuel cs) → (p r : ℕ) → pos 0 ≤ℤ value (pos p) (pos r) n cs
-nonnegative-sound n fuel cs t p r = le-of-gap (nonneg-≡ (nonnegative-right n fuel cs t (pos p) (pos r) (natural p) (natural r)) (+ℤ-idr (value (pos p) (pos r) n cs)))
+nonnegative-sound n fuel cs t p r = le-of-gap
+    (nonneg-≡ (nonnegative-right n fuel cs t (pos p) (pos r) (natural p) (natural r)) (+ℤ-idr (value (pos p) (pos r) n cs)))

@@ -85,7 +85,8 @@ module _ (p r : ℤ) where
   unfolding choose pow
   step d f =
       sum-first d (term (suc d) f)
-      ∙ ap₂ _+ℤ_ first (sum-ext d (λ i. term (suc d) f (suc i)) (λ i. p *ℤ term d g i +ℤ pos 1 *ℤ raised d f (suc i)) (λ i l. next i) ∙ sum-mix p (pos 1) d (term d g) (λ i. raised d f (suc i)))
+      ∙ ap₂ _+ℤ_ first (sum-ext d (λ i. term (suc d) f (suc i)) (λ i. p *ℤ term d g i +ℤ pos 1 *ℤ raised d f (suc i)) (λ i l. next i)
+      ∙ sum-mix p (pos 1) d (term d g) (λ i. raised d f (suc i)))
       ∙ turn (raised d f 0) (sum d (term d g)) (sum d (λ i. raised d f (suc i)))
       ∙ ap (λ z. z +ℤ p *ℤ sum d (term d g)) (sym (sum-first d (raised d f)) ∙ raised-sum d f)
     where
@@ -174,5 +175,6 @@ mix-size p r a b {B} h k = le-trans (abs-add (pos r *ℤ a) (pos p *ℤ b))
 pub casteljau-size : (p r B d : ℕ) (f : ℕ → ℤ) → ((k : ℕ) → k ≤ d → natAbs (f k) ≤ B) → natAbs (casteljau (pos p) (pos r) d f) ≤ (p + r) ^ d * B
 unfolding casteljau
 casteljau-size p r B zero f h = rw (pow-zero, one-mul) (h zero zero-le)
-casteljau-size p r B (suc d) f h = rw (pow-succ', mul-assoc) (mix-size p r (casteljau (pos p) (pos r) d f) (casteljau (pos p) (pos r) d (λ k. f (suc k)))
+casteljau-size p r B (suc d) f h = rw (pow-succ', mul-assoc)
+    (mix-size p r (casteljau (pos p) (pos r) d f) (casteljau (pos p) (pos r) d (λ k. f (suc k)))
     (casteljau-size p r B d f (λ k l. h k (one-on l))) (casteljau-size p r B d (λ k. f (suc k)) (λ k l. h (suc k) (suc-le-suc l))))

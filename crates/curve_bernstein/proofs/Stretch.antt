@@ -80,7 +80,8 @@ module _ (p0 r0 p1 r1 : ℤ) where
       turn : (a b c d : ℤ) → r1 *ℤ (α *ℤ a +ℤ β *ℤ c) +ℤ p1 *ℤ (α *ℤ b +ℤ β *ℤ d) ≡ α *ℤ (r1 *ℤ a +ℤ p1 *ℤ b) +ℤ β *ℤ (r1 *ℤ c +ℤ p1 *ℤ d)
       turn a b c d = ring (p1 ∷ r1 ∷ α ∷ β ∷ a ∷ b ∷ c ∷ d ∷ []) (search sides depth 40 fits 9999) refl
 
-  pub part-nonneg : NonNeg p0 → NonNeg r0 → NonNeg p1 → NonNeg r1 → (n : ℕ) (f : ℕ → ℤ) → ((k : ℕ) → k ≤ n → NonNeg (f k)) → (k : ℕ) → k ≤ n → NonNeg (part n f k)
+  pub part-nonneg : NonNeg p0 → NonNeg r0 → NonNeg p1 → NonNeg r1 → (n : ℕ) (f : ℕ → ℤ)
+      → ((k : ℕ) → k ≤ n → NonNeg (f k)) → (k : ℕ) → k ≤ n → NonNeg (part n f k)
   unfolding part
   part-nonneg h0 g0 h1 g1 zero f h k l = h zero zero-le
   part-nonneg h0 g0 h1 g1 (suc n) f h zero l = casteljau-nonneg p0 r0 h0 g0 (suc n) f h
@@ -92,7 +93,8 @@ module _ (p0 r0 p1 r1 : ℤ) where
   part-constant w e0 e1 B zero k l = ring (B ∷ []) (search sides depth 20) refl
   part-constant w e0 e1 B (suc n) zero l = casteljau-constant p0 r0 B (suc n) ∙ ap (λ q. pow q (suc n) *ℤ B) e0
   part-constant w e0 e1 B (suc n) (suc k) l =
-      ap (λ b. part n (λ j. b) k) (ring (p1 ∷ r1 ∷ B ∷ []) {a = r1 *ℤ B +ℤ p1 *ℤ B} {b = (p1 +ℤ r1) *ℤ B} (search sides depth 20) refl ∙ ap (λ q. q *ℤ B) e1)
+      ap (λ b. part n (λ j. b) k) (ring (p1 ∷ r1 ∷ B ∷ []) {a = r1 *ℤ B +ℤ p1 *ℤ B} {b = (p1 +ℤ r1) *ℤ B} (search sides depth 20) refl
+      ∙ ap (λ q. q *ℤ B) e1)
       ∙ part-constant w e0 e1 (w *ℤ B) n k (le-of-suc-le-suc l)
       ∙ ring (pow w n ∷ w ∷ B ∷ []) (search sides depth 20) refl
 
@@ -263,4 +265,5 @@ pub half-part-value : (b : ℕ) (p r : ℤ) (n : ℕ) (cs hs : List ℤ) → ((k
     → value p r n hs ≡ value (pos b *ℤ (p +ℤ r) +ℤ p) (pos (1 - b) *ℤ (p +ℤ r) +ℤ r) n cs
 half-part-value b p r n cs hs h =
     part-list-value (pos b) (pos (suc (1 - b))) (pos (suc b)) (pos (1 - b)) r p n cs hs h
-    ∙ ap₂ (λ x y. value x y n cs) (ring (pos b ∷ p ∷ r ∷ []) (search sides depth 20) refl) (ring (pos (1 - b) ∷ p ∷ r ∷ []) (search sides depth 20) refl)
+    ∙ ap₂ (λ x y. value x y n cs) (ring (pos b ∷ p ∷ r ∷ []) (search sides depth 20) refl)
+    (ring (pos (1 - b) ∷ p ∷ r ∷ []) (search sides depth 20) refl)

@@ -1,5 +1,5 @@
 -- Halving one coordinate in code. Its control values are bounded by `Each`, so each sum fits, and what is returned is a list of formulas in them:
---     add-s0 c = fits! (search (coordinate, c .before .before .pre) depth 40) tt
+--     add-s0 c = fits! (search coordinate depth 40) tt
 --     returns c = simp one-*ℤ (are! (search (coordinates, c .before .before .pre) depth 40) tt)
 -- with the path to `Each`. The formulas are the definition's own but for its factor 2^0, which `one-*ℤ` takes away.
 use mathlib.Core.Path.{_≡_, refl, ap₂}

@@ -13,7 +13,7 @@ use Rattle.integers.proofs.Order.{natural, gap<, le-by, lt-by, pos-lt}
 use Rattle.integers.proofs.Rounding.{floor-unique, shift-floor}
 use Rattle.curve_bernstein.proofs.Recursion.{casteljau, one-on}
 use Rattle.curve_bernstein.proofs.Stretch.{mix, part, part-ext, part-part, part-times, part-difference, span}
-use Rattle.curve_halves.specs.Onward.{rise, extended, onwardAt, onward}
+use Rattle.curve_halves.specs.Inside.{rise, extended, onwardAt, onward}
 use Rattle.curve_halves.proofs.Values.{denominator}
 
 -- After stretch s, of those with e after it, comes stretch s′ of those that are w times as long, with e′ after it.

@@ -6,10 +6,11 @@ use native.Mathlib.Nat.{le-trans, le-of-eq, add-le-add, mul-le-mul, two-pow-succ
 use native.Mathlib.Omega.{arith}
 use lib.Pow.{pow-add}
 use lib.IntN.{ℤ, pos, natAbs, _*ℤ_, pow}
+use Rattle.setting.specs.Setting.{controlValues}
 use Rattle.integers.specs.Entry.{entry}
 use Rattle.integers.proofs.RingLaws.{pow-natural}
 use Rattle.integers.proofs.Size.{abs-add, abs-mul}
-use Rattle.curve_halves.specs.Halves.{listed, triangle, left, right, reversed, four}
+use Rattle.curve_halves.specs.Halves.{listed, triangle, left, right, reversed, padded}
 use Rattle.curve_halves.specs.Sizes.{Each}
 use Rattle.curve_halves.proofs.Values.{right-mirrored}
 
@@ -19,8 +20,8 @@ listed-under B zero f h k = zero-le
 listed-under B (suc n) f h zero = h 0 (omega arith)
 listed-under B (suc n) f h (suc k) = listed-under B n (λ i. f (suc i)) (λ i l. h (suc i) (omega arith)) k
 
-pub each-four : {B : ℕ} {cs : List ℤ} → Each B cs → Each B (four cs)
-each-four {B} {cs} h = record { under = listed-under B 4 (entry cs) (λ k l. h .under k) }
+pub each-padded : {B : ℕ} {cs : List ℤ} → Each B cs → Each B (padded cs)
+each-padded {B} {cs} h = record { under = listed-under B controlValues (entry cs) (λ k l. h .under k) }
 
 pub each-reversed : {B : ℕ} {cs : List ℤ} → Each B cs → (d : ℕ) → Each B (reversed d cs)
 each-reversed {B} {cs} h d = record { under = listed-under B (suc d) (λ k. entry cs (d - k)) (λ k l. h .under (d - k)) }

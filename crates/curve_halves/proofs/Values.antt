@@ -7,13 +7,14 @@ use native.Mathlib.Nat.{le-of-suc-le-suc, not-suc-le-zero, sub-zero, suc-sub-suc
 use native.Mathlib.Omega.{arith}
 use lib.Pow.{pow-add}
 use lib.IntN.{ℤ, pos, natAbs, _+ℤ_, _*ℤ_, pow, one, +ℤ-comm}
+use Rattle.setting.specs.Setting.{controlValues}
 use Rattle.integers.specs.Entry.{entry}
 use Rattle.integers.proofs.RingLaws.{pow-natural}
 use Rattle.integers.proofs.Ring.{ring, sides}
 use Rattle.curve_bernstein.specs.Value.{value}
 use Rattle.curve_bernstein.proofs.Recursion.{casteljau, casteljau-ext, casteljau-size, value-is}
 use Rattle.curve_bernstein.proofs.Stretch.{mix, part, part-reversed, half-part, half-part-value}
-use Rattle.curve_halves.specs.Halves.{listed, triangle, left, right, reversed, four}
+use Rattle.curve_halves.specs.Halves.{listed, triangle, left, right, reversed, padded}
 use Rattle.curve_halves.specs.Sizes.{Each}
 
 -- ---- lists from a sequence
@@ -52,27 +53,30 @@ pub right-mirrored : (d : ℕ) (cs : List ℤ) → right d cs ≡ reversed d (le
 unfolding right
 right-mirrored d cs = sym (reversed-twice d (λ k. pow (pos 2) k *ℤ triangle cs (d - k) k)) ∙ ap (reversed d) (mirror d cs)
 
--- filling up to four control values changes nothing
-reversed-four : (d : ℕ) → d ≤ 3 → (cs : List ℤ) → reversed d (four cs) ≡ reversed d cs
-reversed-four d h cs =
-    listed-ext (suc d) (λ k. entry (four cs) (d - k)) (λ k. entry cs (d - k)) (λ k l. listed-entry 4 (entry cs) (d - k) (omega arith))
+-- padding changes nothing
+pub padded-entry : (cs : List ℤ) (k : ℕ) → k < controlValues → entry (padded cs) k ≡ entry cs k
+padded-entry cs = listed-entry controlValues (entry cs)
 
-triangle-four : (cs : List ℤ) (j i : ℕ) → i + j ≤ 3 → triangle (four cs) j i ≡ triangle cs j i
+reversed-padded : (d : ℕ) → d ≤ 3 → (cs : List ℤ) → reversed d (padded cs) ≡ reversed d cs
+reversed-padded d h cs =
+    listed-ext (suc d) (λ k. entry (padded cs) (d - k)) (λ k. entry cs (d - k)) (λ k l. padded-entry cs (d - k) (omega arith))
+
+triangle-padded : (cs : List ℤ) (j i : ℕ) → i + j ≤ 3 → triangle (padded cs) j i ≡ triangle cs j i
 unfolding triangle
-triangle-four cs zero i h = listed-entry 4 (entry cs) i (omega arith)
-triangle-four cs (suc j) i h = ap₂ _+ℤ_ (triangle-four cs j i (omega arith)) (triangle-four cs j (suc i) (omega arith))
+triangle-padded cs zero i h = padded-entry cs i (omega arith)
+triangle-padded cs (suc j) i h = ap₂ _+ℤ_ (triangle-padded cs j i (omega arith)) (triangle-padded cs j (suc i) (omega arith))
 
-left-four : (d : ℕ) → d ≤ 3 → (cs : List ℤ) → left d (four cs) ≡ left d cs
+left-padded : (d : ℕ) → d ≤ 3 → (cs : List ℤ) → left d (padded cs) ≡ left d cs
 unfolding left
-left-four d h cs = listed-ext (suc d) (λ k. pow (pos 2) (d - k) *ℤ triangle (four cs) k 0) (λ k. pow (pos 2) (d - k) *ℤ triangle cs k 0)
-    (λ k l. ap (λ x. pow (pos 2) (d - k) *ℤ x) (triangle-four cs k 0 (omega arith)))
+left-padded d h cs = listed-ext (suc d) (λ k. pow (pos 2) (d - k) *ℤ triangle (padded cs) k 0) (λ k. pow (pos 2) (d - k) *ℤ triangle cs k 0)
+    (λ k l. ap (λ x. pow (pos 2) (d - k) *ℤ x) (triangle-padded cs k 0 (omega arith)))
 
-pub mirror-four : (d : ℕ) → d ≤ 3 → (cs : List ℤ) → four (reversed d (four (right d cs))) ≡ four (left d (four (reversed d cs)))
-mirror-four d h cs = ap four (reversed-four d h (right d cs) ∙ mirror d cs ∙ sym (left-four d h (reversed d cs)))
+pub mirror-padded : (d : ℕ) → d ≤ 3 → (cs : List ℤ) → padded (reversed d (padded (right d cs))) ≡ padded (left d (padded (reversed d cs)))
+mirror-padded d h cs = ap padded (reversed-padded d h (right d cs) ∙ mirror d cs ∙ sym (left-padded d h (reversed d cs)))
 
-pub right-four : (d : ℕ) → d ≤ 3 → (cs : List ℤ) → four (reversed d (four (left d (four (reversed d cs))))) ≡ four (right d cs)
-right-four d h cs =
-    ap four (reversed-four d h (left d (four (reversed d cs))) ∙ ap (reversed d) (left-four d h (reversed d cs)) ∙ sym (right-mirrored d cs))
+pub right-padded : (d : ℕ) → d ≤ 3 → (cs : List ℤ) → padded (reversed d (padded (left d (padded (reversed d cs))))) ≡ padded (right d cs)
+right-padded d h cs =
+    ap padded (reversed-padded d h (left d (padded (reversed d cs))) ∙ ap (reversed d) (left-padded d h (reversed d cs)) ∙ sym (right-mirrored d cs))
 
 -- ---- de Casteljau's triangle over a sequence: row j at place i
 rows : (ℕ → ℤ) → ℕ → ℕ → ℤ
@@ -143,15 +147,16 @@ module _ (p r : ℤ) (d : ℕ) (cs : List ℤ) where
   right-value = half-value 1 (omega arith)
       ∙ ap₂ (λ x y. value x y d cs) (ring (p ∷ r ∷ []) (search sides depth 20) refl) (ring (p ∷ r ∷ []) (search sides depth 20) refl)
 
-  -- filling up to four control values changes none
-  pub value-four : d ≤ 3 → value p r d (four cs) ≡ value p r d cs
-  value-four h = value-is p r d (four cs)
-      ∙ casteljau-ext p r d (entry (four cs)) (entry cs) (λ k l. listed-entry 4 (entry cs) k (omega arith))
+  -- padding changes none
+  pub value-padded : d ≤ 3 → value p r d (padded cs) ≡ value p r d cs
+  value-padded h = value-is p r d (padded cs)
+      ∙ casteljau-ext p r d (entry (padded cs)) (entry cs) (λ k l. padded-entry cs k (omega arith))
       ∙ sym (value-is p r d cs)
 
 module _ (p r : ℤ) (b : ℕ) (hb : b < 2) where
-  pub half-four-value : (d : ℕ) → d ≤ 3 → (cs : List ℤ) → value p r d (four (half b d cs)) ≡ value (pos b *ℤ (p +ℤ r) +ℤ p) (pos (1 - b) *ℤ (p +ℤ r) +ℤ r) d cs
-  half-four-value d h cs = value-four p r d (half b d cs) h ∙ half-value p r d cs b hb
+  pub half-padded-value : (d : ℕ) → d ≤ 3 → (cs : List ℤ)
+      → value p r d (padded (half b d cs)) ≡ value (pos b *ℤ (p +ℤ r) +ℤ p) (pos (1 - b) *ℤ (p +ℤ r) +ℤ r) d cs
+  half-padded-value d h cs = value-padded p r d (half b d cs) h ∙ half-value p r d cs b hb
 
 -- ---- a value lies within the largest control value
 module _ (p r B d : ℕ) (cs : List ℤ) (e : Each B cs) where

@@ -1,8 +1,9 @@
--- One coordinate halved by the de Casteljau step at 1/2, exactly (document 01, "Halving"). The d + 1 control values of a coordinate of degree d are a
--- list; those of a half are the exact ones times 2^d.
+-- One coordinate halved by the de Casteljau step at 1/2, exactly (document 01, "Halving"). The d + 1 control values of
+-- a coordinate of degree d are a list; those of a half are the exact ones times 2^d.
 use mathlib.Core.List.{List, [], _∷_}
 use Prim.Native.Nat.{ℕ, zero, suc, _-_}
 use lib.IntN.{ℤ, pos, _+ℤ_, _*ℤ_, pow}
+use Rattle.setting.specs.Setting.{controlValues}
 use Rattle.integers.specs.Entry.{entry}
 
 -- f 0, f 1, .., n numbers in all
@@ -10,7 +11,8 @@ abbrev pub listed : ℕ → (ℕ → ℤ) → List ℤ
 listed zero f = []
 listed (suc n) f = f 0 ∷ listed n (λ k. f (suc k))
 
--- Row j of de Casteljau's triangle at place i: each number is the sum of the two below it in the row before, so it is 2^j times the midpoint.
+-- Row j of de Casteljau's triangle at place i: each number is the sum of the two below it in the row before, so it is
+-- 2^j times the midpoint.
 unfoldable pub triangle : List ℤ → ℕ → ℕ → ℤ
 triangle cs zero i = entry cs i
 triangle cs (suc j) i = triangle cs j i +ℤ triangle cs j (suc i)
@@ -27,6 +29,6 @@ right d cs = listed (suc d) (λ k. pow (pos 2) k *ℤ triangle cs (d - k) k)
 abbrev pub reversed : ℕ → List ℤ → List ℤ
 reversed d cs = listed (suc d) (λ k. entry cs (d - k))
 
--- four control values, those past the end being zero
-abbrev pub four : List ℤ → List ℤ
-four cs = listed 4 (entry cs)
+-- the control values as they are kept: those past the end are zero
+abbrev pub padded : List ℤ → List ℤ
+padded cs = listed controlValues (entry cs)

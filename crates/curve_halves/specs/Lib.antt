@@ -1,5 +1,4 @@
--- What a reader must believe of the halves of a coordinate. `Sizes` says how large its control values may be. `Onward`
--- is only for the contracts of the code that carries a coordinate on.
+-- What a reader must believe of the halves of a coordinate, and how large its control values may be.
 pub mod Halves
 pub mod Sizes
-pub mod Onward
+pub mod Inside

@@ -1,7 +1,7 @@
-// One coordinate halved: what its halves are, their values, and how large they are; the code for a cubic, and for any degree.
+// One coordinate of a curve of degree 1 to 3: halved, and carried on past its end.
 ghost use mathlib.Core.Path.{_≡_};
 ghost use Prim.Native.Nat.{_^_, _≤_};
-ghost use Rattle.curve_halves.specs.Halves.{left, right, reversed, four};
+ghost use Rattle.curve_halves.specs.Halves.{left, right, reversed, padded};
 ghost use Rattle.curve_halves.specs.Sizes.{Each};
 
 pub mod onward;
@@ -9,7 +9,7 @@ pub mod onward;
 // One coordinate of the left half.
 pub fn left_values(degree: u32, c: [i64; 4]) -> [i64; 4]
     requires { ⌜ (1 ≤ degree) × (degree ≤ 3) × Each (2 ^ 44) c ⌝ }
-    ensures { λ r. ⌜ r ≡ four (left degree c) ⌝ }
+    ensures { λ r. ⌜ r ≡ padded (left degree c) ⌝ }
 {
     match degree {
         1 => left_line(c),
@@ -21,7 +21,7 @@ pub fn left_values(degree: u32, c: [i64; 4]) -> [i64; 4]
 // One coordinate of the right half: the left one, mirrored before and after.
 pub fn right_values(degree: u32, c: [i64; 4]) -> [i64; 4]
     requires { ⌜ (1 ≤ degree) × (degree ≤ 3) × Each (2 ^ 44) c ⌝ }
-    ensures { λ r. ⌜ r ≡ four (right degree c) ⌝ }
+    ensures { λ r. ⌜ r ≡ padded (right degree c) ⌝ }
 {
     let mirrored = reversed(degree, c);
     let half = left_values(degree, mirrored);
@@ -31,7 +31,7 @@ pub fn right_values(degree: u32, c: [i64; 4]) -> [i64; 4]
 // The control values in reverse order.
 fn reversed(degree: u32, c: [i64; 4]) -> [i64; 4]
     requires { ⌜ (1 ≤ degree) × (degree ≤ 3) ⌝ }
-    ensures { λ r. ⌜ r ≡ four (reversed degree c) ⌝ }
+    ensures { λ r. ⌜ r ≡ padded (reversed degree c) ⌝ }
 {
     let c0 = c[0];
     let c1 = c[1];
@@ -48,7 +48,7 @@ fn reversed(degree: u32, c: [i64; 4]) -> [i64; 4]
 // before.
 fn left_line(c: [i64; 4]) -> [i64; 4]
     requires { ⌜ Each (2 ^ 44) c ⌝ }
-    ensures { λ r. ⌜ r ≡ four (left 1 c) ⌝ }
+    ensures { λ r. ⌜ r ≡ padded (left 1 c) ⌝ }
 {
     let c0 = c[0];
     let c1 = c[1];
@@ -57,7 +57,7 @@ fn left_line(c: [i64; 4]) -> [i64; 4]
 
 fn left_quadratic(c: [i64; 4]) -> [i64; 4]
     requires { ⌜ Each (2 ^ 44) c ⌝ }
-    ensures { λ r. ⌜ r ≡ four (left 2 c) ⌝ }
+    ensures { λ r. ⌜ r ≡ padded (left 2 c) ⌝ }
 {
     let c0 = c[0];
     let c1 = c[1];
@@ -69,7 +69,7 @@ fn left_quadratic(c: [i64; 4]) -> [i64; 4]
 
 fn left_cubic(c: [i64; 4]) -> [i64; 4]
     requires { ⌜ Each (2 ^ 44) c ⌝ }
-    ensures { λ r. ⌜ r ≡ four (left 3 c) ⌝ }
+    ensures { λ r. ⌜ r ≡ padded (left 3 c) ⌝ }
 {
     let c0 = c[0];
     let c1 = c[1];

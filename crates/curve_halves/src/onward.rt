@@ -1,14 +1,14 @@
 // One coordinate of a curve carried on past its end, over a stretch of parameters 2^k times as long, by its degree.
 ghost use mathlib.Core.Path.{_≡_};
 ghost use Prim.Native.Nat.{_^_, _≤_};
-ghost use Rattle.curve_halves.specs.Halves.{four};
+ghost use Rattle.curve_halves.specs.Halves.{padded};
 ghost use Rattle.curve_halves.specs.Sizes.{Each};
-ghost use Rattle.curve_halves.specs.Onward.{onward};
+ghost use Rattle.curve_halves.specs.Inside.{onward};
 
 // One coordinate of the curve carried on.
 pub fn onward_values(degree: u32, k: u32, c: [i64; 4]) -> [i64; 4]
     requires { ⌜ (1 ≤ degree) × (degree ≤ 3) × (k ≤ 7) × Each (2 ^ 44) c ⌝ }
-    ensures { λ r. ⌜ r ≡ four (onward degree k c) ⌝ }
+    ensures { λ r. ⌜ r ≡ padded (onward degree k c) ⌝ }
 {
     match degree {
         1 => onward_line(k, c),
@@ -20,7 +20,7 @@ pub fn onward_values(degree: u32, k: u32, c: [i64; 4]) -> [i64; 4]
 // One degree each. d are the coordinate's rises, e and f the rows over them, and r the control values made.
 fn onward_line(k: u32, c: [i64; 4]) -> [i64; 4]
     requires { ⌜ (k ≤ 7) × Each (2 ^ 44) c ⌝ }
-    ensures { λ r. ⌜ r ≡ four (onward 1 k c) ⌝ }
+    ensures { λ r. ⌜ r ≡ padded (onward 1 k c) ⌝ }
 {
     let c0 = c[0];
     let c1 = c[1];
@@ -30,7 +30,7 @@ fn onward_line(k: u32, c: [i64; 4]) -> [i64; 4]
 
 fn onward_quadratic(k: u32, c: [i64; 4]) -> [i64; 4]
     requires { ⌜ (k ≤ 7) × Each (2 ^ 44) c ⌝ }
-    ensures { λ r. ⌜ r ≡ four (onward 2 k c) ⌝ }
+    ensures { λ r. ⌜ r ≡ padded (onward 2 k c) ⌝ }
 {
     let c0 = c[0];
     let c1 = c[1];
@@ -46,7 +46,7 @@ fn onward_quadratic(k: u32, c: [i64; 4]) -> [i64; 4]
 
 fn onward_cubic(k: u32, c: [i64; 4]) -> [i64; 4]
     requires { ⌜ (k ≤ 7) × Each (2 ^ 44) c ⌝ }
-    ensures { λ r. ⌜ r ≡ four (onward 3 k c) ⌝ }
+    ensures { λ r. ⌜ r ≡ padded (onward 3 k c) ⌝ }
 {
     let c0 = c[0];
     let c1 = c[1];

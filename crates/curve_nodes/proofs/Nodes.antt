@@ -13,7 +13,8 @@ module _ {A : Type 0} (top : A) (half : ℕ → A → A) where
   in-small : (fuel n : ℕ) → n < 2 → descendIn fuel top half n ≡ top
   unfolding descendIn
   in-small zero n h = refl
-  in-small (suc fuel) n h = ap (λ (b : Bool). elim b as (λ _. A) [ true ↦ top | false ↦ half (n % 2) (descendIn fuel top half (n / 2)) ]) (lt-ltb n 2 h)
+  in-small (suc fuel) n h =
+      ap (λ (b : Bool). elim b as (λ _. A) [ true ↦ top | false ↦ half (n % 2) (descendIn fuel top half (n / 2)) ]) (lt-ltb n 2 h)
 
   in-large : (fuel n : ℕ) → 2 ≤ n → descendIn (suc fuel) top half n ≡ half (n % 2) (descendIn fuel top half (n / 2))
   unfolding descendIn
@@ -51,5 +52,6 @@ node-induction P one step n h = go n n (le-refl n) h
     go zero n l h = absurd (omega arith)
     go (suc fuel) n l h = ⊎-elim
         (λ s. subst P {x = 1} {y = n} (omega arith) one)
-        (λ s. subst P {x = 2 * (n / 2) + n % 2} {y = n} (omega arith) (step (n / 2) (n % 2) (omega arith) (omega arith) (go fuel (n / 2) (omega arith) (omega arith))))
+        (λ s. subst P {x = 2 * (n / 2) + n % 2} {y = n} (omega arith)
+        (step (n / 2) (n % 2) (omega arith) (omega arith) (go fuel (n / 2) (omega arith) (omega arith))))
         (lt-or-ge n 2)

@@ -9,12 +9,12 @@ use native.Mathlib.Omega.{arith}
 use lib.Count.{trailingZeros}
 use lib.IntN.{ℤ, pos, _*ℤ_, pow}
 use Rattle.integers.specs.Entry.{entry}
-use Rattle.curve_halves.specs.Halves.{triangle, right, four}
+use Rattle.curve_halves.specs.Halves.{triangle, right, padded}
 use Rattle.curve_halves.proofs.Values.{listed-entry, listed-ext}
-use Rattle.curve_halves.specs.Onward.{onwardAt, onward}
+use Rattle.curve_halves.specs.Inside.{onwardAt, onward}
 use Rattle.curve_halves.proofs.OnwardLaws.{Follows, onward-is}
 use Rattle.curve_nodes.specs.declared.Curve.{Curve}
-use Rattle.curve_nodes.specs.Halves.{onwardOf}
+use Rattle.curve_nodes.specs.Inside.{onwardOf}
 use Rattle.curve_nodes.specs.Nodes.{nodeCurve, start, after}
 use Rattle.curve_nodes.proofs.Nodes.{node-induction}
 use Rattle.curve_nodes.proofs.Numbers.{depth-low, start-half, after-one, after-left, after-right, trailing-even, trailing-odd, power-order}
@@ -82,12 +82,12 @@ few-zeros {k} {n} {m} hn l x =
 
 -- ---- the curve
 module _ (d : ℕ) (h : d ≤ 3) (cs : List ℤ) where
-  values-onward : {k n m : ℕ} → 0 < n → NextStretch k n m → four (onward d k (nodeValues d cs n)) ≡ nodeValues d cs m
+  values-onward : {k n m : ℕ} → 0 < n → NextStretch k n m → padded (onward d k (nodeValues d cs n)) ≡ nodeValues d cs m
   unfolding onward right
   values-onward {k} {n} {m} hn x =
       let vs = nodeValues d cs (x .above) in
-      let e : nodeValues d cs m ≡ four (right d vs) = ap (nodeValues d cs) (x .is) ∙ values-half d cs (x .above) 1 (x .some) (omega arith) in
-      ap four (listed-ext (suc d) (onwardAt d k (nodeValues d cs n)) (λ j. pow (pos 2) j *ℤ triangle vs (d - j) j) (λ i l.
+      let e : nodeValues d cs m ≡ padded (right d vs) = ap (nodeValues d cs) (x .is) ∙ values-half d cs (x .above) 1 (x .some) (omega arith) in
+      ap padded (listed-ext (suc d) (onwardAt d k (nodeValues d cs n)) (λ j. pow (pos 2) j *ℤ triangle vs (d - j) j) (λ i l.
       onward-is k (x .follows) d (entry cs) (nodeValues d cs n) (node-span d h cs n hn) i (le-of-suc-le-suc l)
       ∙ sym (node-span d h cs m (omega (arith, x .is)) i (le-of-suc-le-suc l))
       ∙ ap (λ ns. entry ns i) e

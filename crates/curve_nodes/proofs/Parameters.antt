@@ -1,5 +1,5 @@
--- The parameters of a node. Up: weights at a node, as weights of the same value at node 1. Down: weights at node 1, as weights at a node that keep their sum;
--- the value is then larger by the denominator of the node's control values.
+-- The parameters of a node. Up: weights at a node, as weights of the same value at node 1. Down: weights at node 1, as weights at a node that keep
+-- their sum; the value is then larger by the denominator of the node's control values.
 use mathlib.Core.Path.{_≡_, refl, sym, _∙_, ap, ap₂}
 use mathlib.Core.List.{List, [], _∷_}
 use Prim.Native.Nat.{ℕ, suc, _+_, _*_, _^_, _≤_, _<_}
@@ -55,15 +55,19 @@ values-down d h cs n hn P R =
 -- ---- the same for the curve of a node, in x and in y
 module _ (c : Curve) (h : c .degree ≤ 3) (n : ℕ) (hn : 0 < n) where
   module _ (p r : ℤ) where
-    pub node-value-x : value (pos (start n) *ℤ (p +ℤ r) +ℤ p) (pos (remaining n) *ℤ (p +ℤ r) +ℤ r) (c .degree) (c .x) ≡ value p r (c .degree) (nodeCurve c n .x)
+    pub node-value-x : value (pos (start n) *ℤ (p +ℤ r) +ℤ p) (pos (remaining n) *ℤ (p +ℤ r) +ℤ r) (c .degree) (c .x)
+        ≡ value p r (c .degree) (nodeCurve c n .x)
     node-value-x = values-up (c .degree) h (c .x) n hn p r ∙ ap (λ a. value p r (c .degree) (a .x)) (sym (node-curve c n hn))
 
-    pub node-value-y : value (pos (start n) *ℤ (p +ℤ r) +ℤ p) (pos (remaining n) *ℤ (p +ℤ r) +ℤ r) (c .degree) (c .y) ≡ value p r (c .degree) (nodeCurve c n .y)
+    pub node-value-y : value (pos (start n) *ℤ (p +ℤ r) +ℤ p) (pos (remaining n) *ℤ (p +ℤ r) +ℤ r) (c .degree) (c .y)
+        ≡ value p r (c .degree) (nodeCurve c n .y)
     node-value-y = values-up (c .degree) h (c .y) n hn p r ∙ ap (λ a. value p r (c .degree) (a .y)) (sym (node-curve c n hn))
 
   module _ (P R : ℤ) where
-    pub node-value-down-x : value (pAt n P R) (rAt n P R) (c .degree) (nodeCurve c n .x) ≡ pow (pos (2 ^ depth n)) (c .degree) *ℤ value P R (c .degree) (c .x)
+    pub node-value-down-x : value (pAt n P R) (rAt n P R) (c .degree) (nodeCurve c n .x)
+        ≡ pow (pos (2 ^ depth n)) (c .degree) *ℤ value P R (c .degree) (c .x)
     node-value-down-x = ap (λ a. value (pAt n P R) (rAt n P R) (c .degree) (a .x)) (node-curve c n hn) ∙ values-down (c .degree) h (c .x) n hn P R
 
-    pub node-value-down-y : value (pAt n P R) (rAt n P R) (c .degree) (nodeCurve c n .y) ≡ pow (pos (2 ^ depth n)) (c .degree) *ℤ value P R (c .degree) (c .y)
+    pub node-value-down-y : value (pAt n P R) (rAt n P R) (c .degree) (nodeCurve c n .y)
+        ≡ pow (pos (2 ^ depth n)) (c .degree) *ℤ value P R (c .degree) (c .y)
     node-value-down-y = ap (λ a. value (pAt n P R) (rAt n P R) (c .degree) (a .y)) (node-curve c n hn) ∙ values-down (c .degree) h (c .y) n hn P R

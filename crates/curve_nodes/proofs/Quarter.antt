@@ -1,10 +1,12 @@
 -- The quarter law (document 01: "The largest second difference shrinks to a quarter or less at each halving"). The second differences of a half of
--- degree d, times 2^d as its control values are, are the half of degree d − 2 of the second differences: so they are at most 2^(d − 2) times as large.
+-- degree d, times 2^d as its control values are, are the half of degree d − 2 of the second differences: so they are at most 2^(d − 2) times as
+-- large.
 use mathlib.Core.Path.{_≡_, refl, sym, _∙_, ap, ap₂, fun-ext, subst}
 use mathlib.Core.Logic.{⊎-elim}
 use mathlib.Core.List.{List, [], _∷_}
 use Prim.Native.Nat.{ℕ, zero, suc, _+_, _*_, _-_, _^_, max, _≤_, _<_, zero-le, suc-le-suc}
-use native.Mathlib.Nat.{le-refl, le-trans, le-of-suc-le-suc, not-suc-le-zero, eq-or-lt-of-le, le-max-left, le-max-right, max-le, mul-le-mul-left, mul-assoc, mul-comm, mul-left-comm, mul-zero, mul-suc, pow-suc, pow-succ'}
+use native.Mathlib.Nat.{le-refl, le-trans, le-of-suc-le-suc, not-suc-le-zero, eq-or-lt-of-le, le-max-left, le-max-right, max-le, mul-le-mul-left}
+use native.Mathlib.Nat.{mul-assoc, mul-comm, mul-left-comm, mul-zero, mul-suc, pow-suc, pow-succ'}
 use lib.Pow.{pow-add}
 use native.Mathlib.Omega.{arith}
 use lib.IntN.{ℤ, pos, natAbs, _+ℤ_, _-ℤ_, _*ℤ_}
@@ -13,11 +15,11 @@ use Rattle.integers.proofs.Ring.{ring, sides}
 use Rattle.integers.proofs.Order.{lt-or-ge}
 use Rattle.curve_bernstein.proofs.Stretch.{half-part, part-difference, part-size}
 use Rattle.curve_nodes.specs.declared.Curve.{Curve}
-use Rattle.curve_halves.specs.Halves.{four}
+use Rattle.curve_halves.specs.Halves.{padded}
 use Rattle.curve_nodes.specs.Nodes.{depth, halfOf, nodeCurve}
 use Rattle.curve_nodes.specs.Differences.{difference, largestOf, bend, largest}
 use Rattle.curve_nodes.proofs.Nodes.{node-induction}
-use Rattle.curve_halves.proofs.Values.{listed-entry, half, half-entry}
+use Rattle.curve_halves.proofs.Values.{padded-entry, half, half-entry}
 use Rattle.curve_nodes.proofs.Values.{curve-half}
 use Rattle.curve_nodes.proofs.Coordinates.{node-degree}
 use Rattle.curve_nodes.proofs.Numbers.{depth-one, depth-half, node-one, node-half}
@@ -60,7 +62,8 @@ difference-at : (cs : List ℤ) (g : ℕ → ℤ) (k : ℕ) → entry cs k ≡ g
     → difference cs k ≡ g k -ℤ pos 2 *ℤ g (suc k) +ℤ g (suc (suc k))
 difference-at cs g k a b c = ap₂ _+ℤ_ (ap₂ (λ x y. x -ℤ pos 2 *ℤ y) a b) c
 
-pub half-difference : (b : ℕ) → b < 2 → (n : ℕ) (cs : List ℤ) (k : ℕ) → k ≤ n → difference (half b (suc (suc n)) cs) k ≡ half-part b n (difference cs) k
+pub half-difference : (b : ℕ) → b < 2 → (n : ℕ) (cs : List ℤ) (k : ℕ) → k ≤ n
+    → difference (half b (suc (suc n)) cs) k ≡ half-part b n (difference cs) k
 half-difference b hb n cs k h =
     let d = suc (suc n) in
     difference-at (half b d cs) (half-part b d f) k (at k (omega arith)) (at (suc k) (omega arith)) (at (suc (suc k)) (omega arith))
@@ -95,13 +98,10 @@ half-bend b hb (suc (suc n)) l cs =
     at k h = rw (half-difference b hb n cs k (omega arith)) (part-size b (suc (1 - b)) (suc b) (1 - b) 2 (omega arith) (omega arith)
         (bend (suc (suc n)) cs) n (difference cs) (λ j m. bend-at (suc (suc n)) cs j (omega arith)) k (omega arith))
 
--- filling up to four control values changes none
-four-bend : (d : ℕ) → d ≤ 3 → (cs : List ℤ) → bend d (four cs) ≤ bend d cs
-four-bend d h cs = bend-least d (four cs) (λ k l. rw (difference-at (four cs) (entry cs) k (at k (omega arith)) (at (suc k) (omega arith)) (at (suc (suc k)) (omega arith)))
-    (bend-at d cs k l))
-  where
-    at : (j : ℕ) → j < 4 → entry (four cs) j ≡ entry cs j
-    at = listed-entry 4 (entry cs)
+-- padding changes none
+padded-bend : (d : ℕ) → d ≤ 3 → (cs : List ℤ) → bend d (padded cs) ≤ bend d cs
+padded-bend d h cs = bend-least d (padded cs) (λ k l. rw (difference-at (padded cs) (entry cs) k
+    (padded-entry cs k (omega arith)) (padded-entry cs (suc k) (omega arith)) (padded-entry cs (suc (suc k)) (omega arith))) (bend-at d cs k l))
 
 -- ---- of a curve, both coordinates together
 max-times : (k m a b A B : ℕ) → k * a ≤ m * A → k * b ≤ m * B → k * max a b ≤ m * max A B
@@ -112,16 +112,17 @@ max-times k m a b A B f g = ⊎-elim
 
 pub half-largest : (b : ℕ) → b < 2 → (c : Curve) → 1 ≤ c .degree → c .degree ≤ 3 → 4 * largest (halfOf b c) ≤ 2 ^ c .degree * largest c
 unfolding largest
-half-largest b hb c l h = rw (curve-half b c) (max-times 4 (2 ^ d) (bend d (halved (c .x))) (bend d (halved (c .y))) (bend d (c .x)) (bend d (c .y)) (coordinate (c .x)) (coordinate (c .y)))
+half-largest b hb c l h = rw (curve-half b c)
+    (max-times 4 (2 ^ d) (bend d (halved (c .x))) (bend d (halved (c .y))) (bend d (c .x)) (bend d (c .y)) (coordinate (c .x)) (coordinate (c .y)))
   where
     d : ℕ
     d = c .degree
 
     halved : List ℤ → List ℤ
-    halved cs = four (half b d cs)
+    halved cs = padded (half b d cs)
 
     coordinate : (cs : List ℤ) → 4 * bend d (halved cs) ≤ 2 ^ d * bend d cs
-    coordinate cs = le-trans (mul-le-mul-left 4 (four-bend d h (half b d cs))) (half-bend b hb d l cs)
+    coordinate cs = le-trans (mul-le-mul-left 4 (padded-bend d h (half b d cs))) (half-bend b hb d l cs)
 
 -- ---- at every depth
 deeper : (a a' w w' L' L M : ℕ) → a' * L' ≤ w' * L → a * L ≤ w * M → a * a' * L' ≤ w * w' * M
@@ -130,13 +131,15 @@ deeper a a' w w' L' L M f g =
 
 module _ (c : Curve) (l : 1 ≤ c .degree) (h : c .degree ≤ 3) where
   next-largest : (n b : ℕ) → 0 < n → b < 2 → 4 * largest (nodeCurve c (2 * n + b)) ≤ 2 ^ c .degree * largest (nodeCurve c n)
-  next-largest n b hn hb = rw (node-half c n b hn hb) (subst (λ d. 4 * largest (halfOf b (nodeCurve c n)) ≤ 2 ^ d * largest (nodeCurve c n)) (node-degree c n hn)
+  next-largest n b hn hb = rw (node-half c n b hn hb)
+      (subst (λ d. 4 * largest (halfOf b (nodeCurve c n)) ≤ 2 ^ d * largest (nodeCurve c n)) (node-degree c n hn)
       (half-largest b hb (nodeCurve c n) (rw (node-degree c n hn) l) (rw (node-degree c n hn) h)))
 
   pub node-largest : (n : ℕ) → 0 < n → 4 ^ depth n * largest (nodeCurve c n) ≤ 2 ^ (c .degree * depth n) * largest c
   node-largest = node-induction (λ n. 4 ^ depth n * largest (nodeCurve c n) ≤ 2 ^ (c .degree * depth n) * largest c)
       (rw (depth-one, node-one c, mul-zero) (le-refl (1 * largest c)))
-      (λ n b hn hb q. rw (depth-half n b hn hb, mul-suc, pow-add, pow-suc 4 (depth n)) (deeper (4 ^ depth n) 4 (2 ^ (c .degree * depth n)) (2 ^ c .degree)
+      (λ n b hn hb q. rw (depth-half n b hn hb, mul-suc, pow-add, pow-suc 4 (depth n))
+      (deeper (4 ^ depth n) 4 (2 ^ (c .degree * depth n)) (2 ^ c .degree)
       (largest (nodeCurve c (2 * n + b))) (largest (nodeCurve c n)) (largest c) (next-largest n b hn hb) q))
 
   module _ (n : ℕ) (hn : 0 < n) (j : ℕ) (hj : j < c .degree - 1) where

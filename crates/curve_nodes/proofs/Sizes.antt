@@ -9,12 +9,13 @@ use lib.IntN.{ℤ, pos, negℤ, natAbs, _-ℤ_, _*ℤ_}
 use Rattle.integers.specs.Entry.{entry}
 use Rattle.integers.proofs.Size.{abs-neg, abs-add, abs-mul}
 use Rattle.curve_nodes.specs.declared.Curve.{Curve}
-use Rattle.curve_halves.specs.Halves.{left, right, four}
+use Rattle.curve_halves.specs.Halves.{left, right, padded}
 use Rattle.curve_nodes.specs.Halves.{leftHalf, rightHalf}
 use Rattle.curve_nodes.specs.Nodes.{depth, halfOf, nodeCurve}
 use Rattle.curve_halves.specs.Sizes.{Each}
-use Rattle.curve_halves.proofs.Sizes.{each-four, each-left, each-right}
-use Rattle.curve_nodes.specs.Bounds.{Sized, Halvable}
+use Rattle.curve_halves.proofs.Sizes.{each-padded, each-left, each-right}
+use Rattle.curve_nodes.specs.Inside.{Halvable}
+use Rattle.curve_nodes.specs.Bounds.{Sized}
 use Rattle.curve_nodes.specs.Differences.{difference}
 use Rattle.curve_nodes.proofs.Nodes.{node-induction}
 use Rattle.curve_nodes.proofs.Numbers.{depth-one, depth-half, depth-under, node-one, node-half}
@@ -50,11 +51,11 @@ one-deeper d k = rw (mul-suc, pow-add) (mul-left-comm (2 ^ d) (2 ^ 20) (2 ^ (d *
 -- both coordinates, by a rule that makes values at most 2^d times as large
 halved : (half : ℕ → List ℤ → List ℤ) → ((B : ℕ) (cs : List ℤ) → Each B cs → (d : ℕ) → Each (2 ^ d * B) (half d cs))
     → {k : ℕ} {c : Curve} → Sized k c
-    → Sized (suc k) (record { degree = c .degree; x = four (half (c .degree) (c .x)); y = four (half (c .degree) (c .y)) })
+    → Sized (suc k) (record { degree = c .degree; x = padded (half (c .degree) (c .x)); y = padded (half (c .degree) (c .y)) })
 halved half rule {k} {c} h = record { least = h .least; most = h .most; x = deeper (c .x) (h .x); y = deeper (c .y) (h .y) }
   where
-    deeper : (cs : List ℤ) → Each (room (c .degree) k) cs → Each (room (c .degree) (suc k)) (four (half (c .degree) cs))
-    deeper cs e = each-wider (le-of-eq (one-deeper (c .degree) k)) (each-four (rule (room (c .degree) k) cs e (c .degree)))
+    deeper : (cs : List ℤ) → Each (room (c .degree) k) cs → Each (room (c .degree) (suc k)) (padded (half (c .degree) cs))
+    deeper cs e = each-wider (le-of-eq (one-deeper (c .degree) k)) (each-padded (rule (room (c .degree) k) cs e (c .degree)))
 
 pub half-sized : (b : ℕ) {k : ℕ} {c : Curve} → Sized k c → Sized (suc k) (halfOf b c)
 unfolding leftHalf rightHalf

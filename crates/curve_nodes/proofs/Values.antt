@@ -7,16 +7,17 @@ use lib.Signed.{_≤ℤ_}
 use Rattle.integers.proofs.RingLaws.{pow-natural, *ℤ-neg}
 use Rattle.integers.proofs.Size.{abs-high, abs-low}
 use Rattle.curve_bernstein.specs.Value.{value}
-use Rattle.curve_halves.specs.Halves.{four}
+use Rattle.curve_halves.specs.Halves.{padded}
 use Rattle.curve_halves.specs.Sizes.{Each}
-use Rattle.curve_halves.proofs.Values.{mirror-four, half, half-four-value, value-within}
+use Rattle.curve_halves.proofs.Values.{mirror-padded, half, half-padded-value, value-within}
 use Rattle.curve_nodes.specs.declared.Curve.{Curve}
 use Rattle.curve_nodes.specs.Halves.{leftHalf, rightHalf, reversedOf}
 use Rattle.curve_nodes.specs.Nodes.{halfOf}
 use Rattle.curve_nodes.specs.Points.{scaled}
 
 -- a curve's half is the half of both coordinates
-pub curve-half : (b : ℕ) (c : Curve) → halfOf b c ≡ record { degree = c .degree; x = four (half b (c .degree) (c .x)); y = four (half b (c .degree) (c .y)) }
+pub curve-half : (b : ℕ) (c : Curve)
+    → halfOf b c ≡ record { degree = c .degree; x = padded (half b (c .degree) (c .x)); y = padded (half b (c .degree) (c .y)) }
 unfolding leftHalf rightHalf
 curve-half zero c = refl
 curve-half (suc b) c = refl
@@ -25,14 +26,14 @@ curve-half (suc b) c = refl
 pub mirror-curve : (c : Curve) → c .degree ≤ 3 → reversedOf (rightHalf c) ≡ leftHalf (reversedOf c)
 unfolding leftHalf rightHalf reversedOf
 mirror-curve c h =
-    ap₂ (λ (xs ys : List ℤ). record { degree = c .degree; x = xs; y = ys }) (mirror-four (c .degree) h (c .x)) (mirror-four (c .degree) h (c .y))
+    ap₂ (λ (xs ys : List ℤ). record { degree = c .degree; x = xs; y = ys }) (mirror-padded (c .degree) h (c .x)) (mirror-padded (c .degree) h (c .y))
 
 module _ (p r : ℤ) (b : ℕ) (hb : b < 2) (c : Curve) (h : c .degree ≤ 3) where
   pub curve-half-x : value p r (c .degree) (halfOf b c .x) ≡ value (pos b *ℤ (p +ℤ r) +ℤ p) (pos (1 - b) *ℤ (p +ℤ r) +ℤ r) (c .degree) (c .x)
-  curve-half-x = ap (λ a. value p r (c .degree) (a .x)) (curve-half b c) ∙ half-four-value p r b hb (c .degree) h (c .x)
+  curve-half-x = ap (λ a. value p r (c .degree) (a .x)) (curve-half b c) ∙ half-padded-value p r b hb (c .degree) h (c .x)
 
   pub curve-half-y : value p r (c .degree) (halfOf b c .y) ≡ value (pos b *ℤ (p +ℤ r) +ℤ p) (pos (1 - b) *ℤ (p +ℤ r) +ℤ r) (c .degree) (c .y)
-  curve-half-y = ap (λ a. value p r (c .degree) (a .y)) (curve-half b c) ∙ half-four-value p r b hb (c .degree) h (c .y)
+  curve-half-y = ap (λ a. value p r (c .degree) (a .y)) (curve-half b c) ∙ half-padded-value p r b hb (c .degree) h (c .y)
 
 -- ---- a coordinate lies within its largest control value
 module _ (p r B d : ℕ) (cs : List ℤ) (e : Each B cs) where

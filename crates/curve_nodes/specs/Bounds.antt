@@ -9,10 +9,3 @@ pub record Sized (k : ℕ) (c : Curve) : Type 0 where
   pub most : c .degree ≤ 3
   pub x : Each (2 ^ 20 * 2 ^ (c .degree * k)) (c .x)
   pub y : Each (2 ^ 20 * 2 ^ (c .degree * k)) (c .y)
-
--- A curve that 64 bits have room to halve.
-pub record Halvable (c : Curve) : Type 0 where
-  pub least : 1 ≤ c .degree
-  pub most : c .degree ≤ 3
-  pub x : Each (2 ^ 44) (c .x)
-  pub y : Each (2 ^ 44) (c .y)

@@ -1,6 +1,8 @@
--- What a reader must believe of curves: halving, nodes, points of a curve, second differences, and the bounds that keep 64 bits from wrapping.
+-- What a reader must believe of curves: halving, nodes, points of a curve, second differences, and how large control
+-- values get.
 pub mod Halves
 pub mod Nodes
 pub mod Points
 pub mod Differences
 pub mod Bounds
+pub mod Inside

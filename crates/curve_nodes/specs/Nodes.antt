@@ -1,11 +1,13 @@
--- The nodes of repeated halving (document 01, "Halving"): node 1 is the undivided curve, and node n has halves 2n and 2n + 1.
+-- The nodes of repeated halving (document 01, "Halving"): node 1 is the undivided curve, and node n has halves 2n and
+-- 2n + 1.
 use mathlib.Core.Bool.{true, false}
 use Prim.Native.Nat.{ℕ, zero, suc, _+_, _-_, _/_, _%_, _^_}
 use lib.Dec.{ltb}
 use Rattle.curve_nodes.specs.declared.Curve.{Curve}
 use Rattle.curve_nodes.specs.Halves.{leftHalf, rightHalf}
 
--- What is at a node, from what is at node 1 and a step from a node to its half by the node's lowest bit; at most `fuel` steps.
+-- What is at a node, from what is at node 1 and a step from a node to its half by the node's lowest bit; at most `fuel`
+-- steps.
 unfoldable pub descendIn : {A : Type 0} → ℕ → A → (ℕ → A → A) → ℕ → A
 descendIn zero top half n = top
 descendIn (suc fuel) top half n = elim (ltb n 2) [ true ↦ top | false ↦ half (n % 2) (descendIn fuel top half (n / 2)) ]

@@ -1,5 +1,6 @@
--- Points of a curve (document 01, "Outline and tolerance"). A rational parameter is two naturals p and r that are not both 0: t = p / (p + r).
--- A point's coordinates are sixteenths of a stage unit, so they stand against 16 times the curve's. Both sides are multiplied by (p + r)^d.
+-- Points of a curve (document 01, "Outline and tolerance"). A rational parameter is two naturals p and r that are not
+-- both 0: t = p / (p + r). A point's coordinates are sixteenths of a stage unit, so they stand against 16 times the
+-- curve's. Both sides are multiplied by (p + r)^d.
 use mathlib.Core.Path.{_≡_}
 use mathlib.Core.List.{List}
 use Prim.Native.Nat.{ℕ, _+_}

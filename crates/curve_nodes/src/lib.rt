@@ -3,14 +3,15 @@
 ghost use mathlib.Core.Path.{_≡_};
 ghost use Prim.Native.Nat.{_^_, _≤_, _<_};
 ghost use Rattle.curve_nodes.specs.Nodes.{depth, after, nodeCurve};
-ghost use Rattle.curve_nodes.specs.Halves.{leftHalf, rightHalf, onwardOf};
-ghost use Rattle.curve_nodes.specs.Bounds.{Sized, Halvable};
+ghost use Rattle.curve_nodes.specs.Inside.{onwardOf, Halvable};
+ghost use Rattle.curve_nodes.specs.Halves.{leftHalf, rightHalf};
+ghost use Rattle.curve_nodes.specs.Bounds.{Sized};
 use curve_halves::left_values;
 use curve_halves::onward::onward_values;
 use curve_halves::right_values;
 
-// A curve (document 01): its degree and four control values a coordinate, those past the degree being zero. At depth k of halving the
-// values are the exact ones times 2^(degree * k).
+// A curve (document 01): its degree and four control values a coordinate, those past the degree being zero. At depth k
+// of halving the values are the exact ones times 2^(degree * k).
 pub struct Curve {
     pub degree: u32,
     pub x: [i64; 4],

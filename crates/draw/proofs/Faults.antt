@@ -43,7 +43,8 @@ module _ (a b : Box) where
       let f = place-some 4 (boxFault a) (subst (λ n. n < 4) e h) in
       e ∙ sym (zero-add (placeOr 4 (boxFault a))) ∙ sym (ap (placeOr 8) (two-faults ∙ ap (λ o. orElse (moved 0 o) (moved 4 (boxFault b))) f))
 
-  pub fault-of-second : {place beyond : ℕ} → place ≡ placeOr 4 (boxFault a) → 4 ≤ place → beyond ≡ placeOr 4 (boxFault b) → 4 + beyond ≡ placeOr 8 (twoBoxesFault a b)
+  pub fault-of-second : {place beyond : ℕ} → place ≡ placeOr 4 (boxFault a) → 4 ≤ place → beyond ≡ placeOr 4 (boxFault b)
+      → 4 + beyond ≡ placeOr 8 (twoBoxesFault a b)
   fault-of-second e h f =
       let g = box-none a (subst (λ n. 4 ≤ n) e h) in
       ap (λ n. 4 + n) f ∙ behind (boxFault b) ∙ sym (ap (placeOr 8) (two-faults ∙ ap (λ o. orElse (moved 0 o) (moved 4 (boxFault b))) g))

@@ -1,4 +1,5 @@
--- Every point of a cover, a mixture of the two boxes by two weights that are not both 0, lies to the left of every edge of the drawn polygon, or on it between its ends.
+-- Every point of a cover, a mixture of the two boxes by two weights that are not both 0, lies to the left of every edge of the drawn polygon, or on
+-- it between its ends.
 use mathlib.Core.Path.{_≡_, refl, sym, subst}
 use mathlib.Core.Logic.{inl, inr, ⊎-elim}
 use mathlib.Core.List.{List, [], _∷_}
@@ -33,7 +34,8 @@ module _ (u v p : Point) (m n : ℕ) (some : 0 < m + n) where
   unfolding turn
   by-corners s₀ s₁ t₀ t₁ hy hx h₀ h₁ =
       *ℤ-cancel {k = pos (m + n)} (pos-lt some)
-      (le-by (u .x ∷ u .y ∷ v .x ∷ v .y ∷ p .x ∷ p .y ∷ s₀ ∷ s₁ ∷ t₀ ∷ t₁ ∷ pos m ∷ pos n ∷ []) (hy +₀ hx +₀ natural m ×₀ gap h₀ +₀ natural n ×₀ gap h₁) (search sides depth 40 fits 9999) refl)
+      (le-by (u .x ∷ u .y ∷ v .x ∷ v .y ∷ p .x ∷ p .y ∷ s₀ ∷ s₁ ∷ t₀ ∷ t₁ ∷ pos m ∷ pos n ∷ [])
+      (hy +₀ hx +₀ natural m ×₀ gap h₀ +₀ natural n ×₀ gap h₁) (search sides depth 40 fits 9999) refl)
 
   -- a product of two numbers that are both not negative, or both not positive
   up : {c d e f : ℤ} → c ≤ℤ d → e ≤ℤ f → NonNeg ((d -ℤ c) *ℤ (f -ℤ e))
@@ -49,15 +51,19 @@ module _ (u v p : Point) (m n : ℕ) (some : 0 < m + n) where
     mixture-left = ⊎-elim
         (λ dx. ⊎-elim
         (λ dy. by-corners (a .«x_high») (b .«x_high») (a .«y_low») (b .«y_low») (up dx (my .low)) (up dy (mx .high))
-        (edge .left _ (inl (record { x-from = oa .x; x-to = ≤ℤ-refl _; y-from = ≤ℤ-refl _; y-to = oa .y }))) (edge .left _ (inr (record { x-from = ob .x; x-to = ≤ℤ-refl _; y-from = ≤ℤ-refl _; y-to = ob .y }))))
+        (edge .left _ (inl (record { x-from = oa .x; x-to = ≤ℤ-refl _; y-from = ≤ℤ-refl _; y-to = oa .y })))
+        (edge .left _ (inr (record { x-from = ob .x; x-to = ≤ℤ-refl _; y-from = ≤ℤ-refl _; y-to = ob .y }))))
         (λ dy. by-corners (a .«x_low») (b .«x_low») (a .«y_low») (b .«y_low») (up dx (my .low)) (down dy (mx .low))
-        (edge .left _ (inl (record { x-from = ≤ℤ-refl _; x-to = oa .x; y-from = ≤ℤ-refl _; y-to = oa .y }))) (edge .left _ (inr (record { x-from = ≤ℤ-refl _; x-to = ob .x; y-from = ≤ℤ-refl _; y-to = ob .y }))))
+        (edge .left _ (inl (record { x-from = ≤ℤ-refl _; x-to = oa .x; y-from = ≤ℤ-refl _; y-to = oa .y })))
+        (edge .left _ (inr (record { x-from = ≤ℤ-refl _; x-to = ob .x; y-from = ≤ℤ-refl _; y-to = ob .y }))))
         (≥-total (u .y) (v .y)))
         (λ dx. ⊎-elim
         (λ dy. by-corners (a .«x_high») (b .«x_high») (a .«y_high») (b .«y_high») (down dx (my .high)) (up dy (mx .high))
-        (edge .left _ (inl (record { x-from = oa .x; x-to = ≤ℤ-refl _; y-from = oa .y; y-to = ≤ℤ-refl _ }))) (edge .left _ (inr (record { x-from = ob .x; x-to = ≤ℤ-refl _; y-from = ob .y; y-to = ≤ℤ-refl _ }))))
+        (edge .left _ (inl (record { x-from = oa .x; x-to = ≤ℤ-refl _; y-from = oa .y; y-to = ≤ℤ-refl _ })))
+        (edge .left _ (inr (record { x-from = ob .x; x-to = ≤ℤ-refl _; y-from = ob .y; y-to = ≤ℤ-refl _ }))))
         (λ dy. by-corners (a .«x_low») (b .«x_low») (a .«y_high») (b .«y_high») (down dx (my .high)) (down dy (mx .low))
-        (edge .left _ (inl (record { x-from = ≤ℤ-refl _; x-to = oa .x; y-from = oa .y; y-to = ≤ℤ-refl _ }))) (edge .left _ (inr (record { x-from = ≤ℤ-refl _; x-to = ob .x; y-from = ob .y; y-to = ≤ℤ-refl _ }))))
+        (edge .left _ (inl (record { x-from = ≤ℤ-refl _; x-to = oa .x; y-from = oa .y; y-to = ≤ℤ-refl _ })))
+        (edge .left _ (inr (record { x-from = ≤ℤ-refl _; x-to = ob .x; y-from = ob .y; y-to = ≤ℤ-refl _ }))))
         (≥-total (u .y) (v .y)))
         (≥-total (u .x) (v .x))
 
@@ -65,11 +71,13 @@ module _ (u v p : Point) (m n : ℕ) (some : 0 < m + n) where
 module _ {m n : ℕ} (some : 0 < m + n) {l₀ h₀ l₁ h₁ z : ℤ} (mix : Mixture m n l₀ h₀ l₁ h₁ z) where
   from-low : (u : ℤ) → u ≤ℤ l₀ → u ≤ℤ l₁ → u ≤ℤ z
   from-low u a b = *ℤ-cancel {k = pos (m + n)} (pos-lt some)
-      (le-by (pos m ∷ pos n ∷ l₀ ∷ l₁ ∷ z ∷ u ∷ []) (gap (mix .low) +₀ natural m ×₀ gap a +₀ natural n ×₀ gap b) (search sides depth 40 fits 9999) refl)
+      (le-by (pos m ∷ pos n ∷ l₀ ∷ l₁ ∷ z ∷ u ∷ []) (gap (mix .low) +₀ natural m ×₀ gap a +₀ natural n ×₀ gap b)
+      (search sides depth 40 fits 9999) refl)
 
   to-high : (v : ℤ) → h₀ ≤ℤ v → h₁ ≤ℤ v → z ≤ℤ v
   to-high v a b = *ℤ-cancel {k = pos (m + n)} (pos-lt some)
-      (le-by (pos m ∷ pos n ∷ h₀ ∷ h₁ ∷ z ∷ v ∷ []) (gap (mix .high) +₀ natural m ×₀ gap a +₀ natural n ×₀ gap b) (search sides depth 40 fits 9999) refl)
+      (le-by (pos m ∷ pos n ∷ h₀ ∷ h₁ ∷ z ∷ v ∷ []) (gap (mix .high) +₀ natural m ×₀ gap a +₀ natural n ×₀ gap b)
+      (search sides depth 40 fits 9999) refl)
 
   between-mix : (u v : ℤ) → Between u v l₀ → Between u v h₀ → Between u v l₁ → Between u v h₁ → Between u v z
   between-mix u v a b c d = ⊎-elim
@@ -100,17 +108,23 @@ module _ (a b : Box) (accepted : twoBoxesFault a b ≡ none) where
 
   -- one or two vertices: all corners lie on the edge
   module _ (few : length vs ≤ 2) (k : ℕ) (h : k < length vs) where
-    on-edge : (q : Point) → OfBoxes a b q → Between (round vs k .x) (round vs (suc k) .x) (q .x) × Between (round vs k .y) (round vs (suc k) .y) (q .y)
+    on-edge : (q : Point) → OfBoxes a b q
+        → Between (round vs k .x) (round vs (suc k) .x) (q .x) × Between (round vs k .y) (round vs (suc k) .y) (q .y)
     on-edge q x = let g = hull-of-boxes a b accepted in
         g .edge k h .on q x (two-vertices g few (round vs k) (round vs (suc k)) q (vertex-of k (omega arith)) (vertex-of (suc k) h) x)
 
-    flat-between : (p : Point) → OfCover a b p → Between (round vs k .x) (round vs (suc k) .x) (p .x) × Between (round vs k .y) (round vs (suc k) .y) (p .y)
+    flat-between : (p : Point) → OfCover a b p
+        → Between (round vs k .x) (round vs (suc k) .x) (p .x) × Between (round vs k .y) (round vs (suc k) .y) (p .y)
     flat-between p c =
         let o = ordered a b accepted in
-        let la = on-edge (record { x = a .«x_low»; y = a .«y_low» }) (inl (record { x-from = ≤ℤ-refl _; x-to = o .0 .x; y-from = ≤ℤ-refl _; y-to = o .0 .y })) in
-        let ha = on-edge (record { x = a .«x_high»; y = a .«y_high» }) (inl (record { x-from = o .0 .x; x-to = ≤ℤ-refl _; y-from = o .0 .y; y-to = ≤ℤ-refl _ })) in
-        let lb = on-edge (record { x = b .«x_low»; y = b .«y_low» }) (inr (record { x-from = ≤ℤ-refl _; x-to = o .1 .x; y-from = ≤ℤ-refl _; y-to = o .1 .y })) in
-        let hb = on-edge (record { x = b .«x_high»; y = b .«y_high» }) (inr (record { x-from = o .1 .x; x-to = ≤ℤ-refl _; y-from = o .1 .y; y-to = ≤ℤ-refl _ })) in (
+        let la = on-edge (record { x = a .«x_low»; y = a .«y_low» })
+        (inl (record { x-from = ≤ℤ-refl _; x-to = o .0 .x; y-from = ≤ℤ-refl _; y-to = o .0 .y })) in
+        let ha = on-edge (record { x = a .«x_high»; y = a .«y_high» })
+        (inl (record { x-from = o .0 .x; x-to = ≤ℤ-refl _; y-from = o .0 .y; y-to = ≤ℤ-refl _ })) in
+        let lb = on-edge (record { x = b .«x_low»; y = b .«y_low» })
+        (inr (record { x-from = ≤ℤ-refl _; x-to = o .1 .x; y-from = ≤ℤ-refl _; y-to = o .1 .y })) in
+        let hb = on-edge (record { x = b .«x_high»; y = b .«y_high» })
+        (inr (record { x-from = o .1 .x; x-to = ≤ℤ-refl _; y-from = o .1 .y; y-to = ≤ℤ-refl _ })) in (
           between-mix (c .some) (c .in-x) (round vs k .x) (round vs (suc k) .x) (la .0) (ha .0) (lb .0) (hb .0),
           between-mix (c .some) (c .in-y) (round vs k .y) (round vs (suc k) .y) (la .1) (ha .1) (lb .1) (hb .1),
         )
@@ -119,5 +133,7 @@ module _ (a b : Box) (accepted : twoBoxesFault a b ≡ none) where
   pub cover-edge : (k : ℕ) → k < length vs → Edge (OfCover a b) (round vs k) (round vs (suc k))
   cover-edge k h = record {
     left = λ p c. cover-left p c k h;
-    on = λ p c z. ⊎-elim (λ t. inside-between (hull-of-boxes a b accepted) t p (cover-left p c) k h z) (λ f. flat-between f k h p c) (lt-or-ge 2 (length vs));
+    on =
+        λ p c z. ⊎-elim (λ t. inside-between (hull-of-boxes a b accepted) t p (cover-left p c) k h z) (λ f. flat-between f k h p c)
+        (lt-or-ge 2 (length vs));
   }

@@ -14,7 +14,8 @@ use Rattle.boxes.specs.declared.Box.{Box}
 use Rattle.draw_polygon.specs.declared.Span.{Span}
 use Rattle.draw_polygon.specs.declared.Point.{Point}
 use Rattle.draw_polygon.specs.declared.Ends.{Ends}
-use Rattle.draw_polygon.specs.Polygon.{lower, higher, joined, reached, endsOf, acrossOf, uprightOf, pathPoint, same, verticesOf, pathOf, vertices}
+use Rattle.draw_polygon.specs.Polygon.{lower, higher, joinedSpan, reached, endsOfSpans, acrossOf, uprightOf, pathPoint, same, verticesOf, pathOf}
+use Rattle.draw_polygon.specs.Polygon.{vertices}
 
 module _ {a b : ℤ} (fa : SFits w32 a) (fb : SFits w32 b) where
   pub less : (t : Bool) → ltZ (stored w32 a) (stored w32 b) ≡ t → ltZ a b ≡ t
@@ -42,24 +43,26 @@ module _ {a b : ℤ} (fa : SFits w32 a) (fb : SFits w32 b) (s t : Span) (e : ltZ
   unfolding reached
   reached-second f = rw (less fa fb false e, less fb fa true f, reached)
 
-  pub reached-both : ltZ (stored w32 b) (stored w32 a) ≡ false → joined s t ≡ reached a b s t
+  pub reached-both : ltZ (stored w32 b) (stored w32 a) ≡ false → joinedSpan s t ≡ reached a b s t
   unfolding reached
   reached-both f = rw (less fa fb false e, less fb fa false f, reached)
 
 -- two lows and two highs, as the calls answered
-pub joined-is : {s t : Span} {l h : ℤ} → SFits w32 (s .low) → SFits w32 (s .high) → SFits w32 (t .low) → SFits w32 (t .high) → SFits w32 l → SFits w32 h
+pub joined-is : {s t : Span} {l h : ℤ} → SFits w32 (s .low) → SFits w32 (s .high) → SFits w32 (t .low) → SFits w32 (t .high) → SFits w32 l
+    → SFits w32 h
     → l ≡ lower (stored w32 (s .low)) (stored w32 (t .low)) → h ≡ higher (stored w32 (s .high)) (stored w32 (t .high))
-    → _≡_ {A = Span} (record { low = stored w32 l; high = stored w32 h }) (joined s t)
+    → _≡_ {A = Span} (record { low = stored w32 l; high = stored w32 h }) (joinedSpan s t)
 joined-is sl sh tl th fl fh e f =
     ap₂ (λ x y. record { low = x; high = y }) (toZ-ofZ fl ∙ rw (toZ-ofZ sl, toZ-ofZ tl) at e) (toZ-ofZ fh ∙ rw (toZ-ofZ sh, toZ-ofZ th) at f)
 
 pub ends-are : (l m s t : Span) {j p q : Span} → SFits w32 (l .low) → SFits w32 (l .high) → SFits w32 (m .low) → SFits w32 (m .high)
-    → j ≡ joined l m → p ≡ reached (stored w32 (l .low)) (stored w32 (m .low)) s t → q ≡ reached (stored w32 (m .high)) (stored w32 (l .high)) s t
-    → _≡_ {A = Ends} (record { levels = j; lowest = p; highest = q }) (endsOf l m s t)
-unfolding endsOf
+    → j ≡ joinedSpan l m → p ≡ reached (stored w32 (l .low)) (stored w32 (m .low)) s t → q ≡ reached (stored w32 (m .high)) (stored w32 (l .high)) s t
+    → _≡_ {A = Ends} (record { levels = j; lowest = p; highest = q }) (endsOfSpans l m s t)
+unfolding endsOfSpans
 ends-are l m s t {q} ll lh ml mh e f g =
     ap₂ (λ x y. record { levels = x; lowest = y; highest = q }) e (f ∙ ap₂ (λ a b. reached a b s t) (toZ-ofZ ll) (toZ-ofZ ml))
-    ∙ ap (λ z. record { levels = joined l m; lowest = reached (l .low) (m .low) s t; highest = z }) (g ∙ ap₂ (λ a b. reached a b s t) (toZ-ofZ mh) (toZ-ofZ lh))
+    ∙ ap (λ z. record { levels = joinedSpan l m; lowest = reached (l .low) (m .low) s t; highest = z })
+    (g ∙ ap₂ (λ a b. reached a b s t) (toZ-ofZ mh) (toZ-ofZ lh))
 
 -- ---- points
 module _ (u v : Ends) where
@@ -92,9 +95,9 @@ same-by-x p q px qx f = bits-test px qx ∙ rw (bits-differ px qx f)
 
 -- ---- the path of two boxes, from what the code called
 pub vertices-are : (a b : Box) {x u y v : Span} {p q : Ends} → x ≡ acrossOf a → u ≡ acrossOf b → y ≡ uprightOf a → v ≡ uprightOf b
-    → p ≡ endsOf y v x u → q ≡ endsOf x u y v → verticesOf (pathPoint p q) ≡ vertices a b
+    → p ≡ endsOfSpans y v x u → q ≡ endsOfSpans x u y v → verticesOf (pathPoint p q) ≡ vertices a b
 unfolding pathOf vertices
 vertices-are a b {p} {q} ex eu ey ev ep eq =
-    let e : p ≡ endsOf (uprightOf a) (uprightOf b) (acrossOf a) (acrossOf b) = cc in
-    let f : q ≡ endsOf (acrossOf a) (acrossOf b) (uprightOf a) (uprightOf b) = cc in
+    let e : p ≡ endsOfSpans (uprightOf a) (uprightOf b) (acrossOf a) (acrossOf b) = cc in
+    let f : q ≡ endsOfSpans (acrossOf a) (acrossOf b) (uprightOf a) (uprightOf b) = cc in
     ap₂ (λ m n. verticesOf (pathPoint m n)) e f

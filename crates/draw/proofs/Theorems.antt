@@ -34,8 +34,14 @@ module _ (a b : Box) (accepted : twoBoxesFault a b ≡ none) where
 
   pub ordered : Ordered a × Ordered b
   ordered = (
-    record { x = order (a .«x_low») (a .«x_high») (none-bad fine 8 0 accepted 0 (omega arith)); y = order (a .«y_low») (a .«y_high») (none-bad fine 8 0 accepted 2 (omega arith)) },
-    record { x = order (b .«x_low») (b .«x_high») (none-bad fine 8 0 accepted 4 (omega arith)); y = order (b .«y_low») (b .«y_high») (none-bad fine 8 0 accepted 6 (omega arith)) },
+    record {
+      x = order (a .«x_low») (a .«x_high») (none-bad fine 8 0 accepted 0 (omega arith));
+      y = order (a .«y_low») (a .«y_high») (none-bad fine 8 0 accepted 2 (omega arith));
+    },
+    record {
+      x = order (b .«x_low») (b .«x_high») (none-bad fine 8 0 accepted 4 (omega arith));
+      y = order (b .«y_low») (b .«y_high») (none-bad fine 8 0 accepted 6 (omega arith));
+    },
   )
     where
       order : (l m : ℤ) → (inRange l && leZ l m) ≡ true → l ≤ℤ m

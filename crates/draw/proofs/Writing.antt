@@ -11,7 +11,7 @@ use lib.Seq.{sets, length-sets, sets-eq}
 use lib.IntN.{ℤ}
 use Rattle.integers.proofs.Stores.{sets-append}
 use Rattle.draw_polygon.specs.declared.Point.{Point}
-use Rattle.draw_polygon.specs.Polygon.{same, unless, moves, orFirst, verticesOf, numbers}
+use Rattle.draw_polygon.specs.Polygon.{same, unlessSame, moves, orFirst, verticesOf, numbers}
 use Rattle.draw_polygon.proofs.Vertices.{unless-none, unless-one, moves-most}
 
 -- ---- numbers
@@ -35,11 +35,12 @@ two-sets l at ea eb = ap₂ (λ x y. set (set l at x) (at + 1) y) ea eb ∙ rw a
 
 -- ---- one point, unless the next is the same
 module _ (p q : Point) (l : List ℤ) (at n : ℕ) where
-  pub unless-same : same p q ≡ true → (n ≡ n + length (unless p q)) × (l ≡ sets l at (numbers (unless p q)))
+  pub unless-same : same p q ≡ true → (n ≡ n + length (unlessSame p q)) × (l ≡ sets l at (numbers (unlessSame p q)))
   unfolding numbers
   unless-same e = (sym (add-zero n) ∙ ap (λ x. n + length x) (sym (unless-none p q e)), ap (λ x. sets l at (numbers x)) (sym (unless-none p q e)))
 
-  pub unless-new : {l′ : List ℤ} → same p q ≡ false → l′ ≡ sets l at (p .x ∷ p .y ∷ []) → (n + 1 ≡ n + length (unless p q)) × (l′ ≡ sets l at (numbers (unless p q)))
+  pub unless-new : {l′ : List ℤ} → same p q ≡ false → l′ ≡ sets l at (p .x ∷ p .y ∷ [])
+      → (n + 1 ≡ n + length (unlessSame p q)) × (l′ ≡ sets l at (numbers (unlessSame p q)))
   unfolding numbers
   unless-new e f = (ap (λ x. n + length x) (sym (unless-one p q e)), f ∙ ap (λ x. sets l at (numbers x)) (sym (unless-one p q e)))
 
@@ -60,20 +61,21 @@ module _ (f : ℕ → Point) (l : List ℤ) where
     pub written-most : count ≤ k
     written-most = omega (arith, w .is, moves-most f k)
 
-    next : moves f (k + 1) ≡ moves f k ++ unless (f k) (f (k + 1))
+    next : moves f (k + 1) ≡ moves f k ++ unlessSame (f k) (f (k + 1))
     unfolding moves
     next = rw add-one
 
-    pub written-on : {p q : Point} {count′ : ℕ} {l″ : List ℤ} → p ≡ f k → q ≡ f (k + 1) → count′ ≡ count + length (unless p q)
-        → l″ ≡ sets l′ (2 * count) (numbers (unless p q)) → Written f l (k + 1) count′ l″
+    pub written-on : {p q : Point} {count′ : ℕ} {l″ : List ℤ} → p ≡ f k → q ≡ f (k + 1) → count′ ≡ count + length (unlessSame p q)
+        → l″ ≡ sets l′ (2 * count) (numbers (unlessSame p q)) → Written f l (k + 1) count′ l″
     written-on {p} {q} ep eq ec el =
-        let u = unless (f k) (f (k + 1)) in
-        let same-point : unless p q ≡ u = ap₂ unless ep eq in
+        let u = unlessSame (f k) (f (k + 1)) in
+        let same-point : unlessSame p q ≡ u = ap₂ unlessSame ep eq in
         let ec′ = ec ∙ ap (λ x. count + length x) same-point in
         record {
           is = ec′ ∙ ap (λ x. x + length u) (w .is) ∙ sym (length-append (moves f k) u) ∙ ap length (sym next);
           list = el ∙ ap (λ x. sets l′ (2 * count) (numbers x)) same-point
-              ∙ ap₂ (λ x n. sets x n (numbers u)) (w .list) (ap (λ n. 2 * n) (w .is) ∙ sym (numbers-length (moves f k)) ∙ sym (zero-add (length (numbers (moves f k)))))
+              ∙ ap₂ (λ x n. sets x n (numbers u)) (w .list)
+              (ap (λ n. 2 * n) (w .is) ∙ sym (numbers-length (moves f k)) ∙ sym (zero-add (length (numbers (moves f k)))))
               ∙ sym (sets-append l 0 (numbers (moves f k)) (numbers u))
               ∙ ap (sets l 0) (sym (numbers-append (moves f k) u) ∙ ap numbers (sym next));
         }
@@ -94,7 +96,8 @@ module _ (f : ℕ → Point) (l : List ℤ) where
       let w = subst (λ n. Written f l n count l′) e8 w′ in
       rw (verticesOf, some-points (f 0) (moves f 8) (λ e. h (w .is ∙ e))) (w .is, w .list)
 
-  pub written-none : {k count : ℕ} {l′ l″ : List ℤ} {p : Point} → Written f l k count l′ → k ≡ 8 → count ≡ 0 → p ≡ f 0 → l″ ≡ sets l′ (2 * 0) (p .x ∷ p .y ∷ [])
+  pub written-none : {k count : ℕ} {l′ l″ : List ℤ} {p : Point} → Written f l k count l′ → k ≡ 8 → count ≡ 0 → p ≡ f 0
+      → l″ ≡ sets l′ (2 * 0) (p .x ∷ p .y ∷ [])
       → (1 ≡ length (verticesOf f)) × (l″ ≡ sets l 0 (numbers (verticesOf f)))
   unfolding verticesOf numbers
   written-none {count} {l′} {p} w′ e8 e ep el =

@@ -26,9 +26,9 @@ drawn a b room =
     ]
 
 -- the caller's list afterwards: x and y of each vertex in front of what stood behind them; a refusal alters nothing
-abbrev pub writtenBy : Drawn → List ℤ → List ℤ → List ℤ
-writtenBy (Refused r) ns old = old
-writtenBy (Vertices n) ns old = ns ++ drop (length ns) old
+abbrev pub listAfter : Drawn → List ℤ → List ℤ → List ℤ
+listAfter (Refused r) ns old = old
+listAfter (Vertices n) ns old = ns ++ drop (length ns) old
 
 unfoldable pub drawnInto : Box → Box → List ℤ → List ℤ
-drawnInto a b old = writtenBy (drawn a b (length old)) (numbers (vertices a b)) old
+drawnInto a b old = listAfter (drawn a b (length old)) (numbers (vertices a b)) old

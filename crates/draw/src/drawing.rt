@@ -1,4 +1,4 @@
-// What drawing answers. Its definitions and theorems stand here, its code in `cover`.
+// What drawing answers.
 use refusals::Refusal;
 
 // What drawing answers: how many vertices were written, or the first fault.

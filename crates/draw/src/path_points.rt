@@ -1,6 +1,7 @@
-// The points of the path round two boxes, computed; what the path is stands in `polygon`.
+// The points of the path round two boxes, computed; what the path is stands in the crate `draw_polygon`.
 ghost use mathlib.Core.Path.{_≡_};
-ghost use Rattle.draw_polygon.specs.Polygon.{lower, higher, joined, reached, endsOf, acrossOf, uprightOf, pathPoint, same};
+ghost use Rattle.draw_polygon.specs.Polygon.{lower, higher, joinedSpan, reached, endsOfSpans, acrossOf, uprightOf};
+ghost use Rattle.draw_polygon.specs.Polygon.{pathPoint, same};
 use boxes::Box;
 use draw_polygon::Ends;
 use draw_polygon::Point;
@@ -19,8 +20,8 @@ fn higher(a: i32, b: i32) -> i32
 }
 
 // The span from the lower low to the higher high.
-fn joined(first: Span, second: Span) -> Span
-    ensures { λ r. ⌜ r ≡ joined first second ⌝ }
+fn joined_span(first: Span, second: Span) -> Span
+    ensures { λ r. ⌜ r ≡ joinedSpan first second ⌝ }
 {
     let low = lower(first.low, second.low);
     let high = higher(first.high, second.high);
@@ -37,7 +38,7 @@ fn reached(a: i32, b: i32, first: Span, second: Span) -> Span
     if b < a {
         return second;
     }
-    joined(first, second)
+    joined_span(first, second)
 }
 
 // The x that a box covers.
@@ -59,10 +60,10 @@ pub fn upright(b: Box) -> Span
 }
 
 // The ends of two boxes whose levels and stretches are given.
-pub fn ends_of(first: Span, second: Span, across_first: Span, across_second: Span) -> Ends
-    ensures { λ r. ⌜ r ≡ endsOf first second «across_first» «across_second» ⌝ }
+pub fn ends_of_spans(first: Span, second: Span, across_first: Span, across_second: Span) -> Ends
+    ensures { λ r. ⌜ r ≡ endsOfSpans first second «across_first» «across_second» ⌝ }
 {
-    let levels = joined(first, second);
+    let levels = joined_span(first, second);
     let lowest = reached(first.low, second.low, across_first, across_second);
     let highest = reached(second.high, first.high, across_first, across_second);
     Ends {
@@ -72,7 +73,8 @@ pub fn ends_of(first: Span, second: Span, across_first: Span, across_second: Spa
     }
 }
 
-// Point k of the path, from 0 to 8, where the last is the first again. The levels of `upright` are y, those of `across` are x.
+// Point k of the path, from 0 to 8, where the last is the first again. The levels of `upright` are y, those of `across`
+// are x.
 pub fn path_point(upright: Ends, across: Ends, k: usize) -> Point
     ensures { λ r. ⌜ r ≡ pathPoint upright across k ⌝ }
 {

@@ -4,9 +4,9 @@ ghost use mathlib.Core.List.{[], _∷_};
 ghost use Prim.Native.Nat.{_+_, _*_, _≤_};
 ghost use lib.ListN.{length};
 ghost use lib.Seq.{sets};
-ghost use Rattle.draw_polygon.specs.Polygon.{pathPoint, unless, verticesOf, vertices, numbers};
+ghost use Rattle.draw_polygon.specs.Polygon.{pathPoint, unlessSame, verticesOf, vertices, numbers};
 use crate::path_points::across;
-use crate::path_points::ends_of;
+use crate::path_points::ends_of_spans;
 use crate::path_points::is_same;
 use crate::path_points::path_point;
 use crate::path_points::upright;
@@ -29,7 +29,8 @@ fn put_point(list: &mut [i32], count: usize, p: Point)
 // The point p as vertex number `count`, unless q is the same. It returns the count with it.
 fn put_unless(list: &mut [i32], count: usize, p: Point, q: Point) -> usize
     requires { ⌜ 2 * count + 2 ≤ length (now list) ⌝ }
-    ensures { λ r. ⌜ (r ≡ count + length (unless p q)) × (now (list .exit) ≡ sets (now (list .entry)) (2 * count) (numbers (unless p q))) ⌝ }
+    ensures { λ r. ⌜ r ≡ count + length (unlessSame p q) ⌝ }
+    ensures { λ r. ⌜ now (list .exit) ≡ sets (now (list .entry)) (2 * count) (numbers (unlessSame p q)) ⌝ }
 {
     if is_same(p, q) {
         return count;
@@ -41,7 +42,8 @@ fn put_unless(list: &mut [i32], count: usize, p: Point, q: Point) -> usize
 // The vertices of the path between these ends, from the front of the list on. It returns their count.
 fn put_path(list: &mut [i32], upright: Ends, across: Ends) -> usize
     requires { ⌜ 16 ≤ length (now list) ⌝ }
-    ensures { λ r. ⌜ (r ≡ length (verticesOf (pathPoint upright across))) × (now (list .exit) ≡ sets (now (list .entry)) 0 (numbers (verticesOf (pathPoint upright across)))) ⌝ }
+    ensures { λ r. ⌜ r ≡ length (verticesOf (pathPoint upright across)) ⌝ }
+    ensures { λ r. ⌜ now (list .exit) ≡ sets (now (list .entry)) 0 (numbers (verticesOf (pathPoint upright across))) ⌝ }
 {
     let mut count: usize = 0;
     let mut k: usize = 0;
@@ -61,11 +63,12 @@ fn put_path(list: &mut [i32], upright: Ends, across: Ends) -> usize
 // The vertices of two boxes.
 pub fn put_vertices(list: &mut [i32], first: Box, second: Box) -> usize
     requires { ⌜ 16 ≤ length (now list) ⌝ }
-    ensures { λ r. ⌜ (r ≡ length (vertices first second)) × (now (list .exit) ≡ sets (now (list .entry)) 0 (numbers (vertices first second))) ⌝ }
+    ensures { λ r. ⌜ r ≡ length (vertices first second) ⌝ }
+    ensures { λ r. ⌜ now (list .exit) ≡ sets (now (list .entry)) 0 (numbers (vertices first second)) ⌝ }
 {
     let x = across(first);
     let u = across(second);
     let y = upright(first);
     let v = upright(second);
-    put_path(list, ends_of(y, v, x, u), ends_of(x, u, y, v))
+    put_path(list, ends_of_spans(y, v, x, u), ends_of_spans(x, u, y, v))
 }

@@ -53,15 +53,18 @@ module _ (a b : Box) (oa : Ordered a) (ob : Ordered b) where
 
   path-of : (k : ℕ) → k ≤ 8 → OfBoxes a b (path k)
   path-of k h = ⊎-elim (λ l. of-corner (path-corner k a b oa ob l))
-      (λ l. let e : k ≡ 8 = omega arith in subst (OfBoxes a b) (sym (ap path e ∙ path-closes)) (of-corner (path-corner 0 a b oa ob (omega arith)))) (lt-or-ge k 8)
+      (λ l. let e : k ≡ 8 = omega arith in subst (OfBoxes a b) (sym (ap path e ∙ path-closes)) (of-corner (path-corner 0 a b oa ob (omega arith))))
+      (lt-or-ge k 8)
 
   apart : (j k : ℕ) → j < k → k < 8 → Moves path j → Moves path k → path j ≡ path k → ⊥
   apart j k l h mj mk e =
       let s = step j a b oa ob (omega arith) mj in
       let t = step k a b oa ob h mk in
-      let n = next-unique (s .edge) (subst (λ p. Edge (OfBoxes a b) p (path (suc k))) (sym e) (t .edge)) (path-of (suc j) (omega arith)) (path-of (suc k) h) in
+      let n = next-unique (s .edge) (subst (λ p. Edge (OfBoxes a b) p (path (suc k))) (sym e) (t .edge)) (path-of (suc j) (omega arith))
+      (path-of (suc k) h) in
       let q = same-heading (path k) (path (suc k)) (half j) (half k) (omega (arith, half-less j)) (omega (arith, half-less k))
-      (subst (λ p. East (quarters (half j) p) (quarters (half j) (path (suc k)))) e (subst (λ p. East (quarters (half j) (path j)) (quarters (half j) p)) n (s .heading))) (t .heading) in
+      (subst (λ p. East (quarters (half j) p) (quarters (half j) (path (suc k)))) e
+      (subst (λ p. East (quarters (half j) (path j)) (quarters (half j) p)) n (s .heading))) (t .heading) in
       mj (e ∙ ap path (half-next j k l q))
 
   -- ---- a path that never moves: there is one point
@@ -69,7 +72,8 @@ module _ (a b : Box) (oa : Ordered a) (ob : Ordered b) where
   only-point e p x =
       let at : (k : ℕ) → k < 8 → quarters (half k) (path 0) .y ≤ℤ quarters (half k) p .y =
       λ k h. subst (λ q. quarters (half k) q .y ≤ℤ quarters (half k) p .y) (stays path 8 e k (omega arith)) (above k a b oa ob h p x) in
-      point-≡ (≤ℤ-antisymm (le-neg (at 2 (omega arith))) (le-neg (le-neg (at 6 (omega arith))))) (≤ℤ-antisymm (le-neg (at 4 (omega arith))) (at 0 (omega arith)))
+      point-≡ (≤ℤ-antisymm (le-neg (at 2 (omega arith))) (le-neg (le-neg (at 6 (omega arith)))))
+      (≤ℤ-antisymm (le-neg (at 4 (omega arith))) (at 0 (omega arith)))
 
   still : moves path 8 ≡ [] → Hull (OfBoxes a b) (path 0 ∷ [])
   still e = record {
@@ -83,7 +87,9 @@ module _ (a b : Box) (oa : Ordered a) (ob : Ordered b) where
       stay : Edge (OfBoxes a b) (path 0) (path 0)
       stay = record {
         left = λ p x. ≡-≤ (sym (turn-stay (path 0) p));
-        on = λ p x z. let f = only-point e p x in (inl (≡-≤ (sym (ap (λ q. q .x) f)), ≡-≤ (ap (λ q. q .x) f)), inl (≡-≤ (sym (ap (λ q. q .y) f)), ≡-≤ (ap (λ q. q .y) f)));
+        on =
+            λ p x z. let f = only-point e p x in
+            (inl (≡-≤ (sym (ap (λ q. q .x) f)), ≡-≤ (ap (λ q. q .x) f)), inl (≡-≤ (sym (ap (λ q. q .y) f)), ≡-≤ (ap (λ q. q .y) f)));
       }
 
   -- ---- a path that moves
@@ -97,7 +103,8 @@ module _ (a b : Box) (oa : Ordered a) (ob : Ordered b) where
     some = omega arith;
     each = λ k h. of-corner (met-corner q qs e k h);
     edge = λ k h. subst (λ p. Edge (OfBoxes a b) p (round vs (suc k))) (sym (round-closed k (omega arith)))
-        (subst (Edge (OfBoxes a b) (getD closed k origin)) (sym (round-closed (suc k) h)) (chain-at chain k (omega (arith, length-append vs (q ∷ [])))));
+        (subst (Edge (OfBoxes a b) (getD closed k origin)) (sym (round-closed (suc k) h))
+        (chain-at chain k (omega (arith, length-append vs (q ∷ [])))));
     once = λ i k l h f. once i k l h (sym (round-at vs i (omega arith)) ∙ f ∙ round-at vs k h);
     first = subst (Lowest (OfBoxes a b)) (sym head) (start-lowest a b oa ob);
   }
@@ -112,11 +119,15 @@ module _ (a b : Box) (oa : Ordered a) (ob : Ordered b) where
       closed = q ∷ qs ++ q ∷ []
 
       chain : Chain (Edge (OfBoxes a b)) closed
-      chain = subst (λ l. Chain (Edge (OfBoxes a b)) (l ++ q ∷ [])) e (subst (λ p. Chain (Edge (OfBoxes a b)) (moves path 8 ++ p ∷ [])) (path-closes ∙ sym head)
+      chain =
+          subst (λ l. Chain (Edge (OfBoxes a b)) (l ++ q ∷ [])) e
+          (subst (λ p. Chain (Edge (OfBoxes a b)) (moves path 8 ++ p ∷ [])) (path-closes ∙ sym head)
           (path-chain path 8 (λ k h m. step k a b oa ob h m .edge) 8 (omega arith)))
 
       round-closed : (k : ℕ) → k ≤ length vs → round vs k ≡ getD closed k origin
-      round-closed k h = ap (λ l. getD l k origin) (sym (append-assoc vs (q ∷ []) qs)) ∙ List·getD-append closed qs origin k (omega (arith, length-append vs (q ∷ [])))
+      round-closed k h =
+          ap (λ l. getD l k origin) (sym (append-assoc vs (q ∷ []) qs))
+          ∙ List·getD-append closed qs origin k (omega (arith, length-append vs (q ∷ [])))
 
       once : (i k : ℕ) → i < k → k < length vs → getD vs i origin ≡ getD vs k origin → ⊥
       once = subst (λ l. (i k : ℕ) → i < k → k < length l → getD l i origin ≡ getD l k origin → ⊥) e (path-once path 8 apart 8 (omega arith))

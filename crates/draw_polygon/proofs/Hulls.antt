@@ -1,5 +1,5 @@
--- What follows for every hull, of whatever points: edges that follow one another turn strictly left; a point to the left of every edge lies between the ends of one that it
--- is in line with; one vertex is one point, two are a line; and there is one hull.
+-- What follows for every hull, of whatever points: edges that follow one another turn strictly left; a point to the left of every edge lies between
+-- the ends of one that it is in line with; one vertex is one point, two are a line; and there is one hull.
 use mathlib.Core.Path.{_≡_, refl, sym, _∙_, ap, subst}
 use mathlib.Core.Logic.{_⊎_, inl, inr, ⊎-elim}
 use mathlib.Core.List.{List, [], _∷_}
@@ -36,7 +36,13 @@ module _ {X : Point → Type 0} {vs : List Point} (h : Hull X vs) (three : 3 ≤
 
   after : After
   after = ⊎-elim
-      (λ a. record { place = suc (suc k); within = a; is = refl; other = h .once k (suc (suc k)) (omega arith) a; edge = h .edge (suc k) (omega arith) })
+      (λ a. record {
+        place = suc (suc k);
+        within = a;
+        is = refl;
+        other = h .once k (suc (suc k)) (omega arith) a;
+        edge = h .edge (suc k) (omega arith);
+      })
       (λ a. ⊎-elim
       (λ b. let e = round-again vs (suc (suc k)) 0 (omega arith) (omega arith) in
       record { place = 0; within = omega arith; is = e; other = λ z. h .once 0 k (omega arith) l (sym (z ∙ e)); edge = h .edge (suc k) b })
@@ -56,7 +62,8 @@ module _ {X : Point → Type 0} {vs : List Point} (h : Hull X vs) (three : 3 ≤
   pub strictly-left : pos 0 <ℤ turn (round vs k) (round vs (suc k)) (round vs (suc (suc k)))
   strictly-left =
       let a = after in
-      ⊎-elim (λ e. absurd (a .other e)) (λ t. t) (turns-left (h .edge k l) (a .edge) (h .each k l) (subst X (sym (a .is)) (h .each (a .place) (a .within))))
+      ⊎-elim (λ e. absurd (a .other e)) (λ t. t)
+      (turns-left (h .edge k l) (a .edge) (h .each k l) (subst X (sym (a .is)) (h .each (a .place) (a .within))))
 
 -- ---- inside: a point to the left of every edge, or on it, that lies on the line of one lies between its ends
 same-sign : {d r g s : ℤ} → d *ℤ r ≡ g *ℤ s → pos 0 ≤ℤ r → pos 0 <ℤ s → (pos 0 ≤ℤ d → pos 0 ≤ℤ g) × (d ≤ℤ pos 0 → g ≤ℤ pos 0)
@@ -67,7 +74,8 @@ same-sign {d} {r} {g} {s} e hr hs = (
 
 between-by : {a b c : ℤ} → (pos 0 ≤ℤ (b -ℤ a) → pos 0 ≤ℤ (c -ℤ a)) × ((b -ℤ a) ≤ℤ pos 0 → (c -ℤ a) ≤ℤ pos 0)
     → (pos 0 ≤ℤ (b -ℤ a) → pos 0 ≤ℤ (b -ℤ c)) × ((b -ℤ a) ≤ℤ pos 0 → (b -ℤ c) ≤ℤ pos 0) → Between a b c
-between-by {a} {b} {c} h k = ⊎-elim (λ l. inl (rise (h .0 l), rise (k .0 l))) (λ l. inr (fall (k .1 (lt-le l)), fall (h .1 (lt-le l)))) (le-or-lt (pos 0) (b -ℤ a))
+between-by {a} {b} {c} h k =
+    ⊎-elim (λ l. inl (rise (h .0 l), rise (k .0 l))) (λ l. inr (fall (k .1 (lt-le l)), fall (h .1 (lt-le l)))) (le-or-lt (pos 0) (b -ℤ a))
   where
     rise : {d e : ℤ} → pos 0 ≤ℤ (e -ℤ d) → d ≤ℤ e
     rise {d} {e} l = le-by (d ∷ e ∷ []) (gap l) (search sides depth 20) refl
@@ -95,10 +103,13 @@ module _ (t u v w p : Point) (line : turn u v p ≡ pos 0) where
   drop-line : (x c : ℤ) → x +ℤ c *ℤ turn u v p ≡ x
   drop-line x c = ap (λ z. x +ℤ c *ℤ z) line ∙ ring (x ∷ c ∷ []) (search sides depth 20) refl
 
-  between-ends : pos 0 <ℤ turn t u v → pos 0 <ℤ turn u v w → pos 0 ≤ℤ turn t u p → pos 0 ≤ℤ turn v w p → Between (u .x) (v .x) (p .x) × Between (u .y) (v .y) (p .y)
+  between-ends : pos 0 <ℤ turn t u v → pos 0 <ℤ turn u v w → pos 0 ≤ℤ turn t u p → pos 0 ≤ℤ turn v w p
+      → Between (u .x) (v .x) (p .x) × Between (u .y) (v .y) (p .y)
   between-ends st sw ht hw = (
-    between-by (same-sign (behind-x ∙ drop-line ((p .x -ℤ u .x) *ℤ turn t u v) (u .x -ℤ t .x)) ht st) (same-sign (ahead-x ∙ drop-line ((v .x -ℤ p .x) *ℤ turn u v w) (w .x -ℤ v .x)) hw sw),
-    between-by (same-sign (behind-y ∙ drop-line ((p .y -ℤ u .y) *ℤ turn t u v) (u .y -ℤ t .y)) ht st) (same-sign (ahead-y ∙ drop-line ((v .y -ℤ p .y) *ℤ turn u v w) (w .y -ℤ v .y)) hw sw),
+    between-by (same-sign (behind-x ∙ drop-line ((p .x -ℤ u .x) *ℤ turn t u v) (u .x -ℤ t .x)) ht st)
+        (same-sign (ahead-x ∙ drop-line ((v .x -ℤ p .x) *ℤ turn u v w) (w .x -ℤ v .x)) hw sw),
+    between-by (same-sign (behind-y ∙ drop-line ((p .y -ℤ u .y) *ℤ turn t u v) (u .y -ℤ t .y)) ht st)
+        (same-sign (ahead-y ∙ drop-line ((v .y -ℤ p .y) *ℤ turn u v w) (w .y -ℤ v .y)) hw sw),
   )
 
 module _ {X : Point → Type 0} {vs : List Point} (h : Hull X vs) (three : 3 ≤ length vs) (p : Point)
@@ -113,12 +124,14 @@ module _ {X : Point → Type 0} {vs : List Point} (h : Hull X vs) (three : 3 ≤
   ends-at : (j : ℕ) → j < length vs → turn (round vs (suc j)) (round vs (suc (suc j))) p ≡ pos 0
       → Between (round vs (suc j) .x) (round vs (suc (suc j)) .x) (p .x) × Between (round vs (suc j) .y) (round vs (suc (suc j)) .y) (p .y)
   ends-at j l line = ⊎-elim
-      (λ a. between-ends (round vs j) (round vs (suc j)) (round vs (suc (suc j))) (round vs (suc (suc (suc j)))) p line (strictly-left h three j l) (strictly-left h three (suc j) a) (left j l) (next-left (suc j) a))
+      (λ a. between-ends (round vs j) (round vs (suc j)) (round vs (suc (suc j))) (round vs (suc (suc (suc j)))) p line (strictly-left h three j l)
+      (strictly-left h three (suc j) a) (left j l) (next-left (suc j) a))
       (λ a.
       let e₀ = round-again vs (suc j) 0 (omega arith) (omega arith) in
       let e₁ = round-again vs (suc (suc j)) 1 (omega arith) (omega arith) in
       between-ends (round vs j) (round vs (suc j)) (round vs (suc (suc j))) (round vs 2) p line (strictly-left h three j l)
-      (subst (λ q. pos 0 <ℤ turn q (round vs (suc (suc j))) (round vs 2)) (sym e₀) (subst (λ q. pos 0 <ℤ turn (round vs 0) q (round vs 2)) (sym e₁) (strictly-left h three 0 (omega arith))))
+      (subst (λ q. pos 0 <ℤ turn q (round vs (suc (suc j))) (round vs 2)) (sym e₀)
+      (subst (λ q. pos 0 <ℤ turn (round vs 0) q (round vs 2)) (sym e₁) (strictly-left h three 0 (omega arith))))
       (left j l) (subst (λ q. pos 0 ≤ℤ turn q (round vs 2) p) (sym e₁) (next-left 0 (omega arith))))
       (lt-or-ge (suc j) (length vs))
 
@@ -133,27 +146,35 @@ module _ {X : Point → Type 0} {vs : List Point} (h : Hull X vs) (three : 3 ≤
           let e₁ = round-again vs (suc (suc j)) 1 (omega arith) (omega arith) in
           subst (λ q. Between (q .x) (round vs 1 .x) (p .x) × Between (q .y) (round vs 1 .y) (p .y)) e₀
           (subst (λ q. Between (round vs (suc j) .x) (q .x) (p .x) × Between (round vs (suc j) .y) (q .y) (p .y)) e₁
-          (ends-at j (omega arith) (subst (λ q. turn q (round vs (suc (suc j))) p ≡ pos 0) (sym e₀) (subst (λ q. turn (round vs 0) q p ≡ pos 0) (sym e₁) line))))
+          (ends-at j (omega arith)
+          (subst (λ q. turn q (round vs (suc (suc j))) p ≡ pos 0) (sym e₀) (subst (λ q. turn (round vs 0) q p ≡ pos 0) (sym e₁) line))))
   inside-between (suc j) l line = ends-at j (omega arith) line
 
 -- ---- lines
 eq-or-not : (a b : ℤ) → (a ≡ b) ⊎ (a ≡ b → ⊥)
-eq-or-not a b = ⊎-elim (λ l. ⊎-elim (λ g. inl (≤ℤ-antisymm l g)) (λ g. inr (λ e. <ℤ-irrefl (subst (λ z. z <ℤ b) e g))) (le-or-lt b a)) (λ g. inr (λ e. <ℤ-irrefl (subst (λ z. b <ℤ z) e g))) (le-or-lt a b)
+eq-or-not a b =
+    ⊎-elim (λ l. ⊎-elim (λ g. inl (≤ℤ-antisymm l g)) (λ g. inr (λ e. <ℤ-irrefl (subst (λ z. z <ℤ b) e g))) (le-or-lt b a))
+    (λ g. inr (λ e. <ℤ-irrefl (subst (λ z. b <ℤ z) e g))) (le-or-lt a b)
 
 no-factor : {d g : ℤ} → (d ≡ pos 0 → ⊥) → d *ℤ g ≡ pos 0 → g ≡ pos 0
 no-factor {d} {g} n e = ⊎-elim
     (λ a. ⊎-elim (λ b. ≤ℤ-antisymm a b) (λ b. absurd (⊎-elim
-    (λ c. ⊎-elim (λ z. n (≤ℤ-antisymm c z)) (λ z. clash-by (d ∷ g ∷ []) (gap< z ×₀ gap< b +₀ gap< z +₀ gap< b +₀ balance (negsuc 0) e) (search sides depth 40 fits 9999) refl) (le-or-lt (pos 0) d))
+    (λ c. ⊎-elim (λ z. n (≤ℤ-antisymm c z))
+    (λ z. clash-by (d ∷ g ∷ []) (gap< z ×₀ gap< b +₀ gap< z +₀ gap< b +₀ balance (negsuc 0) e) (search sides depth 40 fits 9999) refl)
+    (le-or-lt (pos 0) d))
     (λ c. clash-by (d ∷ g ∷ []) (gap< c ×₀ gap< b +₀ gap< c +₀ gap< b +₀ balance (pos 1) e) (search sides depth 40 fits 9999) refl)
     (le-or-lt d (pos 0)))) (le-or-lt (pos 0) g))
     (λ b. absurd (⊎-elim
-    (λ c. ⊎-elim (λ z. n (≤ℤ-antisymm c z)) (λ z. clash-by (d ∷ g ∷ []) (gap< z ×₀ gap< b +₀ gap< z +₀ gap< b +₀ balance (pos 1) e) (search sides depth 40 fits 9999) refl) (le-or-lt (pos 0) d))
+    (λ c. ⊎-elim (λ z. n (≤ℤ-antisymm c z))
+    (λ z. clash-by (d ∷ g ∷ []) (gap< z ×₀ gap< b +₀ gap< z +₀ gap< b +₀ balance (pos 1) e) (search sides depth 40 fits 9999) refl)
+    (le-or-lt (pos 0) d))
     (λ c. clash-by (d ∷ g ∷ []) (gap< c ×₀ gap< b +₀ gap< c +₀ gap< b +₀ balance (negsuc 0) e) (search sides depth 40 fits 9999) refl)
     (le-or-lt d (pos 0))))
     (le-or-lt g (pos 0))
 
 no-gap : {a b : ℤ} → a -ℤ b ≡ pos 0 → b ≡ a
-no-gap {a} {b} e = ring (a ∷ b ∷ []) {b = a -ℤ (a -ℤ b)} (search sides depth 20) refl ∙ ap (λ z. a -ℤ z) e ∙ ring (a ∷ []) (search sides depth 20) refl
+no-gap {a} {b} e =
+    ring (a ∷ b ∷ []) {b = a -ℤ (a -ℤ b)} (search sides depth 20) refl ∙ ap (λ z. a -ℤ z) e ∙ ring (a ∷ []) (search sides depth 20) refl
 
 -- three points on the line through two others are in line
 module _ (u v p q r : Point) (apart : u ≡ v → ⊥) (ep : turn u v p ≡ pos 0) (eq : turn u v q ≡ pos 0) (er : turn u v r ≡ pos 0) where
@@ -170,7 +191,8 @@ module _ (u v p q r : Point) (apart : u ≡ v → ⊥) (ep : turn u v p ≡ pos 
 
   in-line : turn p q r ≡ pos 0
   in-line = ⊎-elim
-      (λ x. ⊎-elim (λ y. absurd (apart (point-≡ (no-gap x) (no-gap y)))) (λ y. no-factor y (by-y ∙ vanish (q .y -ℤ p .y) (r .y -ℤ p .y))) (eq-or-not (v .y -ℤ u .y) (pos 0)))
+      (λ x. ⊎-elim (λ y. absurd (apart (point-≡ (no-gap x) (no-gap y)))) (λ y. no-factor y (by-y ∙ vanish (q .y -ℤ p .y) (r .y -ℤ p .y)))
+      (eq-or-not (v .y -ℤ u .y) (pos 0)))
       (λ x. no-factor x (by-x ∙ vanish (q .x -ℤ p .x) (r .x -ℤ p .x)))
       (eq-or-not (v .x -ℤ u .x) (pos 0))
 
@@ -183,7 +205,9 @@ module _ {X : Point → Type 0} {vs : List Point} (h : Hull X vs) where
   one-vertex e p q xp xq = only-one e p xp ∙ sym (only-one e q xq)
 
   pub vertex-one : AllEqual X → length vs ≡ 1
-  vertex-one a = let s = h .some in ⊎-elim (λ l. absurd (h .once 0 1 (omega arith) l (a (round vs 0) (round vs 1) (h .each 0 s) (h .each 1 l)))) (λ l. omega arith) (lt-or-ge 1 (length vs))
+  vertex-one a =
+      let s = h .some in ⊎-elim (λ l. absurd (h .once 0 1 (omega arith) l (a (round vs 0) (round vs 1) (h .each 0 s) (h .each 1 l))))
+      (λ l. omega arith) (lt-or-ge 1 (length vs))
 
   on-it : length vs ≡ 2 → (p : Point) → X p → turn (round vs 0) (round vs 1) p ≡ pos 0
   on-it e p x =
@@ -214,7 +238,9 @@ module _ {X : Point → Type 0} {vs ws : List Point} (h : Hull X vs) (g : Hull X
   agree : (k : ℕ) → k < length vs → k < length ws → round vs k ≡ round ws k
   agree zero l m = lowest-one (h .first) (g .first) (h .each 0 l) (g .each 0 m)
   agree (suc k) l m =
-      next-unique (h .edge k (omega arith)) (subst (λ p. Edge X p (round ws (suc k))) (sym (agree k (omega arith) (omega arith))) (g .edge k (omega arith))) (h .each (suc k) l) (g .each (suc k) m)
+      next-unique (h .edge k (omega arith))
+      (subst (λ p. Edge X p (round ws (suc k))) (sym (agree k (omega arith) (omega arith))) (g .edge k (omega arith))) (h .each (suc k) l)
+      (g .each (suc k) m)
 
   not-shorter : length vs < length ws → ⊥
   not-shorter l = go (length vs) refl
@@ -225,10 +251,12 @@ module _ {X : Point → Type 0} {vs ws : List Point} (h : Hull X vs) (g : Hull X
           let s = h .some in
           let a = round-again vs (suc i) 0 s (omega arith) in
           let b = next-unique (subst (Edge X (round vs i)) a (h .edge i (omega arith)))
-          (subst (λ p. Edge X p (round ws (suc i))) (sym (agree i (omega arith) (omega arith))) (g .edge i (omega arith))) (h .each 0 s) (g .each (suc i) (omega arith)) in
+          (subst (λ p. Edge X p (round ws (suc i))) (sym (agree i (omega arith) (omega arith))) (g .edge i (omega arith))) (h .each 0 s)
+          (g .each (suc i) (omega arith)) in
           g .once 0 (suc i) (omega arith) (omega arith) (sym (agree 0 s (omega arith)) ∙ b)
 
 pub one-hull : {X : Point → Type 0} {vs ws : List Point} → Hull X vs → Hull X ws → vs ≡ ws
 one-hull {vs} {ws} h g =
-    let e : length vs ≡ length ws = ⊎-elim (λ l. absurd (not-shorter h g l)) (λ l. ⊎-elim (λ m. absurd (not-shorter g h m)) (λ m. omega arith) (lt-or-ge (length ws) (length vs))) (lt-or-ge (length vs) (length ws)) in
+    let e : length vs ≡ length ws = ⊎-elim (λ l. absurd (not-shorter h g l))
+    (λ l. ⊎-elim (λ m. absurd (not-shorter g h m)) (λ m. omega arith) (lt-or-ge (length ws) (length vs))) (lt-or-ge (length vs) (length ws)) in
     ext-getD origin vs ws e (λ i l. sym (round-at vs i l) ∙ agree h g i l (omega arith) ∙ round-at ws i (omega arith))

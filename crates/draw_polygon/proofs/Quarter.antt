@@ -14,10 +14,11 @@ use Rattle.boxes.specs.declared.Box.{Box}
 use Rattle.draw_polygon.specs.declared.Span.{Span}
 use Rattle.draw_polygon.specs.declared.Point.{Point}
 use Rattle.draw_polygon.specs.declared.Ends.{Ends}
-use Rattle.draw_polygon.specs.Polygon.{lower, higher, joined, reached, endsOf, acrossOf, uprightOf, pathPoint, pathOf}
+use Rattle.draw_polygon.specs.Polygon.{lower, higher, joinedSpan, reached, endsOfSpans, acrossOf, uprightOf, pathPoint, pathOf}
 use Rattle.draw_polygon.specs.Hull.{Ordered, OfBoxes, ACorner, turn, Between, Edge}
 use Rattle.draw_polygon.proofs.Edges.{point-≡}
-use Rattle.draw_polygon.proofs.Reach.{lower-first, lower-second, higher-first, higher-second, ≥-total, East, floor, step-0, step-1, corner-0, corner-1}
+use Rattle.draw_polygon.proofs.Reach.{lower-first, lower-second, higher-first, higher-second, ≥-total, East, floor, step-0, step-1, corner-0}
+use Rattle.draw_polygon.proofs.Reach.{corner-1}
 
 -- ---- a quarter turn, clockwise: right becomes down
 abbrev pub quarter : Point → Point
@@ -50,43 +51,61 @@ less-neg a b = go (ltZ b a) refl
     go false e = no-lt (neg-le (lt-no {a = b} {b = a} e))
 
 lower-neg : (a b : ℤ) → lower (negℤ a) (negℤ b) ≡ negℤ (higher a b)
-lower-neg a b = ⊎-elim (λ h. lower-second (neg-le h) ∙ ap negℤ (sym (higher-second h))) (λ h. lower-first (neg-le h) ∙ ap negℤ (sym (higher-first h))) (≥-total a b)
+lower-neg a b =
+    ⊎-elim (λ h. lower-second (neg-le h) ∙ ap negℤ (sym (higher-second h))) (λ h. lower-first (neg-le h) ∙ ap negℤ (sym (higher-first h)))
+    (≥-total a b)
 
 higher-neg : (a b : ℤ) → higher (negℤ a) (negℤ b) ≡ negℤ (lower a b)
-higher-neg a b = ⊎-elim (λ h. higher-first (neg-le h) ∙ ap negℤ (sym (lower-first h))) (λ h. higher-second (neg-le h) ∙ ap negℤ (sym (lower-second h))) (≥-total a b)
+higher-neg a b =
+    ⊎-elim (λ h. higher-first (neg-le h) ∙ ap negℤ (sym (lower-first h))) (λ h. higher-second (neg-le h) ∙ ap negℤ (sym (lower-second h)))
+    (≥-total a b)
 
-joined-neg : (s t : Span) → joined (negSpan s) (negSpan t) ≡ negSpan (joined s t)
+joined-neg : (s t : Span) → joinedSpan (negSpan s) (negSpan t) ≡ negSpan (joinedSpan s t)
 joined-neg s t = ap₂ (λ l h. record { low = l; high = h }) (lower-neg (s .high) (t .high)) (higher-neg (s .low) (t .low))
 
 module _ (a b : ℤ) (s t : Span) where
   reached-levels : reached (negℤ a) (negℤ b) s t ≡ reached b a s t
   unfolding reached
-  reached-levels = ap₂ (λ (c d : Bool). elim c as (λ _. Span) [ true ↦ s | false ↦ elim d as (λ _. Span) [ true ↦ t | false ↦ joined s t ] ]) (less-neg a b) (less-neg b a)
+  reached-levels =
+      ap₂ (λ (c d : Bool). elim c as (λ _. Span) [ true ↦ s | false ↦ elim d as (λ _. Span) [ true ↦ t | false ↦ joinedSpan s t ] ]) (less-neg a b)
+      (less-neg b a)
 
   reached-spans : reached a b (negSpan s) (negSpan t) ≡ negSpan (reached a b s t)
   unfolding reached
   reached-spans = go (ltZ a b) (ltZ b a)
     where
-      go : (c d : Bool) → _≡_ {A = Span} (elim c [ true ↦ negSpan s | false ↦ elim d [ true ↦ negSpan t | false ↦ joined (negSpan s) (negSpan t) ] ])
-          (negSpan (elim c [ true ↦ s | false ↦ elim d [ true ↦ t | false ↦ joined s t ] ]))
+      go : (c d : Bool) → _≡_ {A = Span}
+          (elim c [ true ↦ negSpan s | false ↦ elim d [ true ↦ negSpan t | false ↦ joinedSpan (negSpan s) (negSpan t) ] ])
+          (negSpan (elim c [ true ↦ s | false ↦ elim d [ true ↦ t | false ↦ joinedSpan s t ] ]))
       go true d = refl
       go false true = refl
       go false false = joined-neg s t
 
 module _ (l m s t : Span) where
-  ends-levels : endsOf (negSpan l) (negSpan m) s t ≡ record { levels = negSpan (endsOf l m s t .levels); lowest = endsOf l m s t .highest; highest = endsOf l m s t .lowest }
-  unfolding endsOf
+  ends-levels : endsOfSpans (negSpan l) (negSpan m) s t
+      ≡ record { levels = negSpan (endsOfSpans l m s t .levels); lowest = endsOfSpans l m s t .highest; highest = endsOfSpans l m s t .lowest }
+  unfolding endsOfSpans
   ends-levels =
-      ap₂ (λ j p. record { levels = j; lowest = p; highest = reached (negℤ (m .low)) (negℤ (l .low)) s t }) (joined-neg l m) (reached-levels (l .high) (m .high) s t)
-      ∙ ap (λ q. record { levels = negSpan (joined l m); lowest = reached (m .high) (l .high) s t; highest = q }) (reached-levels (m .low) (l .low) s t)
+      ap₂ (λ j p. record { levels = j; lowest = p; highest = reached (negℤ (m .low)) (negℤ (l .low)) s t }) (joined-neg l m)
+      (reached-levels (l .high) (m .high) s t)
+      ∙ ap (λ q. record { levels = negSpan (joinedSpan l m); lowest = reached (m .high) (l .high) s t; highest = q })
+      (reached-levels (m .low) (l .low) s t)
 
-  ends-spans : endsOf l m (negSpan s) (negSpan t) ≡ record { levels = endsOf l m s t .levels; lowest = negSpan (endsOf l m s t .lowest); highest = negSpan (endsOf l m s t .highest) }
-  unfolding endsOf
-  ends-spans = ap₂ (λ p q. record { levels = joined l m; lowest = p; highest = q }) (reached-spans (l .low) (m .low) s t) (reached-spans (m .high) (l .high) s t)
+  ends-spans : endsOfSpans l m (negSpan s) (negSpan t)
+      ≡ record {
+        levels = endsOfSpans l m s t .levels;
+        lowest = negSpan (endsOfSpans l m s t .lowest);
+        highest = negSpan (endsOfSpans l m s t .highest);
+      }
+  unfolding endsOfSpans
+  ends-spans =
+      ap₂ (λ p q. record { levels = joinedSpan l m; lowest = p; highest = q }) (reached-spans (l .low) (m .low) s t)
+      (reached-spans (m .high) (l .high) s t)
 
 -- ---- the path
 points-quarter : (v w : Ends) (k : ℕ) → k ≤ 6
-    → pathPoint (record { levels = negSpan (w .levels); lowest = w .highest; highest = w .lowest }) (record { levels = v .levels; lowest = negSpan (v .lowest); highest = negSpan (v .highest) }) k
+    → pathPoint (record { levels = negSpan (w .levels); lowest = w .highest; highest = w .lowest })
+    (record { levels = v .levels; lowest = negSpan (v .lowest); highest = negSpan (v .highest) }) k
     ≡ quarter (pathPoint v w (suc (suc k)))
 unfolding pathPoint
 points-quarter v w zero h = refl
@@ -102,8 +121,10 @@ module _ (a b : Box) where
   path-quarter : (k : ℕ) → k ≤ 6 → pathOf (quarterBox a) (quarterBox b) k ≡ quarter (pathOf a b (suc (suc k)))
   unfolding pathOf
   path-quarter k h =
-      ap₂ (λ v w. pathPoint v w k) (ends-levels (acrossOf a) (acrossOf b) (uprightOf a) (uprightOf b)) (ends-spans (uprightOf a) (uprightOf b) (acrossOf a) (acrossOf b))
-      ∙ points-quarter (endsOf (uprightOf a) (uprightOf b) (acrossOf a) (acrossOf b)) (endsOf (acrossOf a) (acrossOf b) (uprightOf a) (uprightOf b)) k h
+      ap₂ (λ v w. pathPoint v w k) (ends-levels (acrossOf a) (acrossOf b) (uprightOf a) (uprightOf b))
+      (ends-spans (uprightOf a) (uprightOf b) (acrossOf a) (acrossOf b))
+      ∙ points-quarter (endsOfSpans (uprightOf a) (uprightOf b) (acrossOf a) (acrossOf b))
+      (endsOfSpans (acrossOf a) (acrossOf b) (uprightOf a) (uprightOf b)) k h
 
   -- ---- what a turn keeps
   of-boxes-quarter : {p : Point} → OfBoxes a b p → OfBoxes (quarterBox a) (quarterBox b) (quarter p)
@@ -174,7 +195,8 @@ path-corner (suc (suc k)) a b oa ob h = corner-back a b (subst (ACorner (quarter
     (path-corner k (quarterBox a) (quarterBox b) (quarter-ordered oa) (quarter-ordered ob) (omega arith)))
 
 -- seen turned, no point of the boxes lies below point k
-pub above : (k : ℕ) (a b : Box) → Ordered a → Ordered b → k < 8 → (p : Point) → OfBoxes a b p → quarters (half k) (pathOf a b k) .y ≤ℤ quarters (half k) p .y
+pub above : (k : ℕ) (a b : Box) → Ordered a → Ordered b → k < 8 → (p : Point) → OfBoxes a b p
+    → quarters (half k) (pathOf a b k) .y ≤ℤ quarters (half k) p .y
 unfolding pathOf pathPoint
 above zero a b oa ob h p x = floor a b oa ob .above p x
 above (suc zero) a b oa ob h p x = floor a b oa ob .above p x

@@ -1,4 +1,5 @@
--- The first two steps of the path, along the lowest side and on to the rightmost: each moves to the right and not down, and is an edge of the boxes' points.
+-- The first two steps of the path, along the lowest side and on to the rightmost: each moves to the right and not down, and is an edge of the boxes'
+-- points.
 use mathlib.Core.Path.{_≡_, refl, sym, _∙_, ap, subst}
 use mathlib.Core.Bool.{Bool, true, false}
 use mathlib.Core.Logic.{_⊎_, inl, inr, ⊎-elim}
@@ -11,41 +12,41 @@ use Rattle.integers.proofs.Ranges.{lt-yes, lt-no}
 use Rattle.boxes.specs.declared.Box.{Box}
 use Rattle.draw_polygon.specs.declared.Span.{Span}
 use Rattle.draw_polygon.specs.declared.Point.{Point}
-use Rattle.draw_polygon.specs.Polygon.{lower, higher, joined, reached, endsOf, acrossOf, uprightOf, pathPoint, pathOf}
+use Rattle.draw_polygon.specs.Polygon.{lower, higher, joinedSpan, reached, endsOfSpans, acrossOf, uprightOf, pathPoint, pathOf}
 use Rattle.draw_polygon.specs.Hull.{Ordered, OfBoxes, ACorner, turn, Between, Edge, Lowest}
 use Rattle.draw_polygon.proofs.Edges.{point-≡}
 
 abbrev pt : ℤ → ℤ → Point
 pt a b = record { x = a; y = b }
 
--- ---- lower and higher
-pub lower-first : {a b : ℤ} → a ≤ℤ b → lower a b ≡ a
-lower-first {a} {b} h = go (ltZ a b) refl
-  where
-    go : (c : Bool) → ltZ a b ≡ c → _≡_ {A = ℤ} (elim c [ true ↦ a | false ↦ b ]) a
-    go true e = refl
-    go false e = sym (≤ℤ-antisymm h (lt-no {a = a} {b = b} e))
+-- ---- lower and higher: what a comparison picks, where its order is known
+module _ (a b s t : ℤ) where
+  picks-first : a ≤ℤ b → (a ≡ b → t ≡ s) → _≡_ {A = ℤ} (elim (ltZ a b) [ true ↦ s | false ↦ t ]) s
+  picks-first h same = go (ltZ a b) refl
+    where
+      go : (c : Bool) → ltZ a b ≡ c → _≡_ {A = ℤ} (elim c [ true ↦ s | false ↦ t ]) s
+      go true e = refl
+      go false e = same (≤ℤ-antisymm h (lt-no {a = a} {b = b} e))
 
-pub lower-second : {a b : ℤ} → b ≤ℤ a → lower a b ≡ b
-lower-second {a} {b} h = go (ltZ a b) refl
-  where
-    go : (c : Bool) → ltZ a b ≡ c → _≡_ {A = ℤ} (elim c [ true ↦ a | false ↦ b ]) b
-    go true e = clashℤ (lt-yes {a = a} {b = b} e) h
-    go false e = refl
+  picks-second : b ≤ℤ a → _≡_ {A = ℤ} (elim (ltZ a b) [ true ↦ s | false ↦ t ]) t
+  picks-second h = go (ltZ a b) refl
+    where
+      go : (c : Bool) → ltZ a b ≡ c → _≡_ {A = ℤ} (elim c [ true ↦ s | false ↦ t ]) t
+      go true e = clashℤ (lt-yes {a = a} {b = b} e) h
+      go false e = refl
 
-pub higher-first : {a b : ℤ} → b ≤ℤ a → higher a b ≡ a
-higher-first {a} {b} h = go (ltZ a b) refl
-  where
-    go : (c : Bool) → ltZ a b ≡ c → _≡_ {A = ℤ} (elim c [ true ↦ b | false ↦ a ]) a
-    go true e = clashℤ (lt-yes {a = a} {b = b} e) h
-    go false e = refl
+module _ {a b : ℤ} where
+  pub lower-first : a ≤ℤ b → lower a b ≡ a
+  lower-first h = picks-first a b a b h sym
 
-pub higher-second : {a b : ℤ} → a ≤ℤ b → higher a b ≡ b
-higher-second {a} {b} h = go (ltZ a b) refl
-  where
-    go : (c : Bool) → ltZ a b ≡ c → _≡_ {A = ℤ} (elim c [ true ↦ b | false ↦ a ]) b
-    go true e = refl
-    go false e = ≤ℤ-antisymm h (lt-no {a = a} {b = b} e)
+  pub lower-second : b ≤ℤ a → lower a b ≡ b
+  lower-second h = picks-second a b a b h
+
+  pub higher-first : b ≤ℤ a → higher a b ≡ a
+  higher-first h = picks-second a b b a h
+
+  pub higher-second : a ≤ℤ b → higher a b ≡ b
+  higher-second h = picks-first a b b a h (λ e. e)
 
 pub ≡-≤ : {a b : ℤ} → a ≡ b → a ≤ℤ b
 ≡-≤ {a} e = subst (λ z. a ≤ℤ z) e (≤ℤ-refl a)
@@ -55,23 +56,26 @@ pub ≥-total : (a b : ℤ) → (a ≤ℤ b) ⊎ (b ≤ℤ a)
 
 module _ (a b : ℤ) where
   lower-le : (lower a b ≤ℤ a) × (lower a b ≤ℤ b)
-  lower-le = ⊎-elim (λ h. let e = lower-first h in (≡-≤ e, ≤ℤ-trans (≡-≤ e) h)) (λ h. let e = lower-second h in (≤ℤ-trans (≡-≤ e) h, ≡-≤ e)) (≥-total a b)
+  lower-le =
+      ⊎-elim (λ h. let e = lower-first h in (≡-≤ e, ≤ℤ-trans (≡-≤ e) h)) (λ h. let e = lower-second h in (≤ℤ-trans (≡-≤ e) h, ≡-≤ e)) (≥-total a b)
 
   higher-ge : (a ≤ℤ higher a b) × (b ≤ℤ higher a b)
-  higher-ge = ⊎-elim (λ h. let e = sym (higher-second h) in (≤ℤ-trans h (≡-≤ e), ≡-≤ e)) (λ h. let e = sym (higher-first h) in (≡-≤ e, ≤ℤ-trans h (≡-≤ e))) (≥-total a b)
+  higher-ge =
+      ⊎-elim (λ h. let e = sym (higher-second h) in (≤ℤ-trans h (≡-≤ e), ≡-≤ e)) (λ h. let e = sym (higher-first h) in (≡-≤ e, ≤ℤ-trans h (≡-≤ e)))
+      (≥-total a b)
 
 -- ---- the lowest level with what is covered there, and the highest
 data Bottom (l m : ℤ) (s t : Span) : ℤ → Span → Type 0 where
   first : l <ℤ m → Bottom l m s t l s
   second : m <ℤ l → Bottom l m s t m t
-  both : l ≡ m → Bottom l m s t m (joined s t)
+  both : l ≡ m → Bottom l m s t m (joinedSpan s t)
 
 bottom : (l m : ℤ) (s t : Span) → Bottom l m s t (lower l m) (reached l m s t)
 unfolding reached
 bottom l m s t = go (ltZ l m) refl (ltZ m l) refl
   where
     go : (c : Bool) → ltZ l m ≡ c → (d : Bool) → ltZ m l ≡ d
-        → Bottom l m s t (elim c [ true ↦ l | false ↦ m ]) (elim c [ true ↦ s | false ↦ elim d [ true ↦ t | false ↦ joined s t ] ])
+        → Bottom l m s t (elim c [ true ↦ l | false ↦ m ]) (elim c [ true ↦ s | false ↦ elim d [ true ↦ t | false ↦ joinedSpan s t ] ])
     go true e d f = first (lt-yes e)
     go false e true f = second (lt-yes f)
     go false e false f = both (≤ℤ-antisymm (lt-no f) (lt-no e))
@@ -79,14 +83,14 @@ bottom l m s t = go (ltZ l m) refl (ltZ m l) refl
 data Top (l m : ℤ) (s t : Span) : ℤ → Span → Type 0 where
   first : m <ℤ l → Top l m s t l s
   second : l <ℤ m → Top l m s t m t
-  both : l ≡ m → Top l m s t l (joined s t)
+  both : l ≡ m → Top l m s t l (joinedSpan s t)
 
 top : (l m : ℤ) (s t : Span) → Top l m s t (higher l m) (reached m l s t)
 unfolding reached
 top l m s t = go (ltZ l m) refl (ltZ m l) refl
   where
     go : (c : Bool) → ltZ l m ≡ c → (d : Bool) → ltZ m l ≡ d
-        → Top l m s t (elim c [ true ↦ m | false ↦ l ]) (elim d [ true ↦ s | false ↦ elim c [ true ↦ t | false ↦ joined s t ] ])
+        → Top l m s t (elim c [ true ↦ m | false ↦ l ]) (elim d [ true ↦ s | false ↦ elim c [ true ↦ t | false ↦ joinedSpan s t ] ])
     go true e true f = clashℤ (lt-yes {a = l} {b = m} e) (lt-le (lt-yes {a = m} {b = l} f))
     go true e false f = second (lt-yes e)
     go false e true f = first (lt-yes f)
@@ -109,7 +113,8 @@ not-negative : {a b : ℤ} → a ≤ℤ b → pos 0 ≤ℤ (b -ℤ a)
 not-negative {a} {b} h = le-by (a ∷ b ∷ []) (gap h) (search sides depth 20) refl
 
 no-difference : {a b : ℤ} → (b -ℤ a) ≡ pos 0 → b ≡ a
-no-difference {a} {b} e = ring (a ∷ b ∷ []) {b = (b -ℤ a) +ℤ a} (search sides depth 20) refl ∙ ap (λ z. z +ℤ a) e ∙ ring (a ∷ []) (search sides depth 20) refl
+no-difference {a} {b} e =
+    ring (a ∷ b ∷ []) {b = (b -ℤ a) +ℤ a} (search sides depth 20) refl ∙ ap (λ z. z +ℤ a) e ∙ ring (a ∷ []) (search sides depth 20) refl
 
 -- ---- along the lowest side
 module _ {a b : Box} (oa : Ordered a) (ob : Ordered b) where
@@ -141,9 +146,15 @@ module _ {a b : Box} (oa : Ordered a) (ob : Ordered b) where
       record {
         order = ≤ℤ-trans (l .0) (≤ℤ-trans (oa .x) (r .0));
         above = λ p h. ⊎-elim (λ w. ≤ℤ-trans (≡-≤ (sym e)) (w .y-from)) (λ w. w .y-from) h;
-        among = λ p h f. ⊎-elim (λ w. (≤ℤ-trans (l .0) (w .x-from), ≤ℤ-trans (w .x-to) (r .0))) (λ w. (≤ℤ-trans (l .1) (w .x-from), ≤ℤ-trans (w .x-to) (r .1))) h;
-        left-corner = ⊎-elim (λ h. inl (record { x = inl (lower-first h); y = inl (sym e) })) (λ h. inr (record { x = inl (lower-second h); y = inl refl })) (≥-total (a .«x_low») (b .«x_low»));
-        right-corner = ⊎-elim (λ h. inr (record { x = inr (higher-second h); y = inl refl })) (λ h. inl (record { x = inr (higher-first h); y = inl (sym e) })) (≥-total (a .«x_high») (b .«x_high»));
+        among =
+            λ p h f. ⊎-elim (λ w. (≤ℤ-trans (l .0) (w .x-from), ≤ℤ-trans (w .x-to) (r .0)))
+            (λ w. (≤ℤ-trans (l .1) (w .x-from), ≤ℤ-trans (w .x-to) (r .1))) h;
+        left-corner =
+            ⊎-elim (λ h. inl (record { x = inl (lower-first h); y = inl (sym e) })) (λ h. inr (record { x = inl (lower-second h); y = inl refl }))
+            (≥-total (a .«x_low») (b .«x_low»));
+        right-corner =
+            ⊎-elim (λ h. inr (record { x = inr (higher-second h); y = inl refl })) (λ h. inl (record { x = inr (higher-first h); y = inl (sym e) }))
+            (≥-total (a .«x_high») (b .«x_high»));
       }
 
   module _ {level : ℤ} {span : Span} (f : Floor level span) (moves : pt (span .low) level ≡ pt (span .high) level → ⊥) where
@@ -156,7 +167,9 @@ module _ {a b : Box} (oa : Ordered a) (ob : Ordered b) where
     floor-edge : Edge (OfBoxes a b) (pt (span .low) level) (pt (span .high) level)
     unfolding turn
     floor-edge = record {
-      left = λ p h. le-by (span .low ∷ span .high ∷ level ∷ p .x ∷ p .y ∷ []) (gap (f .order) ×₀ gap (f .above p h)) (search sides depth 40 fits 9999) refl;
+      left =
+          λ p h. le-by (span .low ∷ span .high ∷ level ∷ p .x ∷ p .y ∷ []) (gap (f .order) ×₀ gap (f .above p h))
+          (search sides depth 40 fits 9999) refl;
       on = λ p h z.
           let e : p .y ≡ level = no-difference (zero-factor (positive longer) (not-negative (f .above p h))
           (le-by (span .low ∷ span .high ∷ level ∷ p .x ∷ p .y ∷ []) (balance (pos 1) (sym z)) (search sides depth 40 fits 9999) refl)) in
@@ -164,7 +177,8 @@ module _ {a b : Box} (oa : Ordered a) (ob : Ordered b) where
     }
 
 -- ---- from the lowest side to the rightmost
--- The two points are one; or they are corners of the two boxes, the second farther right and higher, and each box lies to the left of its own and above.
+-- The two points are one; or they are corners of the two boxes, the second farther right and higher, and each box lies to the left of its own and
+-- above.
 data Slope (X : Point → Type 0) (u v : Point) : Type 0 where
   stays : u ≡ v → Slope X u v
   slopes : u .x <ℤ v .x → u .y <ℤ v .y → ((p : Point) → X p → ((p .x ≤ℤ u .x) × (u .y ≤ℤ p .y)) ⊎ ((p .x ≤ℤ v .x) × (v .y ≤ℤ p .y))) → Slope X u v
@@ -193,8 +207,10 @@ module _ (u v : Point) (right : u .x <ℤ v .x) (up : u .y <ℤ v .y) where
   beside : (p q : Point) → turn u v p ≡ (v .x -ℤ u .x) *ℤ (p .y -ℤ q .y) +ℤ (v .y -ℤ u .y) *ℤ (q .x -ℤ p .x) → (p .x ≤ℤ q .x) × (q .y ≤ℤ p .y)
       → (pos 0 ≤ℤ turn u v p) × (turn u v p ≡ pos 0 → (p .x ≡ q .x) × (p .y ≡ q .y))
   beside p q e h = (
-    rw e (le-by (u .x ∷ u .y ∷ v .x ∷ v .y ∷ p .x ∷ p .y ∷ q .x ∷ q .y ∷ []) (gap (lt-le right) ×₀ gap (h .1) +₀ gap (lt-le up) ×₀ gap (h .0)) (search sides depth 40 fits 9999) refl),
-    λ z. let c = both-zero (positive right) (positive up) (not-negative (h .1)) (not-negative (h .0)) (≡-≤ (sym e ∙ z)) in (sym (no-difference (c .1)), no-difference (c .0)),
+    rw e (le-by (u .x ∷ u .y ∷ v .x ∷ v .y ∷ p .x ∷ p .y ∷ q .x ∷ q .y ∷ []) (gap (lt-le right) ×₀ gap (h .1) +₀ gap (lt-le up) ×₀ gap (h .0))
+        (search sides depth 40 fits 9999) refl),
+    λ z. let c = both-zero (positive right) (positive up) (not-negative (h .1)) (not-negative (h .0)) (≡-≤ (sym e ∙ z)) in
+        (sym (no-difference (c .1)), no-difference (c .0)),
   )
 
   by-first : (p : Point) → turn u v p ≡ (v .x -ℤ u .x) *ℤ (p .y -ℤ u .y) +ℤ (v .y -ℤ u .y) *ℤ (u .x -ℤ p .x)
@@ -223,15 +239,15 @@ module _ (u v : Point) (right : u .x <ℤ v .x) (up : u .y <ℤ v .y) where
 -- ---- the steps of the path
 module _ (a b : Box) (oa : Ordered a) (ob : Ordered b) where
   pub floor : Floor oa ob (pathOf a b 0 .y) (record { low = pathOf a b 0 .x; high = pathOf a b 1 .x })
-  unfolding pathOf pathPoint endsOf
+  unfolding pathOf pathPoint endsOfSpans
   floor = floor-of oa ob (bottom (a .«y_low») (b .«y_low») (acrossOf a) (acrossOf b))
 
   pub step-0 : (pathOf a b 0 ≡ pathOf a b 1 → ⊥) → East (pathOf a b 0) (pathOf a b 1) × Edge (OfBoxes a b) (pathOf a b 0) (pathOf a b 1)
-  unfolding pathOf pathPoint endsOf
+  unfolding pathOf pathPoint endsOfSpans
   step-0 e = (floor-east oa ob floor e, floor-edge oa ob floor e)
 
   pub step-1 : (pathOf a b 1 ≡ pathOf a b 2 → ⊥) → East (pathOf a b 1) (pathOf a b 2) × Edge (OfBoxes a b) (pathOf a b 1) (pathOf a b 2)
-  unfolding pathOf pathPoint endsOf
+  unfolding pathOf pathPoint endsOfSpans
   step-1 e = go (slope-of (bottom (a .«y_low») (b .«y_low») (acrossOf a) (acrossOf b)) (top (a .«x_high») (b .«x_high») (uprightOf a) (uprightOf b)))
     where
       go : Slope (OfBoxes a b) (pathOf a b 1) (pathOf a b 2) → East (pathOf a b 1) (pathOf a b 2) × Edge (OfBoxes a b) (pathOf a b 1) (pathOf a b 2)
@@ -239,11 +255,11 @@ module _ (a b : Box) (oa : Ordered a) (ob : Ordered b) where
       go (slopes r u lies) = (record { right = r; up = lt-le u }, slope-edge (pathOf a b 1) (pathOf a b 2) r u lies)
 
   pub corner-0 : ACorner a b (pathOf a b 0)
-  unfolding pathOf pathPoint endsOf
+  unfolding pathOf pathPoint endsOfSpans
   corner-0 = floor .left-corner
 
   pub corner-1 : ACorner a b (pathOf a b 1)
-  unfolding pathOf pathPoint endsOf
+  unfolding pathOf pathPoint endsOfSpans
   corner-1 = floor .right-corner
 
   pub start-lowest : Lowest (OfBoxes a b) (pathOf a b 0)

@@ -6,20 +6,20 @@ use Prim.Native.Nat.{ℕ, zero, suc, _≤_}
 use native.Mathlib.Omega.{arith}
 use lib.ListN.{length, length-append}
 use Rattle.draw_polygon.specs.declared.Point.{Point}
-use Rattle.draw_polygon.specs.Polygon.{same, unless, moves, orFirst, verticesOf}
+use Rattle.draw_polygon.specs.Polygon.{same, unlessSame, moves, orFirst, verticesOf}
 
 -- ---- one point, unless the next is the same
 module _ (p q : Point) where
-  pub unless-none : same p q ≡ true → unless p q ≡ []
-  unless-none e = rw (e, unless)
+  pub unless-none : same p q ≡ true → unlessSame p q ≡ []
+  unless-none e = rw (e, unlessSame)
 
-  pub unless-one : same p q ≡ false → unless p q ≡ p ∷ []
-  unless-one e = rw (e, unless)
+  pub unless-one : same p q ≡ false → unlessSame p q ≡ p ∷ []
+  unless-one e = rw (e, unlessSame)
 
-  unless-few : length (unless p q) ≤ 1
+  unless-few : length (unlessSame p q) ≤ 1
   unless-few = go (same p q) refl
     where
-      go : (t : Bool) → same p q ≡ t → length (unless p q) ≤ 1
+      go : (t : Bool) → same p q ≡ t → length (unlessSame p q) ≤ 1
       go true e = let u = ap length (unless-none e) in omega arith
       go false e = let u = ap length (unless-one e) in omega arith
 
@@ -28,7 +28,8 @@ module _ (f : ℕ → Point) where
   pub moves-most : (n : ℕ) → length (moves f n) ≤ n
   unfolding moves
   moves-most zero = omega arith
-  moves-most (suc n) = let h = moves-most n in let u = unless-few (f n) (f (suc n)) in let e = length-append (moves f n) (unless (f n) (f (suc n))) in omega arith
+  moves-most (suc n) =
+      let h = moves-most n in let u = unless-few (f n) (f (suc n)) in let e = length-append (moves f n) (unlessSame (f n) (f (suc n))) in omega arith
 
   first-most : (p : Point) (ps : List Point) → length ps ≤ 8 → length (orFirst p ps) ≤ 8
   first-most p [] h = omega arith

@@ -1,5 +1,5 @@
--- From a path to the list of the points where it moves on: neighbours in the list are steps of the path that move, and no point comes twice if no two such steps
--- begin at one point.
+-- From a path to the list of the points where it moves on: neighbours in the list are steps of the path that move, and no point comes twice if no two
+-- such steps begin at one point.
 use mathlib.Core.Path.{_≡_, refl, sym, _∙_, ap, subst}
 use mathlib.Core.Bool.{Bool, true, false}
 use mathlib.Core.Logic.{_⊎_, inl, inr, ⊎-elim}
@@ -15,7 +15,7 @@ use Rattle.integers.proofs.Equal.{equal-≡, ≡-equal}
 use Rattle.integers.proofs.Order.{lt-or-ge}
 use Rattle.integers.proofs.Both.{both-true}
 use Rattle.draw_polygon.specs.declared.Point.{Point}
-use Rattle.draw_polygon.specs.Polygon.{same, unless, moves}
+use Rattle.draw_polygon.specs.Polygon.{same, unlessSame, moves}
 use Rattle.draw_polygon.proofs.Edges.{point-≡}
 use Rattle.draw_polygon.proofs.Vertices.{unless-none, unless-one}
 
@@ -29,10 +29,10 @@ same-≡ p q e = let h = both-true (equal (p .x) (q .x)) (equal (p .y) (q .y)) e
 same-refl : (q : Point) → same q q ≡ true
 same-refl q = rw (≡-equal {a = q .x} refl, ≡-equal {a = q .y} refl)
 
-pub decide : (p q : Point) → ((p ≡ q) × (unless p q ≡ [])) ⊎ ((p ≡ q → ⊥) × (unless p q ≡ p ∷ []))
+pub decide : (p q : Point) → ((p ≡ q) × (unlessSame p q ≡ [])) ⊎ ((p ≡ q → ⊥) × (unlessSame p q ≡ p ∷ []))
 decide p q = go (same p q) refl
   where
-    go : (t : Bool) → same p q ≡ t → ((p ≡ q) × (unless p q ≡ [])) ⊎ ((p ≡ q → ⊥) × (unless p q ≡ p ∷ []))
+    go : (t : Bool) → same p q ≡ t → ((p ≡ q) × (unlessSame p q ≡ [])) ⊎ ((p ≡ q → ⊥) × (unlessSame p q ≡ p ∷ []))
     go true e = inl (same-≡ p q e, unless-none p q e)
     go false e = inr ((λ f. let z = sym e ∙ subst (λ r. same r q ≡ true) (sym f) (same-refl q) in clash (cc)), unless-one p q e)
 
@@ -46,7 +46,8 @@ chain-snoc [] {q} c r = more r (one q)
 chain-snoc (x ∷ []) (more a c) r = more a (chain-snoc [] c r)
 chain-snoc (x ∷ y ∷ ys) (more a c) r = more a (chain-snoc (y ∷ ys) c r)
 
-pub chain-at : {R : Point → Point → Type 0} {xs : List Point} → Chain R xs → (i : ℕ) → suc i < length xs → R (getD xs i origin) (getD xs (suc i) origin)
+pub chain-at : {R : Point → Point → Type 0} {xs : List Point} → Chain R xs → (i : ℕ) → suc i < length xs
+    → R (getD xs i origin) (getD xs (suc i) origin)
 chain-at (one p) i h = absurd (omega arith)
 chain-at (more r c) zero h = r
 chain-at (more r c) (suc i) h = chain-at c i (omega arith)
@@ -59,7 +60,8 @@ Once xs = (i k : ℕ) → i < k → k < length xs → getD xs i origin ≡ getD 
 module _ (xs : List Point) (p : Point) (i : ℕ) (h : i < length (xs ++ p ∷ [])) where
   in-or-last : ((i < length xs) × (getD (xs ++ p ∷ []) i origin ≡ getD xs i origin)) ⊎ ((i ≡ length xs) × (getD (xs ++ p ∷ []) i origin ≡ p))
   in-or-last = ⊎-elim (λ l. inl (l, List·getD-append xs (p ∷ []) origin i l))
-      (λ l. let e : i ≡ length xs = omega (arith, length-append xs (p ∷ [])) in inr (e, ap (λ n. getD (xs ++ p ∷ []) n origin) e ∙ getD-append-seam xs p [] origin))
+      (λ l. let e : i ≡ length xs = omega (arith, length-append xs (p ∷ [])) in
+      inr (e, ap (λ n. getD (xs ++ p ∷ []) n origin) e ∙ getD-append-seam xs p [] origin))
       (lt-or-ge i (length xs))
 
 once-snoc : (xs : List Point) (p : Point) → Once xs → ((i : ℕ) → i < length xs → getD xs i origin ≡ p → ⊥) → Once (xs ++ p ∷ [])
@@ -77,7 +79,9 @@ module _ (f : ℕ → Point) where
   -- one step more
   step-more : (n : ℕ) → ((f n ≡ f (suc n)) × (moves f (suc n) ≡ moves f n)) ⊎ (Moves n × (moves f (suc n) ≡ moves f n ++ f n ∷ []))
   unfolding moves
-  step-more n = ⊎-elim (λ d. inl (d .0, ap (λ u. moves f n ++ u) (d .1) ∙ append-nil (moves f n))) (λ d. inr (d .0, ap (λ u. moves f n ++ u) (d .1))) (decide (f n) (f (suc n)))
+  step-more n =
+      ⊎-elim (λ d. inl (d .0, ap (λ u. moves f n ++ u) (d .1) ∙ append-nil (moves f n))) (λ d. inr (d .0, ap (λ u. moves f n ++ u) (d .1)))
+      (decide (f n) (f (suc n)))
 
   none-yet : moves f 0 ≡ []
   unfolding moves
@@ -138,6 +142,7 @@ module _ (f : ℕ → Point) where
   pub stays : (n : ℕ) → moves f n ≡ [] → (k : ℕ) → k ≤ n → f k ≡ f 0
   stays zero e k h = ap f (omega arith)
   stays (suc n) e k h = let s = stays n in ⊎-elim
-      (λ d. let t = s (sym (d .1) ∙ e) in ⊎-elim (λ l. t k (omega arith)) (λ l. let g : k ≡ suc n = omega arith in ap f g ∙ sym (d .0) ∙ t n (omega arith)) (lt-or-ge k (suc n)))
+      (λ d. let t = s (sym (d .1) ∙ e) in ⊎-elim (λ l. t k (omega arith))
+      (λ l. let g : k ≡ suc n = omega arith in ap f g ∙ sym (d .0) ∙ t n (omega arith)) (lt-or-ge k (suc n)))
       (λ d. let g = ap length (sym e ∙ d .1) in absurd (omega (arith, g, length-append (moves f n) (f n ∷ []))))
       (step-more n)

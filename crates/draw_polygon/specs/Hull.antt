@@ -1,5 +1,5 @@
--- The convex hull in the words of document 01, of the points that a property X has. No contract cites this page: `crates/draw/proofs/Theorems.antt` shows that
--- `vertices` is the hull of two boxes, and that no other list is.
+-- The convex hull in the words of document 01, of the points that a property X has. No contract cites this page:
+-- `crates/draw/proofs/Theorems.antt` shows that `vertices` is the hull of two boxes, and that no other list is.
 use mathlib.Core.Path.{_≡_}
 use mathlib.Core.Logic.{_⊎_}
 use mathlib.Core.List.{List, _++_}
@@ -34,7 +34,8 @@ abbrev pub ACorner : Box → Box → Point → Type 0
 ACorner a b p = Corner a p ⊎ Corner b p
 
 -- ---- edges
--- the cross product of the way from u to v and the way from u to p: positive where p lies to the left, negative to the right, 0 on the line
+-- the cross product of the way from u to v and the way from u to p: positive where p lies to the left, negative to the
+-- right, 0 on the line
 unfoldable pub turn : Point → Point → Point → ℤ
 turn u v p = (v .x -ℤ u .x) *ℤ (p .y -ℤ u .y) -ℤ (v .y -ℤ u .y) *ℤ (p .x -ℤ u .x)
 

@@ -1,5 +1,6 @@
--- The polygon round two boxes (document 01, "Drawing a cover"), as a list of vertices. No product is needed: the hull of two boxes touches each side of
--- their bounding box in the stretch that the boxes reaching this side cover, and the ends of the four stretches are its vertices.
+-- The polygon round two boxes (document 01, "Drawing a cover"), as a list of vertices. No product is needed: the hull
+-- of two boxes touches each side of their bounding box in the stretch that the boxes reaching this side cover, and the
+-- ends of the four stretches are its vertices.
 use mathlib.Core.Bool.{Bool, true, false, _&&_}
 use mathlib.Core.List.{List, [], _∷_, _++_}
 use Prim.Native.Nat.{ℕ, zero, suc}
@@ -19,17 +20,18 @@ lower a b = elim (ltZ a b) [ true ↦ a | false ↦ b ]
 abbrev pub higher : ℤ → ℤ → ℤ
 higher a b = elim (ltZ a b) [ true ↦ b | false ↦ a ]
 
-abbrev pub joined : Span → Span → Span
-joined s t = record { low = lower (s .low) (t .low); high = higher (s .high) (t .high) }
+abbrev pub joinedSpan : Span → Span → Span
+joinedSpan s t = record { low = lower (s .low) (t .low); high = higher (s .high) (t .high) }
 
 -- the first span where a is less, the second where b is, and both, joined, where they are equal
 unfoldable pub reached : ℤ → ℤ → Span → Span → Span
-reached a b s t = elim (ltZ a b) [ true ↦ s | false ↦ elim (ltZ b a) [ true ↦ t | false ↦ joined s t ] ]
+reached a b s t = elim (ltZ a b) [ true ↦ s | false ↦ elim (ltZ b a) [ true ↦ t | false ↦ joinedSpan s t ] ]
 
--- Two boxes whose levels are l and m, and whose stretches across the levels are s and t: the lowest and the highest level, and what is covered at each.
-unfoldable pub endsOf : Span → Span → Span → Span → Ends
-endsOf l m s t = record {
-  levels = joined l m;
+-- Two boxes whose levels are l and m, and whose stretches across the levels are s and t: the lowest and the highest
+-- level, and what is covered at each.
+unfoldable pub endsOfSpans : Span → Span → Span → Span → Ends
+endsOfSpans l m s t = record {
+  levels = joinedSpan l m;
   lowest = reached (l .low) (m .low) s t;
   highest = reached (m .high) (l .high) s t;
 }
@@ -40,7 +42,8 @@ acrossOf b = record { low = b .«x_low»; high = b .«x_high» }
 abbrev pub uprightOf : Box → Span
 uprightOf b = record { low = b .«y_low»; high = b .«y_high» }
 
--- ---- the path: counter-clockwise along the lowest, the rightmost, the highest and the leftmost side, and back to its start. The levels of v are y, those of h are x.
+-- ---- the path: counter-clockwise along the lowest, the rightmost, the highest and the leftmost side, and back to its
+-- start. The levels of v are y, those of h are x.
 unfoldable pub pathPoint : Ends → Ends → ℕ → Point
 pathPoint v h k =
     let start : Point = record { x = v .lowest .low; y = v .levels .low } in
@@ -62,13 +65,13 @@ abbrev pub same : Point → Point → Bool
 same p q = equal (p .x) (q .x) && equal (p .y) (q .y)
 
 -- the point p, unless the next is the same
-abbrev pub unless : Point → Point → List Point
-unless p q = elim (same p q) [ true ↦ [] | false ↦ p ∷ [] ]
+abbrev pub unlessSame : Point → Point → List Point
+unlessSame p q = elim (same p q) [ true ↦ [] | false ↦ p ∷ [] ]
 
 -- of the first n points of a path
 unfoldable pub moves : (ℕ → Point) → ℕ → List Point
 moves f zero = []
-moves f (suc n) = moves f n ++ unless (f n) (f (suc n))
+moves f (suc n) = moves f n ++ unlessSame (f n) (f (suc n))
 
 abbrev pub orFirst : Point → List Point → List Point
 orFirst p [] = p ∷ []
@@ -78,7 +81,9 @@ unfoldable pub verticesOf : (ℕ → Point) → List Point
 verticesOf f = orFirst (f 0) (moves f 8)
 
 unfoldable pub pathOf : Box → Box → ℕ → Point
-pathOf a b = pathPoint (endsOf (uprightOf a) (uprightOf b) (acrossOf a) (acrossOf b)) (endsOf (acrossOf a) (acrossOf b) (uprightOf a) (uprightOf b))
+pathOf a b =
+    pathPoint (endsOfSpans (uprightOf a) (uprightOf b) (acrossOf a) (acrossOf b))
+    (endsOfSpans (acrossOf a) (acrossOf b) (uprightOf a) (uprightOf b))
 
 unfoldable pub vertices : Box → Box → List Point
 vertices a b = verticesOf (pathOf a b)

@@ -1,6 +1,6 @@
 -- What a caller may conclude from the promises of this crate. Each law uses a definition in which they end, so that a weaker one is seen here.
 use mathlib.Core.Path.{_≡_, refl, sym, _∙_, subst}
-use mathlib.Core.List.{List, [], _∷_}
+use mathlib.Core.List.{List, [], _∷_, List·Memᴰ}
 use mathlib.Core.Option.{Option, none, some}
 use Prim.Native.Nat.{ℕ, _+_, _*_, _≤_, _<_}
 use lib.Dec.{lit<}
@@ -17,15 +17,17 @@ use Rattle.refusals.specs.declared.Refusal.{Refusal}
 use Rattle.curve_bernstein.specs.Value.{choose, sum, value}
 use Rattle.curve_halves.specs.Sizes.{Each}
 use Rattle.curve_nodes.specs.declared.Curve.{Curve}
+use Rattle.curve_nodes.specs.Bounds.{Sized}
 use Rattle.curve_nodes.specs.Nodes.{depth}
 use Rattle.curve_nodes.specs.Points.{Equals, Near}
 use Rattle.curve_nodes.specs.Differences.{largestOf, bend, largest}
 use Rattle.curve_nodes.proofs.Points.{within-near}
 use Rattle.curve_nodes.proofs.Values.{value-high, value-low}
-use Rattle.boxes.specs.Records.{recordLength}
+use Rattle.setting.specs.Setting.{Setting, standard, recordLength}
 use Rattle.outline.specs.Curves.{curveAt}
 use Rattle.outline.specs.Faults.{faultAt}
-use Rattle.outline.specs.Checks.{outlineFrom, outlined}
+use Rattle.outline.specs.Checks.{curves, outlineFrom, outlined}
+use Rattle.outline.proofs.Accepted.{outlined-from, accepted-all}
 use Rattle.band.specs.declared.banding.Banded.{Banded}
 use Rattle.band.specs.declared.banding.Banded.the-variants.{Done, Refused as NotBanded}
 use Rattle.band.specs.Banding.{banded, written}
@@ -34,34 +36,35 @@ use Rattle.band.proofs.Theorems.{done-exactly, refused-unaltered as banding-una
 use Rattle.judge.specs.declared.judging.Judgement.{Judgement}
 use Rattle.judge.specs.Judging.{pointFault, Verdict, Judged as JudgedSo}
 use Rattle.engine.specs.declared.Outcome.the-variants.{Refused, Judged}
-use Rattle.engine.specs.Demand3.{CurveOf, IsOn, Somewhere, Shallow, Demand3}
+use Rattle.engine.specs.Demand3.{CurveOf, IsOn, Somewhere, OutlineDemand3}
 use Rattle.engine.specs.Outcomes.{JudgedAs, writtenFor, Answered}
 use Rattle.engine.specs.Starred.{A}
-use Rattle.engine.proofs.Demand3.{demand-3, curve-small}
+use Rattle.engine.proofs.Demand3.{small, of-member, demand-3}
+use Rattle.engine.proofs.Meeting.{same-curves}
 
 -- ---- a refusal of banding and judging together, whichever it is, leaves the lent list as it was
-module _ (most : ℕ) (T : ℤ) (ns old : List ℤ) (x y : ℤ) (r : Refusal) where
-  not-judged : {rs : List ℤ} {a b c : ℕ} → JudgedAs most T ns rs x y a b c (Refused r) → ⊥
+module _ (σ : Setting) (T : ℤ) (ns old : List ℤ) (x y : ℤ) (r : Refusal) where
+  not-judged : {rs : List ℤ} {a b c : ℕ} → JudgedAs σ T ns rs x y a b c (Refused r) → ⊥
   not-judged j = let e = j .is in clash (cc)
 
-  pub refused-unaltered : Answered most T ns x y old (Refused r) → writtenFor most T ns x y old ≡ old
-  refused-unaltered answered = go (banded most T ns (length old)) refl (pointFault x y) refl
+  pub refused-unaltered : Answered σ T ns x y old (Refused r) → writtenFor σ T ns x y old ≡ old
+  refused-unaltered answered = go (banded σ T ns (length old)) refl (pointFault x y) refl
     where
-      go : (b : Banded) → banded most T ns (length old) ≡ b → (fault : Option Refusal) → pointFault x y ≡ fault → writtenFor most T ns x y old ≡ old
+      go : (b : Banded) → banded σ T ns (length old) ≡ b → (fault : Option Refusal) → pointFault x y ≡ fault → writtenFor σ T ns x y old ≡ old
       go b e (some q) f = rw f
-      go (NotBanded q) e none f = rw f (banding-unaltered most T ns old q e)
+      go (NotBanded q) e none f = rw f (banding-unaltered σ T ns old q e)
       go (Done a b c) e none f = absurd (not-judged (rw (e, Answered, f) at answered))
 
 -- ---- an outcome with a judgement: nothing was refused, the report is banding's, and the judgement is of the leaves that it left in the list
-pub record Told (most : ℕ) (T : ℤ) (ns : List ℤ) (x y : ℤ) (old : List ℤ) (a b c : ℕ) (j : Judgement) : Type 0 where
-  pub report : banded most T ns (length old) ≡ Done a b c
-  pub list : writtenFor most T ns x y old ≡ written most T ns old
-  pub judged : Verdict none (take (recordLength * b) (written most T ns old)) x y j
-  pub demand-3 : Demand3 most T ns (take (recordLength * b) (written most T ns old)) x y j
+pub record Told (σ : Setting) (T : ℤ) (ns : List ℤ) (x y : ℤ) (old : List ℤ) (a b c : ℕ) (j : Judgement) : Type 0 where
+  pub report : banded σ T ns (length old) ≡ Done a b c
+  pub list : writtenFor σ T ns x y old ≡ written σ T ns old
+  pub judged : Verdict σ none (take (recordLength σ * b) (written σ T ns old)) x y j
+  pub demand-3 : OutlineDemand3 σ T ns (take (recordLength σ * b) (written σ T ns old)) x y j
 
-module _ (most : ℕ) (T : ℤ) (ns old : List ℤ) (x y : ℤ) (a b c : ℕ) (j : Judgement) where
-  pub judged-told : Answered most T ns x y old (Judged a b c j) → Told most T ns x y old a b c j
-  judged-told answered = go (banded most T ns (length old)) refl (pointFault x y) refl
+module _ (σ : Setting) (T : ℤ) (ns old : List ℤ) (x y : ℤ) (a b c : ℕ) (j : Judgement) where
+  pub judged-told : Answered σ T ns x y old (Judged a b c j) → Told σ T ns x y old a b c j
+  judged-told answered = go (banded σ T ns (length old)) refl (pointFault x y) refl
     where
       same : {a′ b′ c′ : ℕ} {j′ : Judgement} → Judged a b c j ≡ Judged a′ b′ c′ j′ → (a ≡ a′) × (b ≡ b′) × (c ≡ c′) × (j ≡ j′)
       same e = (cc, cc, cc, cc)
@@ -69,7 +72,7 @@ module _ (most : ℕ) (T : ℤ) (ns old : List ℤ) (x y : ℤ) (a b c : ℕ) (j
       not-refused : {r : Refusal} → Judged a b c j ≡ Refused r → ⊥
       not-refused e = clash (cc)
 
-      go : (d : Banded) → banded most T ns (length old) ≡ d → (fault : Option Refusal) → pointFault x y ≡ fault → Told most T ns x y old a b c j
+      go : (d : Banded) → banded σ T ns (length old) ≡ d → (fault : Option Refusal) → pointFault x y ≡ fault → Told σ T ns x y old a b c j
       go (NotBanded q) e fault f = absurd (not-refused (rw (e, Answered) at answered))
       go (Done a′ b′ c′) e (some q) f = absurd (not-refused (rw (e, Answered, f) at answered))
       go (Done a′ b′ c′) e none f =
@@ -92,35 +95,40 @@ near-in-reach T d p r cs each nonzero z near =
       *ℤ-cancel positive (le-by (w ∷ v ∷ z ∷ T ∷ []) (gap (near .above) +₀ natural 16 ×₀ gap high) (search sides depth 20) refl),
     )
 
-pub somewhere-in-reach : (most : ℕ) (T : ℤ) (ns : List ℤ) (x y : ℤ) → NonNeg T → Somewhere most T ns x y → Reach T x × Reach T y
-somewhere-in-reach most T ns x y nonneg s =
+pub somewhere-in-reach : (T : ℤ) (cs : List Curve) → ((c : Curve) → List·Memᴰ c cs → Sized 0 c)
+    → (x y : ℤ) → NonNeg T → Somewhere T cs x y → Reach T x × Reach T y
+somewhere-in-reach T cs sized x y nonneg s =
     let c = s .curve in
-    let small = curve-small most ns (s .of) in
+    let each = small (sized c (of-member (s .of))) in
     let near = within-near nonneg (s .near) in (
-      near-in-reach T (c .degree) (s .p) (s .r) (c .x) (small .0) (s .some) x (near .0),
-      near-in-reach T (c .degree) (s .p) (s .r) (c .y) (small .1) (s .some) y (near .1),
+      near-in-reach T (c .degree) (s .p) (s .r) (c .x) (each .0) (s .some) x (near .0),
+      near-in-reach T (c .degree) (s .p) (s .r) (c .y) (each .1) (s .some) y (near .1),
     )
 
 -- ---- an outline that is banded, and whatever judging answers to its leaves
-module _ (most : ℕ) (T : ℤ) (ns old : List ℤ) (a b c : ℕ) (done : banded most T ns (length old) ≡ Done a b c) where
+module _ (σ : Setting) (T : ℤ) (ns old : List ℤ) (a b c : ℕ) (done : banded σ T ns (length old) ≡ Done a b c)
+    (three : σ .pieces ≡ 3) where
   abbrev leaves : List ℤ
-  leaves = take (recordLength * b) (written most T ns old)
+  leaves = take (recordLength σ * b) (written σ T ns old)
 
-  module _ (x y : ℤ) (answer : Judgement) (judged : JudgedSo most leaves x y answer) where
-    claim : Demand3 most T ns leaves x y answer
-    claim = demand-3 most T ns old a b c done x y answer judged
+  module _ (x y : ℤ) (answer : Judgement) (judged : JudgedSo σ leaves x y answer) where
+    claim : OutlineDemand3 σ T ns leaves x y answer
+    claim = demand-3 σ three T ns old a b c done x y answer judged
 
     -- a point beyond the reach is never judged on
     pub on-in-reach : IsOn answer → Reach T x × Reach T y
     on-in-reach on =
-        let least = between-low (pos 2) (pos 1048576) T (done-exactly most T ns (length old) a b c .0 done .1 .tolerance) in
-        somewhere-in-reach most T ns x y (nonneg-by (T ∷ []) (gap least +₀ natural 2) (search sides depth 20) refl) (claim .every-on-near on)
+        let sized = accepted-all (σ .most) ns 0 (claim .all) (outlined-from (σ .most) ns (claim .all) (claim .are)) in
+        let least = between-low (pos 2) (pos 1048576) T (done-exactly σ T ns (length old) a b c .0 done .1 .tolerance) in
+        somewhere-in-reach T (claim .all) sized x y (nonneg-by (T ∷ []) (gap least +₀ natural 2) (search sides depth 20) refl)
+        (claim .demand-3 .every-on-near on)
 
     -- the node that stands in a leaf's record has depth at most j
-    pub leaf-depth : (i : ℕ) → recordLength * i < length leaves → (k : ℕ) (c : Curve) → CurveOf most ns k c → entry leaves (recordLength * i) ≡ pos k
-        → (j : ℕ) → Flat T c j → (n : ℕ) → entry leaves (recordLength * i + 1) ≡ pos n → depth n ≤ j
-    leaf-depth i h k c of e j flat n is =
-        let s = claim .every-leaf-shallow i h k c of e j flat in
+    pub leaf-depth : (i : ℕ) → recordLength σ * i < length leaves → (cs : List Curve) → outlined (σ .most) ns ≡ curves cs
+        → (k : ℕ) (c : Curve) → CurveOf cs k c → entry leaves (recordLength σ * i) ≡ pos k
+        → (j : ℕ) → Flat T c j → (n : ℕ) → entry leaves (recordLength σ * i + 1) ≡ pos n → depth n ≤ j
+    leaf-depth i h cs o k c of e j flat n is =
+        let s = claim .demand-3 .every-leaf-shallow i h k c (rw (same-curves (claim .are) o) of) e j flat in
         subst (λ m. depth m ≤ j) (natural-is (sym (s .is) ∙ is)) (s .depth-at-most)
       where
         natural-is : {m n : ℕ} → pos m ≡ pos n → m ≡ n
@@ -130,18 +138,19 @@ module _ (most : ℕ) (T : ℤ) (ns old : List ℤ) (a b c : ℕ) (done : banded
 abbrev curveA : Curve
 curveA = record { degree = 3; x = pos 0 ∷ pos 10 ∷ pos 20 ∷ pos 30 ∷ []; y = pos 0 ∷ pos 30 ∷ pos 30 ∷ pos 0 ∷ [] }
 
-of-a : CurveOf 64 A 0 curveA
+of-a : outlined (standard .most) A ≡ curves (curveA ∷ [])
 unfolding outlined outlineFrom faultAt firstBad curveAt
-of-a = record { before = []; after = []; all = refl; number = refl }
+of-a = refl
 
 half-way : Equals curveA 1 1 (pos 240) (pos 360)
 unfolding value sum choose pow one
 half-way = record { in-x = refl; in-y = refl }
 
-pub half-way-on : (T : ℤ) (old : List ℤ) (a b c : ℕ) → banded 64 T A (length old) ≡ Done a b c
-    → (answer : Judgement) → JudgedSo 64 (take (recordLength * b) (written 64 T A old)) (pos 240) (pos 360) answer → IsOn answer
+pub half-way-on : (T : ℤ) (old : List ℤ) (a b c : ℕ) → banded standard T A (length old) ≡ Done a b c
+    → (answer : Judgement) → JudgedSo standard (take (recordLength standard * b) (written standard T A old)) (pos 240) (pos 360) answer → IsOn answer
 half-way-on T old a b c done answer judged =
-    claim 64 T A old a b c done (pos 240) (pos 360) answer judged .every-point-on 0 curveA of-a 1 1 (lit< tt) half-way
+    let d = claim standard T A old a b c done refl (pos 240) (pos 360) answer judged in
+    d .demand-3 .every-point-on 0 curveA (record { before = []; after = []; split = same-curves (d .are) of-a; number = refl }) 1 1 (lit< tt) half-way
 
 -- ---- the premise of the depth claim: y 0, 0, 125 has M = 125, and 2 × (178 × 125 + 250)² = 1,012,500,000 lies between (125 × 254)² and (125 × 255)²
 abbrev bow : Curve

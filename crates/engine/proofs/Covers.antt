@@ -15,14 +15,15 @@ use Rattle.curve_nodes.specs.Nodes.{depth, start, nodeCurve}
 use Rattle.curve_nodes.specs.Points.{Equals, Within}
 use Rattle.curve_nodes.proofs.Coordinates.{nodeValues, node-curve}
 use Rattle.bound_rows.specs.Rows.{pieces}
-use Rattle.bound_enclosure.specs.Thirds.{lowOf, highOf}
+use Rattle.bound_enclosure.specs.AtDepth.{lowOf, highOf}
 use Rattle.bound_node.specs.Boxes.{boxAt}
 use Rattle.bound_rows.proofs.Places.{located}
 use Rattle.bound_node.proofs.Narrow.{Narrow, meets-narrow}
-use Rattle.walk_tree.specs.Leaves.{Covers}
+use Rattle.walk_tree.specs.Leaves.{Spans}
 use Rattle.walk_curve.specs.Walked.{nodeMeets}
 use Rattle.boxes.specs.declared.Box.{Box}
-use Rattle.boxes.specs.Records.{recordLength, boxIndex, boxAtIndex}
+use Rattle.setting.specs.Setting.{Setting, standard, recordLength}
+use Rattle.boxes.specs.Records.{boxIndex, boxAtIndex}
 use Rattle.band_records.specs.Records.{boxNumbers, recordOf}
 use Rattle.band_records.proofs.Sound.{record-box}
 use Rattle.band_records.proofs.Standing.{Stands}
@@ -35,32 +36,37 @@ pub record Held (box : ℕ → Box) (x y : ℤ) : Type 0 where
   pub inside : cover < pieces
   pub holds : Holds (box cover) (box (suc cover)) x y
 
+-- the curve of node n, coordinate by coordinate
+abbrev byCoordinate : Curve → ℕ → Curve
+byCoordinate c n = record { degree = c .degree; x = nodeValues (c .degree) (c .x) n; y = nodeValues (c .degree) (c .y) n }
+
 -- the box at break point i of node n
-abbrev pub nodeBox : Curve → ℕ → ℕ → Box
-nodeBox c n i =
+abbrev pub nodeBox : Setting → Curve → ℕ → ℕ → Box
+nodeBox σ c n i =
     let xs = nodeValues (c .degree) (c .x) n in
     let ys = nodeValues (c .degree) (c .y) n in
     record {
-      «x_low» = lowOf (c .degree) (depth n) xs i;
-      «x_high» = highOf (c .degree) (depth n) xs i;
-      «y_low» = lowOf (c .degree) (depth n) ys i;
-      «y_high» = highOf (c .degree) (depth n) ys i;
+      «x_low» = lowOf σ (c .degree) (depth n) xs i;
+      «x_high» = highOf σ (c .degree) (depth n) xs i;
+      «y_low» = lowOf σ (c .degree) (depth n) ys i;
+      «y_high» = highOf σ (c .degree) (depth n) ys i;
     }
 
 -- ---- in a list where the record of node n stands
-module _ (c : Curve) (n : ℕ) (hn : 0 < n) {rs : List ℤ} {j : ℕ} (k : ℕ) (there : Stands rs j (recordOf k c n)) (i : ℕ) (hi : i ≤ pieces) where
-  number-there : (q at : ℕ) → q < 4 → at ≡ boxIndex j i + q
-      → entry rs at ≡ entry (boxNumbers (boxAt (depth n) (record { degree = c .degree; x = nodeValues (c .degree) (c .x) n; y = nodeValues (c .degree) (c .y) n }) i)) q
+module _ (σ : Setting) (c : Curve) (n : ℕ) (hn : 0 < n) {rs : List ℤ} {j : ℕ} (k : ℕ) (there : Stands σ rs j (recordOf σ k c n))
+    (i : ℕ) (hi : i ≤ σ .pieces) where
+  number-there : (q at : ℕ) → q < 4 → at ≡ boxIndex σ j i + q
+      → entry rs at ≡ entry (boxNumbers (boxAt σ (depth n) (byCoordinate c n) i)) q
   number-there q at hq e =
-      ap (entry rs) {x = at} {y = recordLength * j + (4 * i + (2 + q))} (omega arith)
+      ap (entry rs) {x = at} {y = recordLength σ * j + (4 * i + (2 + q))} (omega arith)
       ∙ there .number (4 * i + (2 + q)) (omega arith)
-      ∙ record-box k c n i q hi hq
-      ∙ ap (λ a. entry (boxNumbers (boxAt (depth n) a i)) q) (node-curve c n hn)
+      ∙ record-box σ k c n i q hi hq
+      ∙ ap (λ a. entry (boxNumbers (boxAt σ (depth n) a i)) q) (node-curve c n hn)
 
-  pub box-there : boxAtIndex rs (boxIndex j i) ≡ nodeBox c n i
+  pub box-there : boxAtIndex rs (boxIndex σ j i) ≡ nodeBox σ c n i
   unfolding boxAt
   box-there =
-      let at = boxIndex j i in
+      let at = boxIndex σ j i in
       let e0 = number-there 0 at (omega arith) (omega arith) in
       let e1 = number-there 1 (at + 1) (omega arith) (omega arith) in
       let e2 = number-there 2 (at + 2) (omega arith) (omega arith) in
@@ -69,10 +75,10 @@ module _ (c : Curve) (n : ℕ) (hn : 0 < n) {rs : List ℤ} {j : ℕ} (k : ℕ) 
 
 module _ (c : Curve) (s : Sized 0 c) (n : ℕ) (hn : 0 < n) where
   -- ---- a point of the curve
-  pub point-held : (p r : ℕ) → 0 < p + r → Covers n p r → (x y : ℤ) → Equals c p r x y → Held (nodeBox c n) x y
-  point-held p r some covers x y equals =
-      let P = nonneg-natural (gap (pos-le (covers .from))) in
-      let to = subst (λ m. 2 ^ depth n * p ≤ m * (p + r)) {x = start n + 1} {y = suc (start n)} (omega arith) (covers .to) in
+  pub point-held : (p r : ℕ) → 0 < p + r → Spans n p r → (x y : ℤ) → Equals c p r x y → Held (nodeBox standard c n) x y
+  point-held p r some within x y equals =
+      let P = nonneg-natural (gap (pos-le (within .from))) in
+      let to = subst (λ m. 2 ^ depth n * p ≤ m * (p + r)) {x = start n + 1} {y = suc (start n)} (omega arith) (within .to) in
       let R = nonneg-natural (gap (pos-le to)) in
       let l = located pieces (P .0) (R .0) (zero-lt-suc 2) in
       let sum = down-sum n p r (P .0) (R .0) (sym (P .1)) (sym (R .1)) in
@@ -89,8 +95,9 @@ module _ (c : Curve) (s : Sized 0 c) (n : ℕ) (hn : 0 < n) where
       }
 
   -- ---- a point that a cover of a leaf holds
-  pub held-near : (T : ℤ) → nodeMeets T c n ≡ true → (i : ℕ) → i < pieces → (x y : ℤ) (h : Holds (nodeBox c n i) (nodeBox c n (suc i)) x y)
+  pub held-near : (T : ℤ) → nodeMeets standard T c n ≡ true → (i : ℕ) → i < pieces
+      → (x y : ℤ) (h : Holds (nodeBox standard c n i) (nodeBox standard c n (suc i)) x y)
       → Within T c (upP n i (h .a) (h .b)) (upR n i (h .a) (h .b)) x y
   held-near T meet i hi x y h =
-      let narrow = subst (Narrow T (depth n)) (node-curve c n hn) (meets-narrow T (depth n) (nodeCurve c n) meet) in
+      let narrow = subst (Narrow standard T (depth n)) (node-curve c n hn) (meets-narrow standard T (depth n) (nodeCurve c n) meet) in
       mixed-within c (s .least) (s .most) n hn i (h .a) (h .b) hi T x y (narrow .each i (omega arith)) (narrow .each (suc i) hi) (h .in-x) (h .in-y)

@@ -10,9 +10,10 @@ use Rattle.integers.proofs.RingLaws.{one-*ℤ}
 use Rattle.curve_nodes.specs.declared.Curve.{Curve}
 use Rattle.curve_nodes.specs.Points.{scaled, sixteenths, Equals}
 use Rattle.curve_bernstein.proofs.Ends.{value-start, value-end, one-powers}
-use Rattle.boxes.specs.Records.{recordLength}
+use Rattle.setting.specs.Setting.{Setting, recordLength}
 use Rattle.outline.specs.Meeting.{CurvesMeet}
-use Rattle.outline.specs.Checks.{curves}
+use Rattle.outline.specs.Checks.{Outlined, curves, outlined}
+use Rattle.outline.proofs.Accepted.{outlined-from, accepted-all}
 use Rattle.outline.proofs.Meeting.{curves-meet}
 use Rattle.band.specs.declared.banding.Banded.the-variants.{Done}
 use Rattle.band.specs.Banding.{banded, written}
@@ -21,7 +22,7 @@ use Rattle.judge.specs.declared.judging.Judgement.{Judgement}
 use Rattle.judge.specs.Judging.{Judged}
 use Rattle.engine.specs.Demand3.{CurveOf}
 use Rattle.engine.specs.Meeting.{EndsAt, HeldAt, CoveredTwice}
-use Rattle.engine.proofs.Demand3.{same-curves, held-at, demand-3}
+use Rattle.engine.proofs.Demand3.{held-at, demand-3}
 
 -- ---- the ends of a curve are its values at 0 and 1
 coordinate-start : (d : ℕ) (cs : List ℤ) (z : ℤ) → z ≡ pos 16 *ℤ entry cs 0 → scaled d 0 1 z ≡ sixteenths d 0 1 cs
@@ -40,6 +41,10 @@ module _ {c : Curve} {x y : ℤ} (e : EndsAt c x y) where
     in-y = coordinate-start (d .degree) (d .y) y (e .in-y ∙ ap (λ z. pos 16 *ℤ z) (m .in-y));
   }
 
+-- ---- an outline gives one list of curves
+pub same-curves : {o : Outlined} {cs ds : List Curve} → o ≡ curves cs → o ≡ curves ds → cs ≡ ds
+same-curves e f = cc
+
 -- ---- neighbours by their numbers stand one behind the other
 next-is : (bs ds after rest : List Curve) (c d : Curve) → length ds ≡ suc (length bs) → bs ++ c ∷ after ≡ ds ++ d ∷ rest → after ≡ d ∷ rest
 next-is [] (b ∷ []) after rest c d l e = cc
@@ -48,24 +53,29 @@ next-is [] [] after rest c d l e = absurd (omega arith)
 next-is (b ∷ bs) [] after rest c d l e = absurd (omega arith)
 next-is (b ∷ bs) (a ∷ ds) after rest c d l e = next-is bs ds after rest c d (omega arith) (cc)
 
-pub numbers-meet : (most : ℕ) (ns : List ℤ) (k : ℕ) (c d : Curve) → CurveOf most ns k c → CurveOf most ns (suc k) d → CurvesMeet c d
-numbers-meet most ns k c d first second =
+pub numbers-meet : (most : ℕ) (ns : List ℤ) (cs : List Curve) → outlined most ns ≡ curves cs
+    → (k : ℕ) (c d : Curve) → CurveOf cs k c → CurveOf cs (suc k) d → CurvesMeet c d
+numbers-meet most ns cs o k c d first second =
     let number = second .number ∙ ap suc (sym (first .number)) in
-    let after = next-is (first .before) (second .before) (first .after) (second .after) c d number (same-curves (first .all) (second .all)) in
-    curves-meet most ns (first .before) c d (second .after) (first .all ∙ ap (λ l. curves (first .before ++ c ∷ l)) after)
+    let after = next-is (first .before) (second .before) (first .after) (second .after) c d number (sym (first .split) ∙ second .split) in
+    curves-meet most ns (first .before) c d (second .after) (o ∙ ap curves (first .split ∙ ap (λ l. first .before ++ c ∷ l) after))
 
 -- ---- the point where curve k ends and curve k + 1 begins
-pub covered-twice : (most : ℕ) (T : ℤ) (ns old : List ℤ) (a b n : ℕ) → banded most T ns (length old) ≡ Done a b n
-    → (k : ℕ) (c d : Curve) → CurveOf most ns k c → CurveOf most ns (suc k) d → (x y : ℤ) → EndsAt c x y
-    → (answer : Judgement) → Judged most (take (recordLength * b) (written most T ns old)) x y answer
-    → CoveredTwice (take (recordLength * b) (written most T ns old)) k x y answer
-covered-twice most T ns old a b n done k c d first second x y ends answer judged =
-    let h = done-exactly most T ns (length old) a b n .0 done in
-    let held = held-at most T ns (h .0) (h .1) (h .2 .meet) in
-    let is = records-written most T ns old (h .1) (h .2) in
-    let next = at-next-start ends (numbers-meet most ns k c d first second) in
+pub covered-twice : (σ : Setting) → σ .pieces ≡ 3 → (T : ℤ) (ns old : List ℤ) (a b n : ℕ) → banded σ T ns (length old) ≡ Done a b n
+    → (cs : List Curve) → outlined (σ .most) ns ≡ curves cs
+    → (k : ℕ) (c d : Curve) → CurveOf cs k c → CurveOf cs (suc k) d → (x y : ℤ) → EndsAt c x y
+    → (answer : Judgement) → Judged σ (take (recordLength σ * b) (written σ T ns old)) x y answer
+    → CoveredTwice σ (take (recordLength σ * b) (written σ T ns old)) k x y answer
+covered-twice σ three T ns old a b n done cs o k c d first second x y ends answer judged =
+    let h = done-exactly σ T ns (length old) a b n .0 done in
+    let same = same-curves (h .1 .outline) o in
+    let sized = accepted-all (σ .most) ns 0 (h .0) (outlined-from (σ .most) ns (h .0) (h .1 .outline)) in
+    let held = held-at σ three T (h .0) sized (h .2 .meet) in
+    let d3 = demand-3 σ three T ns old a b n done x y answer judged in
+    let is = records-written σ T ns old (h .1) (h .2) in
+    let next = at-next-start ends (numbers-meet (σ .most) ns cs o k c d first second) in
     record {
-      on = demand-3 most T ns old a b n done x y answer judged .every-point-on k c first 1 0 (omega arith) (at-end ends);
-      last-leaf = subst (λ rs. HeldAt rs k 1 0 x y) (sym is) (held k c first 1 0 (omega arith) x y (at-end ends));
-      first-leaf = subst (λ rs. HeldAt rs (suc k) 0 1 x y) (sym is) (held (suc k) d second 0 1 (omega arith) x y next);
+      on = d3 .demand-3 .every-point-on k c (rw (same-curves (d3 .are) o) first) 1 0 (omega arith) (at-end ends);
+      last-leaf = subst (λ rs. HeldAt σ rs k 1 0 x y) (sym is) (held k c (rw same first) 1 0 (omega arith) x y (at-end ends));
+      first-leaf = subst (λ rs. HeldAt σ rs (suc k) 0 1 x y) (sym is) (held (suc k) d (rw same second) 0 1 (omega arith) x y next);
     }

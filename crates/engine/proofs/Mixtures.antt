@@ -1,5 +1,5 @@
--- One coordinate of a node against the mixtures of its lows and highs. A point of the curve at a parameter of the node lies in a mixture, by the enclosure;
--- and what lies in a mixture is within the widths at the two break points of the curve at the parameter with the same weights.
+-- One coordinate of a node against the mixtures of its lows and highs. A point of the curve at a parameter of the node lies in a mixture, by the
+-- enclosure; and what lies in a mixture is within the widths at the two break points of the curve at the parameter with the same weights.
 use mathlib.Core.Path.{_≡_, refl, sym, _∙_, ap, ap₂, subst, subst₂}
 use mathlib.Core.List.{List, [], _∷_}
 use Prim.Native.Nat.{ℕ, zero, suc, _+_, _*_, _-_, _^_, _≤_, _<_}
@@ -7,11 +7,13 @@ use native.Mathlib.Nat.{one-le-pow, zero-lt-suc}
 use native.Mathlib.Omega.{arith}
 use lib.IntN.{ℤ, pos, negℤ, natAbs, _+ℤ_, _-ℤ_, _*ℤ_, pow, one}
 use lib.Signed.{_≤ℤ_, _<ℤ_}
+use Rattle.setting.specs.Setting.{standard}
 use Rattle.integers.specs.Squares.{squared}
 use Rattle.integers.proofs.Squares.{square-within}
 use Rattle.integers.proofs.RingLaws.{pow-last}
 use Rattle.integers.proofs.Ring.{ring, sides}
-use Rattle.integers.proofs.Order.{gap, natural, square, balance, le-by, ≤ℤ-trans, +ℤ-mono, pos-lt, pow-nonneg, pow-positive, times-positive, *ℤ-cancel, _+₀_, _×₀_}
+use Rattle.integers.proofs.Order.{gap, natural, square, balance, le-by, ≤ℤ-trans, +ℤ-mono}
+use Rattle.integers.proofs.Order.{pos-lt, pow-nonneg, pow-positive, times-positive, *ℤ-cancel, _+₀_, _×₀_}
 use Rattle.curve_bernstein.specs.Value.{value}
 use Rattle.curve_halves.proofs.Values.{denominator}
 use Rattle.curve_nodes.specs.declared.Curve.{Curve}
@@ -20,12 +22,14 @@ use Rattle.curve_nodes.specs.Points.{scaled, sixteenths, offset, Within}
 use Rattle.curve_nodes.proofs.Coordinates.{nodeValues}
 use Rattle.curve_nodes.proofs.Spans.{remaining}
 use Rattle.curve_nodes.proofs.Parameters.{values-up, up-sum, pAt, rAt, same-sum, values-down}
-use Rattle.bound_rows.specs.Rows.{Row, pieces, thirds}
+use Rattle.bound_rows.specs.Rows.{Row, pieces}
+use Rattle.bound_rows.specs.Table.{rowsOf}
 use Rattle.bound_enclosure.specs.Bounds.{low, high}
-use Rattle.bound_enclosure.specs.Thirds.{lowOf, highOf}
+use Rattle.bound_enclosure.specs.AtDepth.{lowOf, highOf}
 use Rattle.bound_rows.specs.Joined.{Place}
 use Rattle.bound_enclosure.specs.Enclosed.{Encloses}
 use Rattle.bound_rows.proofs.Places.{Located, place-at}
+use Rattle.bound_rows.proofs.Rule.{pieces-have-rows}
 use Rattle.bound_enclosure.proofs.Enclosure.{enclosure, enclosure-between}
 use Rattle.judge_cover.specs.Covers.{Mixed}
 
@@ -126,18 +130,20 @@ module _ (d : ℕ) (least : 1 ≤ d) (most : d ≤ 3) (cs : List ℤ) (n : ℕ) 
   some-D = one-le-pow (d * depth n) 2 (zero-lt-suc 1)
 
   abbrev lows : ℕ → ℤ
-  lows = lowOf d (depth n) (nodeValues d cs n)
+  lows = lowOf standard d (depth n) (nodeValues d cs n)
 
   abbrev highs : ℕ → ℤ
-  highs = highOf d (depth n) (nodeValues d cs n)
+  highs = highOf standard d (depth n) (nodeValues d cs n)
 
   -- p / (p + r) at node 1 is P / (P + R) at node n
   pub point-mixed : (p r P R : ℕ) → 0 < p + r → pos P ≡ pAt n (pos p) (pos r) → pos R ≡ rAt n (pos p) (pos r) → (l : Located pieces P R)
-      → (z : ℤ) → scaled d p r z ≡ sixteenths d p r cs → Mixed (l .near) (l .far) (lows (l .piece)) (highs (l .piece)) (lows (suc (l .piece))) (highs (suc (l .piece))) z
+      → (z : ℤ) → scaled d p r z ≡ sixteenths d p r cs
+      → Mixed (l .near) (l .far) (lows (l .piece)) (highs (l .piece)) (lows (suc (l .piece))) (highs (suc (l .piece))) z
   point-mixed p r P R some eP eR l z same =
-      enclosed-mixed pieces d D (thirds d) (nodeValues d cs n) least some-D (l .piece) (l .near) (l .far) P R (rw sum some) (l .place)
-      (enclosure d least most (pos D) (pos-lt some-D) (nodeValues d cs n) (l .piece) (l .near) (l .far) P R (l .inside) (l .place)) z
-      (ap (λ (q : ℕ). pos D *ℤ (pow (pos q) d *ℤ z)) sum ∙ ap (λ x. pos D *ℤ x) same ∙ ring (pos D ∷ value (pos p) (pos r) d cs ∷ []) (search sides depth 20) refl
+      enclosed-mixed pieces d D (rowsOf pieces d) (nodeValues d cs n) least some-D (l .piece) (l .near) (l .far) P R (rw sum some) (l .place)
+      (enclosure pieces d pieces-have-rows least most (pos D) (pos-lt some-D) (nodeValues d cs n) (l .piece) (l .near) (l .far) P R (l .inside) (l .place)) z
+      (ap (λ (q : ℕ). pos D *ℤ (pow (pos q) d *ℤ z)) sum ∙ ap (λ x. pos D *ℤ x) same ∙ ring (pos D ∷ value (pos p) (pos r) d cs ∷ [])
+      (search sides depth 20) refl
       ∙ ap (λ x. pos 16 *ℤ x) (sym down))
     where
       sum : P + R ≡ p + r
@@ -173,8 +179,8 @@ module _ (d : ℕ) (least : 1 ≤ d) (most : d ≤ 3) (cs : List ℤ) (n : ℕ) 
     mixed-off z mixed =
         let e = unit *ℤ (pos a *ℤ (highs i -ℤ lows i) +ℤ pos b *ℤ (highs (suc i) -ℤ lows (suc i))) in
         let s = subst₂ (λ w v. Close e w v z) (sym power) (sym (values-up d most cs n hn (pos P) (pos R)))
-        (mixed-close pieces d D (thirds d) (nodeValues d cs n) least some-D i a b P R (place-at pieces i a b hi)
-        (enclosure-between d least most (pos D) (pos-lt some-D) (nodeValues d cs n) i a b hi) z mixed) in
+        (mixed-close pieces d D (rowsOf pieces d) (nodeValues d cs n) least some-D i a b P R (place-at pieces i a b hi)
+        (enclosure-between pieces d pieces-have-rows least most (pos D) (pos-lt some-D) (nodeValues d cs n) i a b hi) z mixed) in
         square-within (s .below) (s .above)
 
 -- ---- both coordinates: boxes with a diagonal within T have mixtures with one within T, since 2 × w₀ × w₁ ≤ w₀² + w₁²
@@ -187,7 +193,7 @@ mixed-squares k a b T w₀ h₀ w₁ h₁ first second = le-by (k ∷ pos a ∷ 
 
 -- the width of a coordinate of node n at break point i
 abbrev pub widthAt : ℕ → List ℤ → ℕ → ℕ → ℤ
-widthAt d cs n i = highOf d (depth n) (nodeValues d cs n) i -ℤ lowOf d (depth n) (nodeValues d cs n) i
+widthAt d cs n i = highOf standard d (depth n) (nodeValues d cs n) i -ℤ lowOf standard d (depth n) (nodeValues d cs n) i
 
 module _ (c : Curve) (least : 1 ≤ c .degree) (most : c .degree ≤ 3) (n : ℕ) (hn : 0 < n) (i a b : ℕ) (hi : i < pieces) (T x y : ℤ) where
   abbrev w : ℕ → ℤ
@@ -197,16 +203,16 @@ module _ (c : Curve) (least : 1 ≤ c .degree) (most : c .degree ≤ 3) (n : ℕ
   h = widthAt (c .degree) (c .y) n
 
   abbrev lowX : ℕ → ℤ
-  lowX = lowOf (c .degree) (depth n) (nodeValues (c .degree) (c .x) n)
+  lowX = lowOf standard (c .degree) (depth n) (nodeValues (c .degree) (c .x) n)
 
   abbrev highX : ℕ → ℤ
-  highX = highOf (c .degree) (depth n) (nodeValues (c .degree) (c .x) n)
+  highX = highOf standard (c .degree) (depth n) (nodeValues (c .degree) (c .x) n)
 
   abbrev lowY : ℕ → ℤ
-  lowY = lowOf (c .degree) (depth n) (nodeValues (c .degree) (c .y) n)
+  lowY = lowOf standard (c .degree) (depth n) (nodeValues (c .degree) (c .y) n)
 
   abbrev highY : ℕ → ℤ
-  highY = highOf (c .degree) (depth n) (nodeValues (c .degree) (c .y) n)
+  highY = highOf standard (c .degree) (depth n) (nodeValues (c .degree) (c .y) n)
 
   pub mixed-within : (squared (w i) +ℤ squared (h i)) ≤ℤ squared T → (squared (w (suc i)) +ℤ squared (h (suc i))) ≤ℤ squared T
       → Mixed a b (lowX i) (highX i) (lowX (suc i)) (highX (suc i)) x → Mixed a b (lowY i) (highY i) (lowY (suc i)) (highY (suc i)) y

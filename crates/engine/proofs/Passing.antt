@@ -1,5 +1,5 @@
 -- Judging refuses nothing where demand 3 speaks of it: the records that banding wrote pass checks 9 and 10, and a point of a curve passes check 11.
-use mathlib.Core.Path.{_≡_, refl, subst, subst₂}
+use mathlib.Core.Path.{_≡_, refl, subst, subst₂, sym}
 use mathlib.Core.Bool.{true}
 use mathlib.Core.List.{List, [], _∷_}
 use mathlib.Core.Option.{none}
@@ -20,56 +20,69 @@ use Rattle.curve_halves.specs.Sizes.{Each}
 use Rattle.curve_nodes.specs.Points.{scaled, sixteenths}
 use Rattle.curve_nodes.proofs.Values.{value-high, value-low}
 use Rattle.boxes.specs.Ranges.{farthest, inRange, lowFine, boxNumberFine}
-use Rattle.boxes.specs.Records.{recordLength}
+use Rattle.setting.specs.Setting.{Setting, standard, recordLength}
 use Rattle.boxes.proofs.Faults.{interval-low, interval-high}
 use Rattle.band_records.specs.Ranges.{SoundRecord, SoundList}
 use Rattle.band_records.proofs.Sound.{each-side}
 use Rattle.judge_list.specs.Checks.{lengthFine, numberFine, numberFault}
 use Rattle.judge.specs.Judging.{pointFault, judgingFault}
 
+-- the standard setting with at most so many curves
+abbrev pub thirdsTo : ℕ → Setting
+thirdsTo most = record { most = most; pieces = 3 }
+
 -- ---- 9
-pub length-fine : (n : ℕ) → 0 < n → n % recordLength ≡ 0 → lengthFine n ≡ true
+pub length-fine : (n : ℕ) → 0 < n → n % recordLength standard ≡ 0 → lengthFine standard n ≡ true
 length-fine zero h e = absurd (omega arith)
 length-fine (suc m) h e = rw (eqb·suc-zero m, e)
 
 -- ---- 10
-module _ {most : ℕ} {number : ℕ → ℤ} (s : SoundRecord most number) where
+module _ {most : ℕ} {number : ℕ → ℤ} (s : SoundRecord (thirdsTo most) number) where
   -- place p of the boxes, which stand behind the curve and the node; its remainder tells a low from a high
-  box-number : (p b : ℕ) → p % 2 ≡ b → suc (suc p) < recordLength → boxNumberFine p (number (suc (suc p))) (number (suc (suc (suc p)))) ≡ true
-  box-number p zero e h = rw (e, boxNumberFine) (subst₂ (λ i j. lowFine (number i) (number j) ≡ true) {x = 2 * (p / 2) + 2} {y = suc (suc p)} {u = 2 * (p / 2) + 3} {v = suc (suc (suc p))}
+  box-number : (p b : ℕ) → p % 2 ≡ b → suc (suc p) < recordLength standard
+      → boxNumberFine p (number (suc (suc p))) (number (suc (suc (suc p)))) ≡ true
+  box-number p zero e h = rw (e, boxNumberFine)
+      (subst₂ (λ i j. lowFine (number i) (number j) ≡ true) {x = 2 * (p / 2) + 2} {y = suc (suc p)} {u = 2 * (p / 2) + 3} {v = suc (suc (suc p))}
       (omega arith) (omega arith) (interval-low (each-side s (p / 2) (omega arith))))
   box-number p (suc b) e h = rw (e, boxNumberFine) (subst (λ i. inRange (number i) ≡ true) {x = 2 * (p / 2) + 3} {y = suc (suc p)} (omega arith)
       (interval-high (each-side s (p / 2) (omega arith))))
 
-  each-fine : (p : ℕ) → p < recordLength → numberFine most p (number p) (number (suc p)) ≡ true
+  each-fine : (p : ℕ) → p < recordLength standard → numberFine most p (number p) (number (suc p)) ≡ true
   each-fine zero h = rw (yes-le (s .curve-from), yes-lt (s .curve-below))
   each-fine (suc zero) h = rw (yes-le (s .node-from), yes-le (s .node-to))
   each-fine (suc (suc p)) h = box-number p (p % 2) refl h
 
-pub no-bad-number : {most n : ℕ} {rs : List ℤ} → SoundList most n rs → numberFault most rs ≡ none
+pub no-bad-number : {most n : ℕ} {rs : List ℤ} → SoundList (thirdsTo most) n rs → numberFault (thirdsTo most) rs ≡ none
 unfolding numberFault
-no-bad-number {most} {n} {rs} l = bad-none (λ i. numberFine most (i % recordLength) (entry rs i) (entry rs (suc i))) (length rs) 0 (λ i h.
-    let k = i / recordLength in
-    let p = i % recordLength in
+no-bad-number {most} {n} {rs} l = bad-none (λ i. numberFine most (i % recordLength standard) (entry rs i) (entry rs (suc i))) (length rs) 0 (λ i h.
+    let k = i / recordLength standard in
+    let p = i % recordLength standard in
     rw zero-add
-    (subst₂ (λ a b. numberFine most p (entry rs a) (entry rs b) ≡ true) {x = recordLength * k + p} {y = i} {u = recordLength * k + suc p} {v = suc i}
+    (subst₂ (λ a b. numberFine most p (entry rs a) (entry rs b)
+    ≡ true) {x = recordLength standard * k + p} {y = i} {u = recordLength standard * k + suc p} {v = suc i}
     (omega arith) (omega arith) (each-fine (l .each k (omega (arith, l .whole))) p (omega arith))))
 
 -- ---- 11: a coordinate of a point that equals a curve is within 16 · 2^20
-pub coordinate-fine : (d : ℕ) (cs : List ℤ) → Each 1048576 cs → (p r : ℕ) → 0 < p + r → (z : ℤ) → scaled d p r z ≡ sixteenths d p r cs → inRange z ≡ true
+pub coordinate-fine : (d : ℕ) (cs : List ℤ) → Each 1048576 cs → (p r : ℕ) → 0 < p + r → (z : ℤ) → scaled d p r z ≡ sixteenths d p r cs
+    → inRange z ≡ true
 coordinate-fine d cs each p r some z e =
     let w = pow (pos (p + r)) d in
     let v = value (pos p) (pos r) d cs in
     let positive = pow-positive (pos-lt some) d in
     let low : negℤ (pos farthest) ≤ℤ z = *ℤ-cancel positive (le-by (w ∷ v ∷ z ∷ [])
-    (natural 16 ×₀ gap (value-low p r 1048576 d cs each) +₀ balance (pos 1) e +₀ natural 520093696 ×₀ gap< positive +₀ natural 520093696) (search sides depth 20) refl) in
+    (natural 16 ×₀ gap (value-low p r 1048576 d cs each) +₀ balance (pos 1) e +₀ natural 520093696 ×₀ gap< positive +₀ natural 520093696)
+    (search sides depth 20) refl) in
     let high : z ≤ℤ pos farthest = *ℤ-cancel positive (le-by (w ∷ v ∷ z ∷ [])
-    (natural 16 ×₀ gap (value-high p r 1048576 d cs each) +₀ balance (negℤ (pos 1)) e +₀ natural 520093696 ×₀ gap< positive +₀ natural 520093696) (search sides depth 20) refl) in
+    (natural 16 ×₀ gap (value-high p r 1048576 d cs each) +₀ balance (negℤ (pos 1)) e +₀ natural 520093696 ×₀ gap< positive +₀ natural 520093696)
+    (search sides depth 20) refl) in
     rw (yes-le low, yes-le high)
 
 -- ---- all three
-pub none-refused : {most n : ℕ} {rs : List ℤ} → 0 < n → SoundList most n rs → (x y : ℤ) → inRange x ≡ true → inRange y ≡ true → judgingFault most rs x y ≡ none
+pub none-refused : (σ : Setting) → σ .pieces ≡ 3 → {n : ℕ} {rs : List ℤ} → 0 < n → SoundList σ n rs
+    → (x y : ℤ) → inRange x ≡ true → inRange y ≡ true → judgingFault σ rs x y ≡ none
 unfolding judgingFault
-none-refused {most} {n} {rs} some l x y fx fy =
+none-refused σ three {n} {rs} some sound x y fx fy =
+    let l : SoundList (thirdsTo (σ .most)) n rs = subst (λ m. SoundList (record { most = σ .most; pieces = m }) n rs) three sound in
     let e = length-fine (length rs) (omega (arith, l .whole)) (omega (arith, l .whole)) in
-    rw (judgingFault, e, no-bad-number l, pointFault, fx, fy)
+    subst (λ m. judgingFault (record { most = σ .most; pieces = m }) rs x y ≡ none) (sym three)
+    (rw (judgingFault, e, no-bad-number l, pointFault, fx, fy))

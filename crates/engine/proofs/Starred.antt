@@ -8,27 +8,17 @@ use native.Mathlib.Omega.{arith}
 use borrow.Author.Tests.{le-ltb}
 use lib.Dec.{lit<}
 use lib.ListN.{length, replicate, drop}
-use lib.IntN.{ℤ, pos, pow, one}
+use lib.IntN.{ℤ, pos}
 use lib.Signed.{ltZ, leZ, ≤ℤ-refl}
+use Rattle.setting.specs.Setting.{standard}
 use Rattle.integers.specs.First.{firstBad}
-use Rattle.integers.specs.Rounding.{floor, ceiling}
 use Rattle.integers.proofs.Ranges.{yes-le, no-lt}
 use Rattle.refusals.specs.declared.Refusal.the-variants.{Tolerance, Coordinate, EmptyOutline, TooWide}
-use Rattle.curve_halves.specs.Halves.{triangle, left, right}
-use Rattle.curve_nodes.specs.Halves.{leftHalf, rightHalf}
-use Rattle.curve_nodes.specs.Nodes.{descendIn, descend, depth, nodeCurve}
-use Rattle.bound_enclosure.specs.Bounds.{rowSum, high, low}
-use Rattle.bound_node.specs.Boxes.{boxAt, meets}
-use Rattle.outline.specs.Curves.{curveAt}
-use Rattle.outline.specs.Faults.{faultAt}
-use Rattle.outline.specs.Checks.{outlineFrom, outlined}
-use Rattle.walk_tree.specs.Tree.{ends, met, firstFailing}
-use Rattle.band_records.specs.Records.{recordOf, recordsOf, allRecords}
-use Rattle.band_passes.specs.Leaves.{firstTooWide, leavesOf, nodesOf}
-use Rattle.band.specs.Banding.{bandCurves, banded, written}
+use Rattle.band.specs.Banding.{written}
+use Rattle.band.proofs.Computing.{computing}
 use Rattle.boxes.specs.declared.Box.{Box}
 use Rattle.draw_polygon.specs.declared.Span.{Span}
-use Rattle.draw_polygon.specs.Polygon.{joined, reached, endsOf, pathPoint, moves, verticesOf, pathOf, vertices, numbers}
+use Rattle.draw_polygon.specs.Polygon.{joinedSpan, reached, endsOfSpans, pathPoint, moves, verticesOf, pathOf, vertices, numbers}
 use Rattle.draw.specs.declared.drawing.Drawn.the-variants.{Vertices}
 use Rattle.draw.specs.Drawing.{twoBoxesFault, drawn, drawnInto}
 use Rattle.boxes.specs.Ranges.{inRange}
@@ -41,34 +31,30 @@ use Rattle.judge.specs.Judgements.{firstHeld, judgement}
 use Rattle.judge.proofs.Judgements.{judged-is}
 use Rattle.engine.specs.Starred.{box, A, single, Starred}
 
--- what the examples of banding compute through
-computing : ℤ → List ℤ → List ℤ → List ℤ
-unfolding written allRecords recordsOf recordOf banded bandCurves firstTooWide leavesOf nodesOf ends met firstFailing outlined outlineFrom faultAt firstBad curveAt descend descendIn depth nodeCurve meets boxAt high low rowSum floor ceiling leftHalf rightHalf left right triangle pow one
-computing T ns old = written 64 T ns old
-
--- and those of drawing
+-- what the examples of drawing compute through
 drawing : Box → Box → List ℤ → List ℤ
-unfolding drawnInto drawn firstBad reached endsOf pathPoint moves verticesOf pathOf vertices numbers
+unfolding drawnInto drawn firstBad reached endsOfSpans pathPoint moves verticesOf pathOf vertices numbers
 drawing a b old = drawnInto a b old
 
 -- ---- points against the leaf that banding wrote for A at T 44
 abbrev leaf : List ℤ
 leaf = pos 0 ∷ pos 1 ∷ box 0 0 0 38 ++ box 160 160 319 363 ++ box 320 320 319 363 ++ box 480 480 0 38
 
-a-44-leaf : written 64 (pos 44) A (replicate 18 (pos 0)) ≡ leaf
+a-44-leaf : written standard (pos 44) A (replicate 18 (pos 0)) ≡ leaf
 unfolding computing
 a-44-leaf = refl
 
-on-363 : judgement 64 leaf (pos 240) (pos 363) ≡ On 0 1
+on-363 : judgement standard leaf (pos 240) (pos 363) ≡ On 0 1
 unfolding judgement judgingFault numberFault firstHeld firstBad held
 on-363 = refl
 
-off-364 : judgement 64 leaf (pos 240) (pos 364) ≡ Off
+off-364 : judgement standard leaf (pos 240) (pos 364) ≡ Off
 unfolding judgement judgingFault numberFault firstHeld firstBad held
 off-364 = refl
 
-judged : (y : ℤ) (answer : Judgement) → Judged 64 (written 64 (pos 44) A (replicate 18 (pos 0))) (pos 240) y answer → answer ≡ judgement 64 leaf (pos 240) y
-judged y answer j = judged-is 64 leaf (pos 240) y answer (subst (λ rs. Judged 64 rs (pos 240) y answer) a-44-leaf j)
+judged : (y : ℤ) (answer : Judgement) → Judged standard (written standard (pos 44) A (replicate 18 (pos 0))) (pos 240) y answer
+    → answer ≡ judgement standard leaf (pos 240) y
+judged y answer j = judged-is standard leaf (pos 240) y answer (subst (λ rs. Judged standard rs (pos 240) y answer) a-44-leaf j)
 
 -- ---- equal single points: nothing is less than itself, so every stretch of the path is the point, and it never moves on
 less : (z : ℤ) → ltZ z z ≡ false
@@ -80,16 +66,16 @@ at-most z = yes-le (≤ℤ-refl z)
 abbrev alone : ℤ → Span
 alone z = record { low = z; high = z }
 
-joined-alone : (z : ℤ) → joined (alone z) (alone z) ≡ alone z
+joined-alone : (z : ℤ) → joinedSpan (alone z) (alone z) ≡ alone z
 joined-alone z = rw (less z)
 
 reached-alone : (l s : ℤ) → reached l l (alone s) (alone s) ≡ alone s
 unfolding reached
 reached-alone l s = rw (reached, less l, less l, joined-alone s)
 
-ends-alone : (l s : ℤ) → endsOf (alone l) (alone l) (alone s) (alone s) ≡ record { levels = alone l; lowest = alone s; highest = alone s }
-unfolding endsOf
-ends-alone l s = rw (endsOf, reached-alone l s, joined-alone l)
+ends-alone : (l s : ℤ) → endsOfSpans (alone l) (alone l) (alone s) (alone s) ≡ record { levels = alone l; lowest = alone s; highest = alone s }
+unfolding endsOfSpans
+ends-alone l s = rw (endsOfSpans, reached-alone l s, joined-alone l)
 
 module _ (x y : ℤ) where
   the-vertex : vertices (single x y) (single x y) ≡ record { x = x; y = y } ∷ []

@@ -7,44 +7,36 @@ use mathlib.Core.Option.{none, some}
 use Prim.Native.Nat.{ℕ, _*_}
 use lib.ListN.{length, take}
 use lib.IntN.{ℤ}
-use Rattle.boxes.specs.Records.{recordLength}
-use Rattle.refusals.specs.declared.Refusal.{Refusal}
-use Rattle.band.specs.declared.banding.Banded.{Banded}
+use Rattle.setting.specs.Setting.{Setting, recordLength}
 use Rattle.band.specs.declared.banding.Banded.the-variants.{Done, Refused as NotBanded}
 use Rattle.band.specs.Banding.{banded, written}
 use Rattle.judge.specs.declared.judging.Judgement.{Judgement}
 use Rattle.judge.specs.Judging.{pointFault, Verdict}
 use Rattle.engine.specs.declared.Outcome.{Outcome}
 use Rattle.engine.specs.declared.Outcome.the-variants.{Refused, Judged}
-use Rattle.engine.specs.Demand3.{Demand3}
+use Rattle.engine.specs.Demand3.{OutlineDemand3}
 
 -- ---- the caller's list afterwards: as banding leaves it, and unaltered where the point is refused
-abbrev pub writtenFor : ℕ → ℤ → List ℤ → (x y : ℤ) → List ℤ → List ℤ
-writtenFor most T ns x y old = elim (pointFault x y) [ some r ↦ old | none ↦ written most T ns old ]
+abbrev pub writtenFor : Setting → ℤ → List ℤ → (x y : ℤ) → List ℤ → List ℤ
+writtenFor σ T ns x y old = elim (pointFault x y) [ some r ↦ old | none ↦ written σ T ns old ]
 
--- ---- the answer
--- the outcome is a judgement of the leaves rs in which nothing is refused, beside the report of a curves, b leaves and c
--- nodes
-pub record JudgedAs (most : ℕ) (T : ℤ) (ns rs : List ℤ) (x y : ℤ) (a b c : ℕ) (outcome : Outcome) : Type 0 where
+-- ---- the answer the outcome is a judgement of the leaves rs in which nothing is refused, beside the report of a
+-- curves, b leaves and c nodes
+pub record JudgedAs (σ : Setting) (T : ℤ) (ns rs : List ℤ) (x y : ℤ) (a b c : ℕ) (outcome : Outcome) : Type 0 where
   pub judgement : Judgement
   pub is : outcome ≡ Judged a b c judgement
-  pub judged : Verdict none rs x y judgement
-  pub demand-3 : Demand3 most T ns rs x y judgement
+  pub judged : Verdict σ none rs x y judgement
+  pub demand-3 : OutlineDemand3 σ T ns rs x y judgement
 
--- checks 1 to 8, then 11, then the judgement of the leaves: of the first 18 × leaves numbers that banding leaves in the
--- list
-abbrev pub Answered : ℕ → ℤ → List ℤ → (x y : ℤ) → List ℤ → Outcome → Type 0
-Answered most T ns x y old outcome =
-    elim (banded most T ns (length old)) [
+-- checks 1 to 8, then 11, then the judgement of the leaves: of as many records as there are leaves, at the front of
+-- what banding leaves in the list
+abbrev pub Answered : Setting → ℤ → List ℤ → (x y : ℤ) → List ℤ → Outcome → Type 0
+Answered σ T ns x y old outcome =
+    elim (banded σ T ns (length old)) [
       | NotBanded r ↦ outcome ≡ Refused r
       | Done a b c ↦
           elim (pointFault x y) [
             | some r ↦ outcome ≡ Refused r
-            | none ↦ JudgedAs most T ns (take (recordLength * b) (written most T ns old)) x y a b c outcome
+            | none ↦ JudgedAs σ T ns (take (recordLength σ * b) (written σ T ns old)) x y a b c outcome
           ]
     ]
-
--- banding's refusal, or else that of a point; for a private function
-abbrev pub refusalOr : Refusal → Banded → Refusal
-refusalOr point (NotBanded r) = r
-refusalOr point (Done a b c) = point

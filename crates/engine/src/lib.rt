@@ -1,9 +1,11 @@
-// A coordinate of a node against the mixtures of its lows and highs. There is no code here: demand 3 stands on these laws, in `engine`.
-// Banding and judging together. Demand 3 as one theorem, and the starred examples, stand in `specs/` and `proofs/`.
+// Banding and judging together. Demand 3 as one theorem, the laws that it stands on and the starred examples stand in
+// `specs/` and `proofs/`.
 ghost use mathlib.Core.Path.{_≡_};
 ghost use lib.ListN.{length};
+ghost use Rattle.setting.specs.Setting.{standard};
 ghost use Rattle.band.specs.Banding.{banded};
-ghost use Rattle.engine.specs.Outcomes.{refusalOr, writtenFor, Answered};
+ghost use Rattle.engine.specs.Outcomes.{writtenFor, Answered};
+ghost use Rattle.engine.specs.Inside.{refusalOr};
 use band::banding::Banded;
 use judge::judging::Judgement;
 use refusals::Refusal;
@@ -29,8 +31,9 @@ pub fn band_and_judge(
     x: i32,
     y: i32,
 ) -> Outcome
-    ensures { λ r. ⌜ now (records .exit) ≡ writtenFor 64 tolerance (now (outline .entry)) x y (now (records .entry)) ⌝ }
-    ensures { λ r. ⌜ Answered 64 tolerance (now (outline .entry)) x y (now (records .entry)) r ⌝ }
+    ensures { λ r. ⌜ now (records .exit)
+        ≡ writtenFor standard tolerance (now (outline .entry)) x y (now (records .entry)) ⌝ }
+    ensures { λ r. ⌜ Answered standard tolerance (now (outline .entry)) x y (now (records .entry)) r ⌝ }
 {
     if !boxes::in_range(x) {
         return Outcome::Refused(refusal_or(outline, tolerance, records, Refusal::PointX));
@@ -61,7 +64,8 @@ pub fn band_and_judge(
 // number of the list: so it writes none, and its 8 says how many leaves there are.
 fn refusal_or(ns: &[i32], tolerance: i32, records: &mut [i32], point: Refusal) -> Refusal
     ensures { λ r. ⌜ now (records .exit) ≡ now (records .entry) ⌝ }
-    ensures { λ r. ⌜ r ≡ refusalOr point (banded 64 tolerance (now (ns .entry)) (length (now (records .entry)))) ⌝ }
+    ensures { λ r. ⌜ r
+        ≡ refusalOr point (banded standard tolerance (now (ns .entry)) (length (now (records .entry)))) ⌝ }
 {
     let room = records.len();
     let banded = band::band(ns, tolerance, &mut records[..0]);

@@ -105,7 +105,8 @@ unfolding firstBad
 bad-is fine zero i j e = clash (cc)
 bad-is fine (suc n) i j e = go (fine i) refl (firstBad fine n (i + 1)) (λ f. bad-is fine n (i + 1) j f) e
   where
-    go : (t : Bool) → fine i ≡ t → (o : Option ℕ) → (o ≡ some j → fine j ≡ false) → _≡_ {A = Option ℕ} (elim t [ true ↦ o | false ↦ some i ]) (some j) → fine j ≡ false
+    go : (t : Bool) → fine i ≡ t → (o : Option ℕ) → (o ≡ some j → fine j ≡ false)
+        → _≡_ {A = Option ℕ} (elim t [ true ↦ o | false ↦ some i ]) (some j) → fine j ≡ false
     go true g o h f = h f
     go false g o h f = let l : i ≡ j = cc in subst (λ k. fine k ≡ false) l g
 
@@ -115,6 +116,7 @@ unfolding firstBad
 bad-first fine zero i j e k l h = clash (cc)
 bad-first fine (suc n) i j e k l h = go (fine i) refl (firstBad fine n (i + 1)) (λ f m. bad-first fine n (i + 1) j f k m h) e
   where
-    go : (t : Bool) → fine i ≡ t → (o : Option ℕ) → (o ≡ some j → i + 1 ≤ k → fine k ≡ true) → _≡_ {A = Option ℕ} (elim t [ true ↦ o | false ↦ some i ]) (some j) → fine k ≡ true
+    go : (t : Bool) → fine i ≡ t → (o : Option ℕ) → (o ≡ some j → i + 1 ≤ k → fine k ≡ true)
+        → _≡_ {A = Option ℕ} (elim t [ true ↦ o | false ↦ some i ]) (some j) → fine k ≡ true
     go true g o again f = ⊎-elim (λ m. subst (λ q. fine q ≡ true) m g) (λ m. again f (omega arith)) (eq-or-lt-of-le {n = i} {m = k} l)
     go false g o again f = let m : i ≡ j = cc in absurd (omega arith)

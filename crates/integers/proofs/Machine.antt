@@ -1,10 +1,11 @@
--- Straight-line code on signed numbers: each step fits its width, and the machine holds the formula's value, both by one computed test.
--- A signed local is its bits, so a need speaks of `stored w z`, which is `toZ w (ofZ w z)`. `search machine` reads such a term as a formula, with a bound on each part,
--- from `Size x`, `SFits w x` or `Count n` of the numbers that the code starts from:
+-- Straight-line code on signed numbers: each step fits its width, and the machine holds the formula's value, both by one computed test. A signed
+-- local is its bits, so a need speaks of `stored w z`, which is `toZ w (ofZ w z)`. `search machine` reads such a term as a formula, with a bound on
+-- each part, from `Size x`, `SFits w x` or `Count n` of the numbers that the code starts from:
 --     mul-result c = fits! (search (machine, c .fits .a, c .fits .b) depth 40) tt
 --     returns c = is! (search (machine, c .fits .a, c .fits .b) depth 40) tt
--- `fits!` shows that a step fits, `is!` that what is held equals the formula, `by!` carries a fact of the formula over, `unsigned!` and `unsigned-is!`
--- answer a cast to an unsigned type, and `flag!` reads what a comparison said. `equal` of Ranges.antt reads what a test of equality said.
+-- `fits!` shows that a step fits, `is!` that what is held equals the formula, `by!` carries a fact of the formula over, `unsigned!` and
+-- `unsigned-is!` answer a cast to an unsigned type, and `flag!` reads what a comparison said. `equal` of Ranges.antt reads what a test of equality
+-- said.
 use mathlib.Core.Path.{_≡_, refl, sym, _∙_, ap, ap₂, subst}
 use mathlib.Core.Bool.{Bool, true, _&&_}
 use Prim.Native.Nat.{ℕ, suc, pred, _+_, _*_, _/_, _%_, _^_, _≤_, _<_, suc-le-suc}
@@ -33,7 +34,8 @@ module _ {z : ℤ} (s : Held z) where
   pub fits-in : (w : Width) → T (s .test && ltb (s .bound) (2 ^ hbits w)) → SFits w z
   fits-in w t =
       let u = and-left (s .test) (ltb (s .bound) (2 ^ hbits w)) t in
-      subst (SFits w) (sym (s .is u)) (fits-size (record { bound = s .bound; under = s .under u }) (and-right (s .test) (ltb (s .bound) (2 ^ hbits w)) t))
+      subst (SFits w) (sym (s .is u))
+      (fits-size (record { bound = s .bound; under = s .under u }) (and-right (s .test) (ltb (s .bound) (2 ^ hbits w)) t))
 
   pub fits! : {w : Width} → T (s .test && ltb (s .bound) (2 ^ hbits w)) → SFits w z
   fits! {w} t = fits-in w t
@@ -50,7 +52,10 @@ unsigned! {w} z s t h =
     let u = and-left (s .test) (ltb (s .bound) (2 ^ bits w)) t in
     let e = sym (s .is u) in (
       subst (λ x. T (nonNeg x)) e (h .holds),
-      record { fits = subst (λ x. natAbs x < 2 ^ bits w) e (lt-of-le-of-lt (s .under u) (ltb→lt (s .bound) (2 ^ bits w) (and-right (s .test) (ltb (s .bound) (2 ^ bits w)) t))) },
+      record {
+        fits = subst (λ x. natAbs x < 2 ^ bits w) e
+            (lt-of-le-of-lt (s .under u) (ltb→lt (s .bound) (2 ^ bits w) (and-right (s .test) (ltb (s .bound) (2 ^ bits w)) t)));
+      },
     )
 
 pub unsigned-is! : (z : ℤ) (s : Held z) → T (s .test) → natAbs z ≡ natAbs (s .value)
@@ -129,7 +134,8 @@ held-by op size law s t = record {
   bound = size (s .bound) (t .bound);
   test = s .test && t .test;
   is = λ u. ap₂ op (s .is (and-left (s .test) (t .test) u)) (t .is (and-right (s .test) (t .test) u));
-  under = λ u. law (s .value) (t .value) (s .bound) (t .bound) (s .under (and-left (s .test) (t .test) u)) (t .under (and-right (s .test) (t .test) u));
+  under = λ u. law (s .value) (t .value) (s .bound) (t .bound)
+      (s .under (and-left (s .test) (t .test) u)) (t .under (and-right (s .test) (t .test) u));
 }
 
 abbrev pub held-add : {x y : ℤ} → Held x → Held y → Held (x +ℤ y)

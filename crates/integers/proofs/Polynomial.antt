@@ -100,8 +100,10 @@ eval-horner (horner c q) r ρ = refl
 
 eval-add : (p q : Normal) (ρ : List ℤ) → eval (add p q) ρ ≡ eval p ρ +ℤ eval q ρ
 eval-add (num a) (num b) ρ = refl
-eval-add (num a) (horner c q) ρ = ap (λ x. x +ℤ entry ρ 0 *ℤ eval q ρ) (eval-add (num a) c (tail ρ)) ∙ +ℤ-assoc a (eval c (tail ρ)) (entry ρ 0 *ℤ eval q ρ)
-eval-add (horner c q) (num b) ρ = ap (λ x. x +ℤ entry ρ 0 *ℤ eval q ρ) (eval-add c (num b) (tail ρ)) ∙ +ℤ-right-comm (eval c (tail ρ)) b (entry ρ 0 *ℤ eval q ρ)
+eval-add (num a) (horner c q) ρ = ap (λ x. x +ℤ entry ρ 0 *ℤ eval q ρ) (eval-add (num a) c (tail ρ))
+    ∙ +ℤ-assoc a (eval c (tail ρ)) (entry ρ 0 *ℤ eval q ρ)
+eval-add (horner c q) (num b) ρ = ap (λ x. x +ℤ entry ρ 0 *ℤ eval q ρ) (eval-add c (num b) (tail ρ))
+    ∙ +ℤ-right-comm (eval c (tail ρ)) b (entry ρ 0 *ℤ eval q ρ)
 eval-add (horner c q) (horner c′ q′) ρ =
     eval-horner (add c c′) (add q q′) ρ
     ∙ ap₂ (λ x y. x +ℤ entry ρ 0 *ℤ y) (eval-add c c′ (tail ρ)) (eval-add q q′ ρ)
@@ -118,7 +120,8 @@ eval-scale a (horner c q) ρ =
     ∙ ap₂ (λ x y. x +ℤ entry ρ 0 *ℤ y) (eval-scale a c (tail ρ)) (eval-scale a q ρ)
     ∙ times a (eval c (tail ρ)) (entry ρ 0) (eval q ρ)
 
-eval-over : (f : Normal → Normal) (k : ℤ) (ρ : List ℤ) → ((x : Normal) → eval (f x) (tail ρ) ≡ k *ℤ eval x (tail ρ)) → (p : Normal) → eval (over f p) ρ ≡ k *ℤ eval p ρ
+eval-over : (f : Normal → Normal) (k : ℤ) (ρ : List ℤ) → ((x : Normal) → eval (f x) (tail ρ) ≡ k *ℤ eval x (tail ρ))
+    → (p : Normal) → eval (over f p) ρ ≡ k *ℤ eval p ρ
 eval-over f k ρ h (num b) = eval-horner (f (num b)) (num (pos 0)) ρ ∙ ap₂ _+ℤ_ (h (num b)) (*ℤ-zero (entry ρ 0)) ∙ +ℤ-idr (k *ℤ b)
 eval-over f k ρ h (horner c q) =
     eval-horner (f c) (over f q) ρ
@@ -130,7 +133,8 @@ eval-mul (num a) p ρ = eval-scale a p ρ
 eval-mul (horner c q) p ρ =
     eval-add (over (mul c) p) (horner′ (num (pos 0)) (mul q p)) ρ
     ∙ ap₂ _+ℤ_ (eval-over (mul c) (eval c (tail ρ)) ρ (λ x. eval-mul c x (tail ρ)) p)
-    (eval-horner (num (pos 0)) (mul q p) ρ ∙ +ℤ-idl (entry ρ 0 *ℤ eval (mul q p) ρ) ∙ ap (λ x. entry ρ 0 *ℤ x) (eval-mul q p ρ) ∙ sym (*ℤ-assoc (entry ρ 0) (eval q ρ) (eval p ρ)))
+    (eval-horner (num (pos 0)) (mul q p) ρ ∙ +ℤ-idl (entry ρ 0 *ℤ eval (mul q p) ρ)
+    ∙ ap (λ x. entry ρ 0 *ℤ x) (eval-mul q p ρ) ∙ sym (*ℤ-assoc (entry ρ 0) (eval q ρ) (eval p ρ)))
     ∙ sym (*ℤ-distr (eval c (tail ρ)) (entry ρ 0 *ℤ eval q ρ) (eval p ρ))
 
 eval-variable : (i : ℕ) (ρ : List ℤ) → eval (variable i) ρ ≡ entry ρ i

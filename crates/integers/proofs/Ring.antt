@@ -2,10 +2,9 @@
 -- over a list of atoms, and their normal forms are computed and compared.
 --     difference-of-squares : (a b : ℤ) → (a +ℤ b) *ℤ (a -ℤ b) ≡ a *ℤ a -ℤ b *ℤ b
 --     difference-of-squares a b = ring (a ∷ b ∷ []) (search sides depth 40 fits 9999) refl
--- It reads sums, differences, products, negation, powers by a numeral, numerals, and sums, products and successors of naturals under `pos`. The atoms are what the
--- sides are made of: any integers, `toZ w64 x`, or `pos n` and
--- `pow x n` for a variable n too. A definition that computes to such a term is read through.
--- Where an equation is refused, put `?` for `refl`: the goal shows the normal form of the difference, which is not 0.
+-- It reads sums, differences, products, negation, powers by a numeral, numerals, and sums, products and successors of naturals under `pos`. The atoms
+-- are what the sides are made of: any integers, `toZ w64 x`, or `pos n` and `pow x n` for a variable n too. A definition that computes to such a term
+-- is read through. Where an equation is refused, put `?` for `refl`: the goal shows the normal form of the difference, which is not 0.
 use mathlib.Core.Path.{_≡_, refl, sym, _∙_, ap, ap₂}
 use mathlib.Core.Bool.{true}
 use mathlib.Core.List.{List, _∷_}

@@ -3,7 +3,8 @@ use mathlib.Core.Path.{_≡_, sym, _∙_, ap, ap₂}
 use Prim.Native.Nat.{ℕ, zero, suc, _^_, _-_, _<_}
 use native.Mathlib.Nat.{pow-zero, pow-suc, not-suc-le-zero}
 use native.Mathlib.Omega.{arith}
-use lib.IntN.{ℤ, pos, negsuc, sucℤ, predℤ, negℤ, _+ℤ_, _-ℤ_, _*ℤ_, pow, one, sucℤ-+ℤ, predℤ-+ℤ, +ℤ-idl, +ℤ-assoc, +ℤ-comm, negℤ-+ℤ, negℤ-negℤ, negℤ-sucℤ, negℤ-predℤ, *ℤ-comm, *ℤ-one, zero-*ℤ, sucℤ-*ℤ, predℤ-*ℤ}
+use lib.IntN.{ℤ, pos, negsuc, sucℤ, predℤ, negℤ, _+ℤ_, _-ℤ_, _*ℤ_, pow, one, sucℤ-+ℤ, predℤ-+ℤ, +ℤ-idl, +ℤ-assoc, +ℤ-comm, negℤ-+ℤ, negℤ-negℤ}
+use lib.IntN.{negℤ-sucℤ, negℤ-predℤ, *ℤ-comm, *ℤ-one, zero-*ℤ, sucℤ-*ℤ, predℤ-*ℤ}
 
 -- induction by successor and predecessor
 pub induct {ℓ} : (P : ℤ → Type ℓ) → P (pos zero) → ((k : ℤ) → P k → P (sucℤ k)) → ((k : ℤ) → P k → P (predℤ k)) → (k : ℤ) → P k
@@ -34,8 +35,10 @@ pub +ℤ-swap4 : (a b c d : ℤ) → (a +ℤ b) +ℤ (c +ℤ d) ≡ (a +ℤ c) +
 pub *ℤ-distr : (a b k : ℤ) → (a +ℤ b) *ℤ k ≡ a *ℤ k +ℤ b *ℤ k
 *ℤ-distr a b k = induct (λ (x : ℤ). (x +ℤ b) *ℤ k ≡ x *ℤ k +ℤ b *ℤ k)
     (ap (λ x. x *ℤ k) (+ℤ-idl b) ∙ sym (+ℤ-idl (b *ℤ k)) ∙ ap (λ x. x +ℤ b *ℤ k) (sym (zero-*ℤ k)))
-    (λ x h. ap (λ y. y *ℤ k) (sucℤ-+ℤ x b) ∙ sucℤ-*ℤ (x +ℤ b) k ∙ ap (λ y. y +ℤ k) h ∙ +ℤ-right-comm (x *ℤ k) (b *ℤ k) k ∙ ap (λ y. y +ℤ b *ℤ k) (sym (sucℤ-*ℤ x k)))
-    (λ x h. ap (λ y. y *ℤ k) (predℤ-+ℤ x b) ∙ predℤ-*ℤ (x +ℤ b) k ∙ ap (λ y. y -ℤ k) h ∙ +ℤ-right-comm (x *ℤ k) (b *ℤ k) (negℤ k) ∙ ap (λ y. y +ℤ b *ℤ k) (sym (predℤ-*ℤ x k)))
+    (λ x h. ap (λ y. y *ℤ k) (sucℤ-+ℤ x b) ∙ sucℤ-*ℤ (x +ℤ b) k ∙ ap (λ y. y +ℤ k) h
+    ∙ +ℤ-right-comm (x *ℤ k) (b *ℤ k) k ∙ ap (λ y. y +ℤ b *ℤ k) (sym (sucℤ-*ℤ x k)))
+    (λ x h. ap (λ y. y *ℤ k) (predℤ-+ℤ x b) ∙ predℤ-*ℤ (x +ℤ b) k ∙ ap (λ y. y -ℤ k) h
+    ∙ +ℤ-right-comm (x *ℤ k) (b *ℤ k) (negℤ k) ∙ ap (λ y. y +ℤ b *ℤ k) (sym (predℤ-*ℤ x k)))
     a
 
 pub *ℤ-distl : (k a b : ℤ) → k *ℤ (a +ℤ b) ≡ k *ℤ a +ℤ k *ℤ b
@@ -45,7 +48,8 @@ pub neg-*ℤ : (a k : ℤ) → negℤ a *ℤ k ≡ negℤ (a *ℤ k)
 neg-*ℤ a k = induct (λ (x : ℤ). negℤ x *ℤ k ≡ negℤ (x *ℤ k))
     (zero-*ℤ k ∙ ap negℤ (sym (zero-*ℤ k)))
     (λ x h. ap (λ y. y *ℤ k) (negℤ-sucℤ x) ∙ predℤ-*ℤ (negℤ x) k ∙ ap (λ y. y -ℤ k) h ∙ sym (negℤ-+ℤ (x *ℤ k) k) ∙ ap negℤ (sym (sucℤ-*ℤ x k)))
-    (λ x h. ap (λ y. y *ℤ k) (negℤ-predℤ x) ∙ sucℤ-*ℤ (negℤ x) k ∙ ap₂ _+ℤ_ h (sym (negℤ-negℤ k)) ∙ sym (negℤ-+ℤ (x *ℤ k) (negℤ k)) ∙ ap negℤ (sym (predℤ-*ℤ x k)))
+    (λ x h. ap (λ y. y *ℤ k) (negℤ-predℤ x) ∙ sucℤ-*ℤ (negℤ x) k ∙ ap₂ _+ℤ_ h (sym (negℤ-negℤ k))
+    ∙ sym (negℤ-+ℤ (x *ℤ k) (negℤ k)) ∙ ap negℤ (sym (predℤ-*ℤ x k)))
     a
 
 pub *ℤ-neg : (a k : ℤ) → a *ℤ negℤ k ≡ negℤ (a *ℤ k)

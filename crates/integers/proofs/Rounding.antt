@@ -13,7 +13,8 @@ use mir.Val.{SFits, ofZ}
 use mir.Facts.{toZ-ofZ}
 use Rattle.integers.specs.Rounding.{floor, ceiling}
 use Rattle.integers.proofs.Ring.{ring, sides}
-use Rattle.integers.proofs.Order.{NonNeg, natural, nonneg-by, gap, gap<, le-by, lt-by, clash-by, pos-lt, le-or-lt, ≤ℤ-trans, ≤ℤ-antisymm, *ℤ-cancel, times-positive, _+₀_, _×₀_}
+use Rattle.integers.proofs.Order.{NonNeg, natural, nonneg-by, gap, gap<, le-by, lt-by, clash-by, pos-lt, le-or-lt, ≤ℤ-trans, ≤ℤ-antisymm}
+use Rattle.integers.proofs.Order.{*ℤ-cancel, times-positive, _+₀_, _×₀_}
 use Rattle.integers.proofs.Size.{abs-within}
 use Rattle.integers.proofs.Ranges.{stored, lt-yes, lt-no}
 
@@ -171,7 +172,8 @@ quotient-floor (negsuc a) d h = absurd (h .holds)
 -- at most B in size where n is at most B · d
 pub floor-size : (B : ℕ) {n d : ℤ} → pos 0 <ℤ d → n ≤ℤ (pos B *ℤ d) → (negℤ (pos B) *ℤ d) ≤ℤ n → natAbs (floor n d) ≤ B
 floor-size B {n} {d} hd h l = abs-within B (floor n d) (le-floor hd l)
-    (*ℤ-cancel {a = floor n d} {b = pos B} hd (le-by (pos B ∷ n ∷ d ∷ floor n d ∷ []) (gap h +₀ gap (floor-is n d hd .below)) (search sides depth 20) refl))
+    (*ℤ-cancel {a = floor n d} {b = pos B} hd
+    (le-by (pos B ∷ n ∷ d ∷ floor n d ∷ []) (gap h +₀ gap (floor-is n d hd .below)) (search sides depth 20) refl))
 
 -- ---- as code computes them: `if n % d < 0 { n / d - 1 } else { n / d }`, and `if 0 < n % d { n / d + 1 } else { n / d }`
 quotient-remainder : (n : ℤ) (D : ℕ) → n ≡ quotZ n (pos D) *ℤ pos D +ℤ remZ n (pos D)
@@ -186,7 +188,8 @@ remainder-low (negsuc a) D h = nonneg-by (pos D ∷ pos (suc a % D) ∷ []) (lef
 
 remainder-high : (n : ℤ) (D : ℕ) → zero < D → NonNeg (pos D -ℤ remZ n (pos D) -ℤ pos 1)
 remainder-high (pos a) D h = left-over a D h
-remainder-high (negsuc a) D h = nonneg-by (pos D ∷ pos (suc a % D) ∷ []) (left-over (suc a) D h +₀ natural 2 ×₀ natural (suc a % D)) (search sides depth 20) refl
+remainder-high (negsuc a) D h = nonneg-by (pos D ∷ pos (suc a % D) ∷ [])
+    (left-over (suc a) D h +₀ natural 2 ×₀ natural (suc a % D)) (search sides depth 20) refl
 
 -- n = q · d + s, and s is less than d from zero
 module _ {n d : ℤ} (hd : pos 0 <ℤ d) (q s : ℤ) (e : n ≡ q *ℤ d +ℤ s) (l : NonNeg (s +ℤ d -ℤ pos 1)) (h : NonNeg (d -ℤ s -ℤ pos 1)) where

@@ -1,5 +1,5 @@
--- Division by a positive number, rounded to a whole number. `proofs/Rounding.antt` has the laws: `floor n d` is the one whole number
--- q with q · d ≤ n < (q + 1) · d, and `ceiling n d` the one with (q − 1) · d < n ≤ q · d.
+-- Division by a positive number, rounded to a whole number. `proofs/Rounding.antt` has the laws: `floor n d` is the one
+-- whole number q with q · d ≤ n < (q + 1) · d, and `ceiling n d` the one with (q − 1) · d < n ≤ q · d.
 use Prim.Native.Nat.{_/_}
 use lib.IntN.{ℤ, pos, negsuc, negℤ, natAbs}
 

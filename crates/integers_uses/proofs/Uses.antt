@@ -33,13 +33,25 @@ large-numerals : (a b : ℤ) → (pos (2 ^ 200) *ℤ a -ℤ b) *ℤ (pos (2 ^ 20
 large-numerals a b = ring (a ∷ b ∷ []) (search sides depth 40 fits 9999) refl
 
 -- the left half of degree 5, times 32, has the value of the whole at p and p + 2r
-left-half-5 : (p r c0 c1 c2 c3 c4 c5 : ℤ) → (pos 32 *ℤ c0) *ℤ pow r 5 +ℤ pos 5 *ℤ (pos 16 *ℤ c0 +ℤ pos 16 *ℤ c1) *ℤ pow r 4 *ℤ p +ℤ pos 10 *ℤ (pos 8 *ℤ c0 +ℤ pos 16 *ℤ c1 +ℤ pos 8 *ℤ c2) *ℤ pow r 3 *ℤ pow p 2 +ℤ pos 10 *ℤ (pos 4 *ℤ c0 +ℤ pos 12 *ℤ c1 +ℤ pos 12 *ℤ c2 +ℤ pos 4 *ℤ c3) *ℤ pow r 2 *ℤ pow p 3 +ℤ pos 5 *ℤ (pos 2 *ℤ c0 +ℤ pos 8 *ℤ c1 +ℤ pos 12 *ℤ c2 +ℤ pos 8 *ℤ c3 +ℤ pos 2 *ℤ c4) *ℤ r *ℤ pow p 4 +ℤ (c0 +ℤ pos 5 *ℤ c1 +ℤ pos 10 *ℤ c2 +ℤ pos 10 *ℤ c3 +ℤ pos 5 *ℤ c4 +ℤ c5) *ℤ pow p 5
-    ≡ c0 *ℤ pow (p +ℤ pos 2 *ℤ r) 5 +ℤ pos 5 *ℤ c1 *ℤ pow (p +ℤ pos 2 *ℤ r) 4 *ℤ p +ℤ pos 10 *ℤ c2 *ℤ pow (p +ℤ pos 2 *ℤ r) 3 *ℤ pow p 2 +ℤ pos 10 *ℤ c3 *ℤ pow (p +ℤ pos 2 *ℤ r) 2 *ℤ pow p 3 +ℤ pos 5 *ℤ c4 *ℤ (p +ℤ pos 2 *ℤ r) *ℤ pow p 4 +ℤ c5 *ℤ pow p 5
+left-half-5 : (p r c0 c1 c2 c3 c4 c5 : ℤ)
+    → (pos 32 *ℤ c0) *ℤ pow r 5 +ℤ pos 5 *ℤ (pos 16 *ℤ c0 +ℤ pos 16 *ℤ c1) *ℤ pow r 4 *ℤ p
+    +ℤ pos 10 *ℤ (pos 8 *ℤ c0 +ℤ pos 16 *ℤ c1 +ℤ pos 8 *ℤ c2) *ℤ pow r 3 *ℤ pow p 2
+    +ℤ pos 10 *ℤ (pos 4 *ℤ c0 +ℤ pos 12 *ℤ c1 +ℤ pos 12 *ℤ c2 +ℤ pos 4 *ℤ c3) *ℤ pow r 2 *ℤ pow p 3
+    +ℤ pos 5 *ℤ (pos 2 *ℤ c0 +ℤ pos 8 *ℤ c1 +ℤ pos 12 *ℤ c2 +ℤ pos 8 *ℤ c3 +ℤ pos 2 *ℤ c4) *ℤ r *ℤ pow p 4
+    +ℤ (c0 +ℤ pos 5 *ℤ c1 +ℤ pos 10 *ℤ c2 +ℤ pos 10 *ℤ c3 +ℤ pos 5 *ℤ c4 +ℤ c5) *ℤ pow p 5
+    ≡ c0 *ℤ pow (p +ℤ pos 2 *ℤ r) 5 +ℤ pos 5 *ℤ c1 *ℤ pow (p +ℤ pos 2 *ℤ r) 4 *ℤ p +ℤ pos 10 *ℤ c2 *ℤ pow (p +ℤ pos 2 *ℤ r) 3 *ℤ pow p 2
+    +ℤ pos 10 *ℤ c3 *ℤ pow (p +ℤ pos 2 *ℤ r) 2 *ℤ pow p 3 +ℤ pos 5 *ℤ c4 *ℤ (p +ℤ pos 2 *ℤ r) *ℤ pow p 4 +ℤ c5 *ℤ pow p 5
 left-half-5 p r c0 c1 c2 c3 c4 c5 = ring (p ∷ r ∷ c0 ∷ c1 ∷ c2 ∷ c3 ∷ c4 ∷ c5 ∷ []) (search sides depth 40 fits 9999) refl
 
 -- and the right half at 2p + r and r
-right-half-5 : (p r c0 c1 c2 c3 c4 c5 : ℤ) → (c0 +ℤ pos 5 *ℤ c1 +ℤ pos 10 *ℤ c2 +ℤ pos 10 *ℤ c3 +ℤ pos 5 *ℤ c4 +ℤ c5) *ℤ pow r 5 +ℤ pos 5 *ℤ (pos 2 *ℤ c1 +ℤ pos 8 *ℤ c2 +ℤ pos 12 *ℤ c3 +ℤ pos 8 *ℤ c4 +ℤ pos 2 *ℤ c5) *ℤ pow r 4 *ℤ p +ℤ pos 10 *ℤ (pos 4 *ℤ c2 +ℤ pos 12 *ℤ c3 +ℤ pos 12 *ℤ c4 +ℤ pos 4 *ℤ c5) *ℤ pow r 3 *ℤ pow p 2 +ℤ pos 10 *ℤ (pos 8 *ℤ c3 +ℤ pos 16 *ℤ c4 +ℤ pos 8 *ℤ c5) *ℤ pow r 2 *ℤ pow p 3 +ℤ pos 5 *ℤ (pos 16 *ℤ c4 +ℤ pos 16 *ℤ c5) *ℤ r *ℤ pow p 4 +ℤ (pos 32 *ℤ c5) *ℤ pow p 5
-    ≡ c0 *ℤ pow r 5 +ℤ pos 5 *ℤ c1 *ℤ pow r 4 *ℤ (r +ℤ pos 2 *ℤ p) +ℤ pos 10 *ℤ c2 *ℤ pow r 3 *ℤ pow (r +ℤ pos 2 *ℤ p) 2 +ℤ pos 10 *ℤ c3 *ℤ pow r 2 *ℤ pow (r +ℤ pos 2 *ℤ p) 3 +ℤ pos 5 *ℤ c4 *ℤ r *ℤ pow (r +ℤ pos 2 *ℤ p) 4 +ℤ c5 *ℤ pow (r +ℤ pos 2 *ℤ p) 5
+right-half-5 : (p r c0 c1 c2 c3 c4 c5 : ℤ)
+    → (c0 +ℤ pos 5 *ℤ c1 +ℤ pos 10 *ℤ c2 +ℤ pos 10 *ℤ c3 +ℤ pos 5 *ℤ c4 +ℤ c5) *ℤ pow r 5
+    +ℤ pos 5 *ℤ (pos 2 *ℤ c1 +ℤ pos 8 *ℤ c2 +ℤ pos 12 *ℤ c3 +ℤ pos 8 *ℤ c4 +ℤ pos 2 *ℤ c5) *ℤ pow r 4 *ℤ p
+    +ℤ pos 10 *ℤ (pos 4 *ℤ c2 +ℤ pos 12 *ℤ c3 +ℤ pos 12 *ℤ c4 +ℤ pos 4 *ℤ c5) *ℤ pow r 3 *ℤ pow p 2
+    +ℤ pos 10 *ℤ (pos 8 *ℤ c3 +ℤ pos 16 *ℤ c4 +ℤ pos 8 *ℤ c5) *ℤ pow r 2 *ℤ pow p 3
+    +ℤ pos 5 *ℤ (pos 16 *ℤ c4 +ℤ pos 16 *ℤ c5) *ℤ r *ℤ pow p 4 +ℤ (pos 32 *ℤ c5) *ℤ pow p 5
+    ≡ c0 *ℤ pow r 5 +ℤ pos 5 *ℤ c1 *ℤ pow r 4 *ℤ (r +ℤ pos 2 *ℤ p) +ℤ pos 10 *ℤ c2 *ℤ pow r 3 *ℤ pow (r +ℤ pos 2 *ℤ p) 2
+    +ℤ pos 10 *ℤ c3 *ℤ pow r 2 *ℤ pow (r +ℤ pos 2 *ℤ p) 3 +ℤ pos 5 *ℤ c4 *ℤ r *ℤ pow (r +ℤ pos 2 *ℤ p) 4 +ℤ c5 *ℤ pow (r +ℤ pos 2 *ℤ p) 5
 right-half-5 p r c0 c1 c2 c3 c4 c5 = ring (p ∷ r ∷ c0 ∷ c1 ∷ c2 ∷ c3 ∷ c4 ∷ c5 ∷ []) (search sides depth 40 fits 9999) refl
 
 -- a value of degree 2 is the chord and the second differences, each times its polynomial
@@ -56,7 +68,9 @@ second-differences-3 : (p r c0 c1 c2 c3 : ℤ) → pos 3 *ℤ (c0 *ℤ pow r 3 +
 second-differences-3 p r c0 c1 c2 c3 = ring (p ∷ r ∷ c0 ∷ c1 ∷ c2 ∷ c3 ∷ []) (search sides depth 40 fits 9999) refl
 
 -- a value of degree 4 is the chord and the second differences, each times its polynomial
-second-differences-4 : (p r c0 c1 c2 c3 c4 : ℤ) → pos 4 *ℤ (c0 *ℤ pow r 4 +ℤ pos 4 *ℤ c1 *ℤ pow r 3 *ℤ p +ℤ pos 6 *ℤ c2 *ℤ pow r 2 *ℤ pow p 2 +ℤ pos 4 *ℤ c3 *ℤ r *ℤ pow p 3 +ℤ c4 *ℤ pow p 4)
+second-differences-4 : (p r c0 c1 c2 c3 c4 : ℤ)
+    → pos 4 *ℤ (c0 *ℤ pow r 4 +ℤ pos 4 *ℤ c1 *ℤ pow r 3 *ℤ p +ℤ pos 6 *ℤ c2 *ℤ pow r 2 *ℤ pow p 2 +ℤ pos 4 *ℤ c3 *ℤ r *ℤ pow p 3
+    +ℤ c4 *ℤ pow p 4)
     ≡ pos 4 *ℤ (r *ℤ c0 +ℤ p *ℤ c4) *ℤ pow (p +ℤ r) 3
     -ℤ (c0 -ℤ pos 2 *ℤ c1 +ℤ c2) *ℤ (pos 12 *ℤ p *ℤ pow r 3 +ℤ pos 12 *ℤ pow p 2 *ℤ pow r 2 +ℤ pos 4 *ℤ pow p 3 *ℤ r)
     -ℤ (c1 -ℤ pos 2 *ℤ c2 +ℤ c3) *ℤ (pos 8 *ℤ p *ℤ pow r 3 +ℤ pos 24 *ℤ pow p 2 *ℤ pow r 2 +ℤ pos 8 *ℤ pow p 3 *ℤ r)
@@ -64,7 +78,9 @@ second-differences-4 : (p r c0 c1 c2 c3 c4 : ℤ) → pos 4 *ℤ (c0 *ℤ pow r 
 second-differences-4 p r c0 c1 c2 c3 c4 = ring (p ∷ r ∷ c0 ∷ c1 ∷ c2 ∷ c3 ∷ c4 ∷ []) (search sides depth 40 fits 9999) refl
 
 -- a value of degree 5 is the chord and the second differences, each times its polynomial
-second-differences-5 : (p r c0 c1 c2 c3 c4 c5 : ℤ) → pos 5 *ℤ (c0 *ℤ pow r 5 +ℤ pos 5 *ℤ c1 *ℤ pow r 4 *ℤ p +ℤ pos 10 *ℤ c2 *ℤ pow r 3 *ℤ pow p 2 +ℤ pos 10 *ℤ c3 *ℤ pow r 2 *ℤ pow p 3 +ℤ pos 5 *ℤ c4 *ℤ r *ℤ pow p 4 +ℤ c5 *ℤ pow p 5)
+second-differences-5 : (p r c0 c1 c2 c3 c4 c5 : ℤ)
+    → pos 5 *ℤ (c0 *ℤ pow r 5 +ℤ pos 5 *ℤ c1 *ℤ pow r 4 *ℤ p +ℤ pos 10 *ℤ c2 *ℤ pow r 3 *ℤ pow p 2 +ℤ pos 10 *ℤ c3 *ℤ pow r 2 *ℤ pow p 3
+    +ℤ pos 5 *ℤ c4 *ℤ r *ℤ pow p 4 +ℤ c5 *ℤ pow p 5)
     ≡ pos 5 *ℤ (r *ℤ c0 +ℤ p *ℤ c5) *ℤ pow (p +ℤ r) 4
     -ℤ (c0 -ℤ pos 2 *ℤ c1 +ℤ c2) *ℤ (pos 20 *ℤ p *ℤ pow r 4 +ℤ pos 30 *ℤ pow p 2 *ℤ pow r 3 +ℤ pos 20 *ℤ pow p 3 *ℤ pow r 2 +ℤ pos 5 *ℤ pow p 4 *ℤ r)
     -ℤ (c1 -ℤ pos 2 *ℤ c2 +ℤ c3) *ℤ (pos 15 *ℤ p *ℤ pow r 4 +ℤ pos 60 *ℤ pow p 2 *ℤ pow r 3 +ℤ pos 40 *ℤ pow p 3 *ℤ pow r 2 +ℤ pos 10 *ℤ pow p 4 *ℤ r)

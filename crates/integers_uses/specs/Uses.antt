@@ -5,7 +5,7 @@ use lib.IntN.{ℤ, pos, _-ℤ_}
 use lib.Signed.{_≤ℤ_, mag}
 
 -- four numbers below 2^30
-pub record Weights (p r a b : ℤ) : Type 0 where
+pub record SmallWeights (p r a b : ℤ) : Type 0 where
   pub of-p : mag p < 2 ^ 30
   pub of-r : mag r < 2 ^ 30
   pub of-a : mag a < 2 ^ 30

@@ -1,13 +1,14 @@
-// Worked uses of crate `integers`, checked with the rest: each function needs one kind of answer, and its proof file gives it in a line.
+// Worked uses of crate `integers`, checked with the rest: each function needs one kind of answer, and its proof file
+// gives it in a line.
 ghost use mathlib.Core.Path.{_≡_};
 ghost use Prim.Native.Nat.{_<_, _^_, _*_};
 ghost use lib.IntN.{pos, negℤ, natAbs, _+ℤ_, _-ℤ_, _*ℤ_};
 ghost use lib.Signed.{quotZ, remZ, shrZ, mag};
-ghost use Rattle.integers_uses.specs.Uses.{Weights, Distance};
+ghost use Rattle.integers_uses.specs.Uses.{SmallWeights, Distance};
 
 // Products and a sum of bounded numbers do not wrap.
 pub fn weighed(p: i64, r: i64, a: i64, b: i64) -> i64
-    requires { ⌜ Weights p r a b ⌝ }
+    requires { ⌜ SmallWeights p r a b ⌝ }
     ensures { λ s. ⌜ s ≡ r *ℤ a +ℤ p *ℤ b ⌝ }
 {
     r * a + p * b

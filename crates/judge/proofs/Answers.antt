@@ -10,14 +10,13 @@ use lib.IntN.{ℤ}
 use Rattle.refusals.specs.declared.Refusal.{Refusal}
 use Rattle.refusals.specs.declared.Refusal.the-variants.{LeafListLength, LeafListNumber, PointX, PointY}
 use Rattle.boxes.specs.Ranges.{inRange, placeOr}
-use Rattle.boxes.specs.Records.{recordLength}
+use Rattle.setting.specs.Setting.{Setting, recordLength}
 use Rattle.boxes.proofs.Faults.{place-some, place-none}
 use Rattle.judge_list.specs.Checks.{lengthFine, numberFault}
 use Rattle.judge_list.proofs.Numbers.{inList}
 use Rattle.judge.specs.declared.judging.Judgement.{Judgement}
 use Rattle.judge.specs.declared.judging.Judgement.the-variants.{Refused}
-use Rattle.judge.specs.Judging.{judgingFault, Verdict, Judged}
-use Rattle.judge.specs.Searching.{Passed}
+use Rattle.judge.specs.Judging.{judgingFault, Passed, Verdict, Judged}
 use Rattle.integers.proofs.Both.{and-false}
 
 eqb-is : (a b : ℕ) → a ≡ b → eqb a b ≡ true
@@ -34,54 +33,54 @@ eqb-not a b n = go (eqb a b) (λ t. n (eqb→eq a b t))
     go false u = refl
     go true u = absurd (u tt)
 
-module _ (most : ℕ) (ns : List ℤ) (x y : ℤ) where
+module _ (σ : Setting) (ns : List ℤ) (x y : ℤ) where
   -- ---- 9
-  length-bad : lengthFine (length ns) ≡ false → judgingFault most ns x y ≡ some (LeafListLength (length ns))
+  length-bad : lengthFine σ (length ns) ≡ false → judgingFault σ ns x y ≡ some (LeafListLength (length ns))
   unfolding judgingFault
   length-bad e = rw (judgingFault, e)
 
-  pub list-empty : length ns ≡ 0 → judgingFault most ns x y ≡ some (LeafListLength (length ns))
+  pub list-empty : length ns ≡ 0 → judgingFault σ ns x y ≡ some (LeafListLength (length ns))
   list-empty e = length-bad (rw (eqb-is (length ns) 0 e))
 
-  pub list-cut : (length ns % recordLength ≡ 0 → ⊥) → judgingFault most ns x y ≡ some (LeafListLength (length ns))
-  list-cut n = length-bad (rw (eqb-not (length ns % recordLength) 0 n) (and-false (not (eqb (length ns) 0))))
+  pub list-cut : (length ns % recordLength σ ≡ 0 → ⊥) → judgingFault σ ns x y ≡ some (LeafListLength (length ns))
+  list-cut n = length-bad (rw (eqb-not (length ns % recordLength σ) 0 n) (and-false (not (eqb (length ns) 0))))
 
-  module _ (some-numbers : length ns ≡ 0 → ⊥) (whole : length ns % recordLength ≡ 0) where
-    length-fine : lengthFine (length ns) ≡ true
-    length-fine = rw (eqb-not (length ns) 0 some-numbers, eqb-is (length ns % recordLength) 0 whole)
+  module _ (some-numbers : length ns ≡ 0 → ⊥) (whole : length ns % recordLength σ ≡ 0) where
+    length-fine : lengthFine σ (length ns) ≡ true
+    length-fine = rw (eqb-not (length ns) 0 some-numbers, eqb-is (length ns % recordLength σ) 0 whole)
 
     -- ---- 10
-    pub number-bad : (i : ℕ) → i ≡ placeOr (length ns) (numberFault most ns) → i < length ns → judgingFault most ns x y ≡ some (LeafListNumber i)
+    pub number-bad : (i : ℕ) → i ≡ placeOr (length ns) (numberFault σ ns) → i < length ns → judgingFault σ ns x y ≡ some (LeafListNumber i)
     unfolding judgingFault
     number-bad i e h =
-        let f = place-some (length ns) (numberFault most ns) (subst (λ k. k < length ns) e h) ∙ ap some (sym e) in
+        let f = place-some (length ns) (numberFault σ ns) (subst (λ k. k < length ns) e h) ∙ ap some (sym e) in
         rw (judgingFault, length-fine, f)
 
-    module _ (all : length ns ≤ placeOr (length ns) (numberFault most ns)) where
-      numbers-fine : numberFault most ns ≡ none
+    module _ (all : length ns ≤ placeOr (length ns) (numberFault σ ns)) where
+      numbers-fine : numberFault σ ns ≡ none
       unfolding numberFault
-      numbers-fine = place-none (inList most ns) (length ns) all
+      numbers-fine = place-none (inList σ ns) (length ns) all
 
-      pub passed : Passed most ns
+      pub passed : Passed σ ns
       passed = record { whole = length-fine; numbers = numbers-fine }
 
   -- ---- 11, of a list that passed
-  module _ (p : Passed most ns) where
-    pub x-bad : inRange x ≡ false → judgingFault most ns x y ≡ some PointX
+  module _ (p : Passed σ ns) where
+    pub x-bad : inRange x ≡ false → judgingFault σ ns x y ≡ some PointX
     unfolding judgingFault
     x-bad e = rw (judgingFault, p .whole, p .numbers, e)
 
-    pub y-bad : inRange x ≡ true → inRange y ≡ false → judgingFault most ns x y ≡ some PointY
+    pub y-bad : inRange x ≡ true → inRange y ≡ false → judgingFault σ ns x y ≡ some PointY
     unfolding judgingFault
     y-bad e f = rw (judgingFault, p .whole, p .numbers, e, f)
 
-    pub none-bad : inRange x ≡ true → inRange y ≡ true → judgingFault most ns x y ≡ none
+    pub none-bad : inRange x ≡ true → inRange y ≡ true → judgingFault σ ns x y ≡ none
     unfolding judgingFault
     none-bad e f = rw (judgingFault, p .whole, p .numbers, e, f)
 
   -- ---- the answer
-  pub judged-refused : (r : Refusal) → judgingFault most ns x y ≡ some r → Judged most ns x y (Refused r)
-  judged-refused r e = subst (λ o. Verdict o ns x y (Refused r)) (sym e) refl
+  pub judged-refused : (r : Refusal) → judgingFault σ ns x y ≡ some r → Judged σ ns x y (Refused r)
+  judged-refused r e = subst (λ o. Verdict σ o ns x y (Refused r)) (sym e) refl
 
-  pub judged-found : (a : Judgement) → judgingFault most ns x y ≡ none → Verdict none ns x y a → Judged most ns x y a
-  judged-found a e v = subst (λ o. Verdict o ns x y a) (sym e) v
+  pub judged-found : (a : Judgement) → judgingFault σ ns x y ≡ none → Verdict σ none ns x y a → Judged σ ns x y a
+  judged-found a e v = subst (λ o. Verdict σ o ns x y a) (sym e) v

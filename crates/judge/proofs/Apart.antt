@@ -14,12 +14,12 @@ use Rattle.integers.proofs.Ranges.{lt-yes, yes-lt}
 use Rattle.integers.proofs.First.{bad-none}
 use Rattle.boxes.specs.declared.Box.{Box}
 use Rattle.boxes.specs.Ranges.{placeOr}
-use Rattle.boxes.specs.Records.{covers, boxAtIndex}
+use Rattle.setting.specs.Setting.{Setting, breakPoints, covers}
+use Rattle.boxes.specs.Records.{boxAtIndex}
 use Rattle.judge_cover.specs.Deciding.{sidesOf, sidesX, outside, apart, held}
 use Rattle.judge_cover.proofs.Cuts.{apart-x, apart-y}
 use Rattle.judge.proofs.Passing.{pass-each}
-use Rattle.judge.specs.Sides.{belowAll, aboveAll, beyond}
-use Rattle.judge.specs.Searching.{heldAt, holderAt}
+use Rattle.judge.specs.Inside.{heldAt, holderAt, belowAll, aboveAll, beyond}
 
 -- ---- a cover
 below-out : (z a : ℤ) → ltZ z a ≡ true → ltZ (z -ℤ a) (pos 0) ≡ true
@@ -30,28 +30,30 @@ or-true true = refl
 or-true false = refl
 
 -- both boxes of cover i are on the other side, wherever their numbers stand
-module _ (ns : List ℤ) (at : ℕ) (z : ℤ) (e : beyond z ns at ≡ true) (i : ℕ) (h : i < covers) where
+module _ (σ : Setting) (ns : List ℤ) (at : ℕ) (z : ℤ) (e : beyond σ z ns at ≡ true) (i : ℕ) (h : i < covers σ) where
   pub beyond-apart : {l₀ h₀ l₁ h₁ : ℕ} → at + 4 * i ≡ l₀ → at + 1 + 4 * i ≡ h₀ → at + 4 * suc i ≡ l₁ → at + 1 + 4 * suc i ≡ h₁
       → apart (sidesOf (entry ns l₀) (entry ns h₀) (entry ns l₁) (entry ns h₁) z) ≡ true
-  beyond-apart {l₀} {h₀} {l₁} {h₁} p q r s = go (belowAll z ns at) refl e
+  beyond-apart {l₀} {h₀} {l₁} {h₁} p q r s = go (belowAll σ z ns at) refl e
     where
-      low : (j : ℕ) → j < suc covers → {l : ℕ} → at + 4 * j ≡ l → belowAll z ns at ≡ true → ltZ (z -ℤ entry ns l) (pos 0) ≡ true
-      low j m {l} t f = below-out z (entry ns l) (subst (λ k. ltZ z (entry ns k) ≡ true) t (pass-each (λ a. ltZ z a) ns at (suc covers) f j m))
+      low : (j : ℕ) → j < breakPoints σ → {l : ℕ} → at + 4 * j ≡ l → belowAll σ z ns at ≡ true → ltZ (z -ℤ entry ns l) (pos 0) ≡ true
+      low j m {l} t f = below-out z (entry ns l) (subst (λ k. ltZ z (entry ns k) ≡ true) t (pass-each (λ a. ltZ z a) ns at (breakPoints σ) f j m))
 
-      high : (j : ℕ) → j < suc covers → {l : ℕ} → at + 1 + 4 * j ≡ l → aboveAll z ns (at + 1) ≡ true → ltZ (entry ns l -ℤ z) (pos 0) ≡ true
-      high j m {l} t f = below-out (entry ns l) z (subst (λ k. ltZ (entry ns k) z ≡ true) t (pass-each (λ a. ltZ a z) ns (at + 1) (suc covers) f j m))
+      high : (j : ℕ) → j < breakPoints σ → {l : ℕ} → at + 1 + 4 * j ≡ l → aboveAll σ z ns (at + 1) ≡ true → ltZ (entry ns l -ℤ z) (pos 0) ≡ true
+      high j m {l} t f =
+          below-out (entry ns l) z (subst (λ k. ltZ (entry ns k) z ≡ true) t (pass-each (λ a. ltZ a z) ns (at + 1) (breakPoints σ) f j m))
 
-      go : (b : Bool) → belowAll z ns at ≡ b → (b || aboveAll z ns (at + 1)) ≡ true → apart (sidesOf (entry ns l₀) (entry ns h₀) (entry ns l₁) (entry ns h₁) z) ≡ true
+      go : (b : Bool) → belowAll σ z ns at ≡ b → (b || aboveAll σ z ns (at + 1)) ≡ true
+          → apart (sidesOf (entry ns l₀) (entry ns h₀) (entry ns l₁) (entry ns h₁) z) ≡ true
       go true f g = rw (low i (omega arith) p f, low (suc i) (omega arith) r f)
       go false f g = rw (high i (omega arith) q g, high (suc i) (omega arith) s g) (or-true (outside (z -ℤ entry ns l₀) (z -ℤ entry ns l₁)))
 
 -- ---- a record
-module _ (ns : List ℤ) (x y : ℤ) (at : ℕ) where
-  missed-x : beyond x ns (at + 2) ≡ true → (i : ℕ) → i < covers → heldAt ns x y at i ≡ false
+module _ (σ : Setting) (ns : List ℤ) (x y : ℤ) (at : ℕ) where
+  missed-x : beyond σ x ns (at + 2) ≡ true → (i : ℕ) → i < covers σ → heldAt ns x y at i ≡ false
   missed-x e i h = sym (apart-x (boxAtIndex ns (at + (2 + 4 * i))) (boxAtIndex ns (at + (2 + 4 * suc i))) x y
-      (beyond-apart ns (at + 2) x e i h (omega arith) (omega arith) (omega arith) (omega arith)))
+      (beyond-apart σ ns (at + 2) x e i h (omega arith) (omega arith) (omega arith) (omega arith)))
 
-  missed-y : beyond y ns (at + 4) ≡ true → (i : ℕ) → i < covers → heldAt ns x y at i ≡ false
+  missed-y : beyond σ y ns (at + 4) ≡ true → (i : ℕ) → i < covers σ → heldAt ns x y at i ≡ false
   missed-y e i h = go (apart (sidesX p q x)) refl
     where
       p : Box
@@ -62,14 +64,14 @@ module _ (ns : List ℤ) (x y : ℤ) (at : ℕ) where
 
       go : (b : Bool) → apart (sidesX p q x) ≡ b → held p q x y ≡ false
       go true f = sym (apart-x p q x y f)
-      go false f = sym (apart-y p q x y f (beyond-apart ns (at + 4) y e i h (omega arith) (omega arith) (omega arith) (omega arith)))
+      go false f = sym (apart-y p q x y f (beyond-apart σ ns (at + 4) y e i h (omega arith) (omega arith) (omega arith) (omega arith)))
 
-  none-held : ((i : ℕ) → i < covers → heldAt ns x y at i ≡ false) → covers ≡ placeOr covers (holderAt ns x y at)
+  none-held : ((i : ℕ) → i < covers σ → heldAt ns x y at i ≡ false) → covers σ ≡ placeOr (covers σ) (holderAt σ ns x y at)
   unfolding holderAt
-  none-held f = sym (ap (placeOr covers) (bad-none (λ i. not (heldAt ns x y at i)) covers 0 (λ k h. rw (zero-add k, f k h))))
+  none-held f = sym (ap (placeOr (covers σ)) (bad-none (λ i. not (heldAt ns x y at i)) (covers σ) 0 (λ k h. rw (zero-add k, f k h))))
 
-  pub beyond-x : beyond x ns (at + 2) ≡ true → covers ≡ placeOr covers (holderAt ns x y at)
+  pub beyond-x : beyond σ x ns (at + 2) ≡ true → covers σ ≡ placeOr (covers σ) (holderAt σ ns x y at)
   beyond-x e = none-held (missed-x e)
 
-  pub beyond-y : beyond y ns (at + 4) ≡ true → covers ≡ placeOr covers (holderAt ns x y at)
+  pub beyond-y : beyond σ y ns (at + 4) ≡ true → covers σ ≡ placeOr (covers σ) (holderAt σ ns x y at)
   beyond-y e = none-held (missed-y e)

@@ -1,11 +1,12 @@
--- The search for a cover that holds a point: what a list that passed its checks says of a record, the covers of a record one by one, and the records one by one.
+-- The search for a cover that holds a point: what a list that passed its checks says of a record, the covers of a record one by one, and the records
+-- one by one.
 use mathlib.Core.Path.{_≡_, refl, sym, _∙_, ap, ap₂, subst}
 use mathlib.Core.Logic.{⊎-elim}
 use mathlib.Core.Bool.{Bool, true, false, not}
 use mathlib.Core.List.{List}
 use mathlib.Core.Option.{none, some}
 use Prim.Native.Nat.{ℕ, zero, suc, _+_, _*_, _-_, _%_, _≤_, _<_}
-use native.Mathlib.Nat.{eq-or-lt-of-le}
+use native.Mathlib.Nat.{zero-add, mul-zero, mul-mod-right, eq-or-lt-of-le, lt-of-mul-lt-mul-left}
 use native.Mathlib.Omega.{arith}
 use lib.ListN.{length}
 use lib.IntN.{ℤ, pos, negℤ, natAbs}
@@ -20,17 +21,20 @@ use Rattle.integers.proofs.First.{none-bad, bad-none, bad-is, bad-first}
 use Rattle.integers.proofs.Both.{both-true}
 use Rattle.boxes.specs.declared.Box.{Box}
 use Rattle.boxes.specs.Ranges.{farthest, inRange, lowFine, boxNumberFine, placeOr}
-use Rattle.boxes.specs.Records.{covers, recordLength, boxIndex, boxAtIndex}
+use Rattle.setting.specs.Setting.{Setting, breakPoints, covers, recordLength}
+use Rattle.boxes.specs.Records.{boxIndex, boxAtIndex}
+use Rattle.boxes.proofs.Records.{record-left}
 use Rattle.boxes.proofs.Faults.{place-some, place-none}
 use Rattle.judge_list.specs.Checks.{numberFault}
-use Rattle.judge_list.specs.Parts.{fineAt, recordFaultAt}
-use Rattle.judge_list.proofs.Numbers.{gone-on, found-first, inList}
+use Rattle.judge_list.specs.Inside.{fineAt, recordFaultAt}
+use Rattle.judge_list.proofs.Numbers.{gone-on, found-first, inList, in-record}
 use Rattle.judge_cover.specs.Covers.{CoverHolds}
-use Rattle.judge_cover.specs.Deciding.{BoxInRange, held}
+use Rattle.judge_cover.specs.Deciding.{held}
+use Rattle.judge_cover.specs.Inside.{BoxInRange}
 use Rattle.judge_cover.proofs.Deciding.{held-exactly}
 use Rattle.judge.specs.declared.judging.Judgement.the-variants.{On, Off}
-use Rattle.judge.specs.Judging.{Verdict}
-use Rattle.judge.specs.Searching.{Passed, RecordAt, heldAt, holderAt}
+use Rattle.judge.specs.Judging.{Passed, Verdict}
+use Rattle.judge.specs.Inside.{RecordAt, heldAt, holderAt}
 use Rattle.judge.proofs.Judgements.{whole-of}
 
 pub range-size : (z : ℤ) → inRange z ≡ true → natAbs z ≤ farthest
@@ -44,28 +48,26 @@ number-range p z next e = go (p % 2) e
     go zero f = both-true (inRange z) (leZ z next) f .0
     go (suc q) f = f
 
-module _ {most : ℕ} {ns : List ℤ} {at : ℕ} (r : RecordAt most ns at) where
-  range-at : (q : ℕ) → q < 16 → natAbs (entry ns (at + (2 + q))) ≤ farthest
+module _ {σ : Setting} {ns : List ℤ} {at : ℕ} (r : RecordAt σ ns at) where
+  range-at : (q : ℕ) → q < 4 * breakPoints σ → natAbs (entry ns (at + (2 + q))) ≤ farthest
   unfolding recordFaultAt
   range-at q h =
-      let e = none-bad (fineAt most ns at) recordLength 0 (r .fine) (suc (suc q)) (omega arith) in
+      let e = none-bad (fineAt (σ .most) ns at) (recordLength σ) 0 (r .fine) (suc (suc q)) (omega arith) in
       let n : 0 + suc (suc q) ≡ suc (suc q) = omega arith in
       let m : 2 + q ≡ suc (suc q) = omega arith in
       rw m (range-size (entry ns (at + suc (suc q))) (number-range q (entry ns (at + suc (suc q))) (entry ns (at + suc (suc (suc q)))) (rw n at e)))
 
-  pub box-in-range : (i : ℕ) → i ≤ covers → BoxInRange (boxAtIndex ns (at + (2 + 4 * i)))
+  pub box-in-range : (i : ℕ) → i ≤ covers σ → BoxInRange (boxAtIndex ns (at + (2 + 4 * i)))
   box-in-range i h = record {
-    x-low = part 0 (omega arith) (omega arith);
-    x-high = part 1 (omega arith) (omega arith);
-    y-low = part 2 (omega arith) (omega arith);
-    y-high = part 3 (omega arith) (omega arith);
+    x = record { low = part 0 (omega arith) (omega arith); high = part 1 (omega arith) (omega arith) };
+    y = record { low = part 2 (omega arith) (omega arith); high = part 3 (omega arith) (omega arith) };
   }
     where
-      part : (s : ℕ) → 4 * i + s < 16 → {j : ℕ} → at + (2 + (4 * i + s)) ≡ j → natAbs (entry ns j) ≤ farthest
+      part : (s : ℕ) → 4 * i + s < 4 * breakPoints σ → {j : ℕ} → at + (2 + (4 * i + s)) ≡ j → natAbs (entry ns j) ≤ farthest
       part s l {j} e = subst (λ k. natAbs (entry ns k) ≤ farthest) e (range-at (4 * i + s) l)
 
 -- ---- the covers of a record
-module _ (ns : List ℤ) (x y : ℤ) (at : ℕ) where
+module _ (σ : Setting) (ns : List ℤ) (x y : ℤ) (at : ℕ) where
   abbrev missed : ℕ → Bool
   missed i = not (heldAt ns x y at i)
 
@@ -75,14 +77,14 @@ module _ (ns : List ℤ) (x y : ℤ) (at : ℕ) where
       ap₂ (λ a b. held a b x y) e (f ∙ ap (boxAtIndex ns) n)
 
   pub record Missed (i : ℕ) : Type 0 where
-    pub few : i ≤ covers
+    pub few : i ≤ covers σ
     pub none-holds : firstBad missed i 0 ≡ none
 
   pub missed-none : Missed 0
   unfolding firstBad
   missed-none = record { few = omega arith; none-holds = refl }
 
-  module _ (i : ℕ) (m : Missed i) (h : i < covers) where
+  module _ (i : ℕ) (m : Missed i) (h : i < covers σ) where
     one-more : firstBad missed (i + 1) 0 ≡ firstBad missed 1 i
     one-more = gone-on missed i 1 (m .none-holds) ∙ ap (firstBad missed 1) {x = 0 + i} {y = i} (omega arith)
 
@@ -90,96 +92,97 @@ module _ (ns : List ℤ) (x y : ℤ) (at : ℕ) where
     unfolding firstBad
     missed-more e = record { few = omega arith; none-holds = one-more ∙ rw (firstBad, e) }
 
-    pub cover-found : heldAt ns x y at i ≡ true → i ≡ placeOr covers (holderAt ns x y at)
+    pub cover-found : heldAt ns x y at i ≡ true → i ≡ placeOr (covers σ) (holderAt σ ns x y at)
     unfolding firstBad holderAt
     cover-found e =
         let f : firstBad missed 1 i ≡ some i = rw (firstBad, e) in
-        let g = found-first missed (i + 1) (covers - (i + 1)) i (one-more ∙ f) in
-        let n : covers ≡ i + 1 + (covers - (i + 1)) = omega arith in
-        sym (ap (λ k. placeOr covers (firstBad missed k 0)) n ∙ ap (placeOr covers) g)
+        let g = found-first missed (i + 1) (covers σ - (i + 1)) i (one-more ∙ f) in
+        let n : covers σ ≡ i + 1 + (covers σ - (i + 1)) = omega arith in
+        sym (ap (λ k. placeOr (covers σ) (firstBad missed k 0)) n ∙ ap (placeOr (covers σ)) g)
 
-  pub all-missed : (i : ℕ) → Missed i → covers ≤ i → covers ≡ placeOr covers (holderAt ns x y at)
+  pub all-missed : (i : ℕ) → Missed i → covers σ ≤ i → covers σ ≡ placeOr (covers σ) (holderAt σ ns x y at)
   unfolding holderAt
   all-missed i m h =
       let f = m .few in
-      let e : i ≡ covers = omega arith in
-      sym (ap (placeOr covers) (rw e at (m .none-holds)))
+      let e : i ≡ covers σ = omega arith in
+      sym (ap (placeOr (covers σ)) (rw e at (m .none-holds)))
 
-  pub holder-holds : (i : ℕ) → i ≡ placeOr covers (holderAt ns x y at) → i < covers → heldAt ns x y at i ≡ true
+  pub holder-holds : (i : ℕ) → i ≡ placeOr (covers σ) (holderAt σ ns x y at) → i < covers σ → heldAt ns x y at i ≡ true
   unfolding holderAt
   holder-holds i e h =
-      let s = place-some covers (holderAt ns x y at) (subst (λ k. k < covers) e h) in
-      not-false (heldAt ns x y at i) (bad-is missed covers 0 i (s ∙ ap some (sym e)))
+      let s = place-some (covers σ) (holderAt σ ns x y at) (subst (λ k. k < covers σ) e h) in
+      not-false (heldAt ns x y at i) (bad-is missed (covers σ) 0 i (s ∙ ap some (sym e)))
 
   -- no lower cover does
-  pub holder-first : (i : ℕ) → i ≡ placeOr covers (holderAt ns x y at) → i < covers → (q : ℕ) → q < i → heldAt ns x y at q ≡ false
+  pub holder-first : (i : ℕ) → i ≡ placeOr (covers σ) (holderAt σ ns x y at) → i < covers σ → (q : ℕ) → q < i → heldAt ns x y at q ≡ false
   unfolding holderAt
   holder-first i e h q l =
-      let s = place-some covers (holderAt ns x y at) (subst (λ k. k < covers) e h) in
-      not-true (heldAt ns x y at q) (bad-first missed covers 0 i (s ∙ ap some (sym e)) q (omega arith) l)
+      let s = place-some (covers σ) (holderAt σ ns x y at) (subst (λ k. k < covers σ) e h) in
+      not-true (heldAt ns x y at q) (bad-first missed (covers σ) 0 i (s ∙ ap some (sym e)) q (omega arith) l)
 
-  pub holder-none : covers ≤ placeOr covers (holderAt ns x y at) → (i : ℕ) → i < covers → heldAt ns x y at i ≡ false
+  pub holder-none : covers σ ≤ placeOr (covers σ) (holderAt σ ns x y at) → (i : ℕ) → i < covers σ → heldAt ns x y at i ≡ false
   unfolding holderAt
   holder-none h i l =
-      let e = none-bad missed covers 0 (place-none missed covers h) i l in
+      let e = none-bad missed (covers σ) 0 (place-none missed (covers σ) h) i l in
       let n : 0 + i ≡ i = omega arith in
       not-true (heldAt ns x y at i) (rw n at e)
 
 -- ---- the records of a list that passed
-module _ {most : ℕ} {ns : List ℤ} (passed : Passed most ns) where
-  pub record-passed : (at : ℕ) → at % recordLength ≡ 0 → at < length ns → RecordAt most ns at
+module _ {σ : Setting} {ns : List ℤ} (passed : Passed σ ns) where
+  pub record-passed : (at : ℕ) → at % recordLength σ ≡ 0 → at < length ns → RecordAt σ ns at
   unfolding recordFaultAt numberFault
   record-passed at e h =
-      let w = whole-of (length ns) (passed .whole) in
-      let inside : at + recordLength ≤ length ns = omega arith in
-      record { inside = inside; fine = bad-none (fineAt most ns at) recordLength 0 (λ k l. each k l inside) }
+      let inside = record-left (recordLength σ) e (whole-of σ (length ns) (passed .whole)) h in
+      record { inside = inside; fine = bad-none (fineAt (σ .most) ns at) (recordLength σ) 0 (λ k l. each k l inside) }
     where
-      each : (k : ℕ) → k < recordLength → at + recordLength ≤ length ns → fineAt most ns at (0 + k) ≡ true
+      each : (k : ℕ) → k < recordLength σ → at + recordLength σ ≤ length ns → fineAt (σ .most) ns at (0 + k) ≡ true
       each k l inside =
-          let z : 0 + k ≡ k = omega arith in
-          let f : (at + k) % recordLength ≡ k = omega arith in
-          let g : suc (at + k) ≡ at + suc k = omega arith in
-          let n : 0 + (at + k) ≡ at + k = omega arith in
-          let t = none-bad (inList most ns) (length ns) 0 (passed .numbers) (at + k) (omega arith) in
-          rw z (rw (n, f, g) at t)
+          let t = none-bad (inList σ ns) (length ns) 0 (passed .numbers) (at + k) (omega arith) in
+          rw zero-add (sym (in-record σ ns at e k l) ∙ (rw zero-add at t))
 
 -- the first `leaf` records hold the point nowhere, and the next begins at index `at`
-pub record Searched (ns : List ℤ) (x y : ℤ) (at leaf : ℕ) : Type 0 where
-  pub begins : at ≡ recordLength * leaf
-  pub no-cover : (k i : ℕ) → k < leaf → i < covers → heldAt ns x y (recordLength * k) i ≡ false
+pub record Searched (σ : Setting) (ns : List ℤ) (x y : ℤ) (at leaf : ℕ) : Type 0 where
+  pub begins : at ≡ recordLength σ * leaf
+  pub no-cover : (k i : ℕ) → k < leaf → i < covers σ → heldAt ns x y (recordLength σ * k) i ≡ false
 
-pub searched-none : (ns : List ℤ) (x y : ℤ) → Searched ns x y 0 0
-searched-none ns x y = record { begins = refl; no-cover = λ k i h l. absurd (omega arith) }
+pub searched-none : (σ : Setting) (ns : List ℤ) (x y : ℤ) → Searched σ ns x y 0 0
+searched-none σ ns x y = record { begins = sym (mul-zero (recordLength σ)); no-cover = λ k i h l. absurd (omega arith) }
 
-module _ {ns : List ℤ} {x y : ℤ} {at leaf : ℕ} (s : Searched ns x y at leaf) where
-  not-held : (k i : ℕ) → heldAt ns x y (recordLength * k) i ≡ false → CoverHolds ns k i x y → ⊥
-  not-held k i e c = both e (held-exactly (boxAtIndex ns (boxIndex k i)) (boxAtIndex ns (boxIndex k (suc i))) x y .1 c)
+module _ {σ : Setting} {ns : List ℤ} {x y : ℤ} {at leaf : ℕ} (s : Searched σ ns x y at leaf) where
+  not-held : (k i : ℕ) → heldAt ns x y (recordLength σ * k) i ≡ false → CoverHolds σ ns k i x y → ⊥
+  not-held k i e c = both e (held-exactly (boxAtIndex ns (boxIndex σ k i)) (boxAtIndex ns (boxIndex σ k (suc i))) x y .1 c)
     where
       both : {b : Bool} → b ≡ false → b ≡ true → ⊥
       both f t = clash (cc)
 
-  pub begins-whole : at % recordLength ≡ 0
-  begins-whole = let b = s .begins in omega arith
+  pub begins-whole : at % recordLength σ ≡ 0
+  begins-whole = ap (λ n. n % recordLength σ) (s .begins) ∙ mul-mod-right (recordLength σ) leaf
 
-  pub searched-more : covers ≤ placeOr covers (holderAt ns x y at) → Searched ns x y (at + recordLength) (leaf + 1)
+  pub searched-more : covers σ ≤ placeOr (covers σ) (holderAt σ ns x y at) → Searched σ ns x y (at + recordLength σ) (leaf + 1)
   searched-more h = record {
     begins = let b = s .begins in omega arith;
-    no-cover = λ k i l m. ⊎-elim
-        (λ e. let a : at ≡ recordLength * k = s .begins ∙ ap (λ n. recordLength * n) (sym e) in holder-none ns x y (recordLength * k) (subst (λ b. covers ≤ placeOr covers (holderAt ns x y b)) a h) i m)
-        (λ n. s .no-cover k i n m)
-        (eq-or-lt-of-le {n = k} {m = leaf} (omega arith));
+    no-cover = λ k i l m. ⊎-elim (λ e. last k i m e) (λ n. s .no-cover k i n m) (eq-or-lt-of-le {n = k} {m = leaf} (omega arith));
   }
+    where
+      last : (k i : ℕ) → i < covers σ → k ≡ leaf → heldAt ns x y (recordLength σ * k) i ≡ false
+      last k i m e =
+          let a : at ≡ recordLength σ * k = s .begins ∙ ap (λ n. recordLength σ * n) (sym e) in
+          holder-none σ ns x y (recordLength σ * k) (subst (λ b. covers σ ≤ placeOr (covers σ) (holderAt σ ns x y b)) a h) i m
 
-  pub found-on : (i : ℕ) → at < length ns → i ≡ placeOr covers (holderAt ns x y at) → i < covers → Verdict none ns x y (On leaf i)
+  pub found-on : (i : ℕ) → at < length ns → i ≡ placeOr (covers σ) (holderAt σ ns x y at) → i < covers σ → Verdict σ none ns x y (On leaf i)
   found-on i h e l =
       let b = s .begins in
       record {
         inside = omega arith;
         cover = l;
-        holds = held-exactly (boxAtIndex ns (boxIndex leaf i)) (boxAtIndex ns (boxIndex leaf (suc i))) x y .0 (rw (s .begins) at (holder-holds ns x y at i e l));
+        holds =
+            held-exactly (boxAtIndex ns (boxIndex σ leaf i)) (boxAtIndex ns (boxIndex σ leaf (suc i))) x y .0
+            (rw (s .begins) at (holder-holds σ ns x y at i e l));
         none-earlier = λ k q m n. not-held k q (s .no-cover k q m n);
-        none-lower = λ q m. not-held leaf q (rw (s .begins) at (holder-first ns x y at i e l q m));
+        none-lower = λ q m. not-held leaf q (rw (s .begins) at (holder-first σ ns x y at i e l q m));
       }
 
-  pub found-off : length ns ≤ at → Verdict none ns x y Off
-  found-off h k i l m = let b = s .begins in not-held k i (s .no-cover k i (omega arith) m)
+  pub found-off : length ns ≤ at → Verdict σ none ns x y Off
+  found-off h k i l m =
+      let b = s .begins in
+      not-held k i (s .no-cover k i (lt-of-mul-lt-mul-left (recordLength σ) {m = k} {n = leaf} (omega arith)) m)

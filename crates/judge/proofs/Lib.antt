@@ -1,6 +1,5 @@
--- Laws of the quick look at a record.
+-- Laws of judging, and of the quick look at a record. Each file opens with what it holds.
 pub mod Passing
--- Laws of judging. Each file opens with what it holds.
 pub mod Judgements
 pub mod Holders
 pub mod Answers

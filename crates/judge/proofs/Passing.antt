@@ -1,5 +1,5 @@
--- A test of the four numbers of a side, one by one.
-use mathlib.Core.Path.{_≡_, refl, sym, ap}
+-- A test of the numbers of a side, one by one, and a number of a list read as one of 64 bits.
+use mathlib.Core.Path.{_≡_, refl, sym, _∙_, ap}
 use mathlib.Core.Logic.{⊎-elim}
 use mathlib.Core.Bool.{Bool, true, false, not, _&&_}
 use mathlib.Core.List.{List}
@@ -8,41 +8,40 @@ use native.Mathlib.Nat.{eq-or-lt-of-le, le-of-suc-le-suc}
 use native.Mathlib.Omega.{arith}
 use lib.IntN.{ℤ}
 use lib.Signed.{leZ, ltZ}
+use mir.Syntax.{w32, w64}
+use mir.Val.{SFits}
+use mir.Facts.{toZ-ofZ, sfits-widen}
 use Rattle.integers.specs.Entry.{entry}
-use Rattle.integers.proofs.Ranges.{yes-lt, no-lt, le-yes, le-no}
+use Rattle.integers.proofs.Ranges.{stored, yes-lt, no-lt, le-yes, le-no}
 use Rattle.integers.proofs.Both.{and-false, both-true}
-use Rattle.boxes.specs.Records.{covers}
-use Rattle.judge.specs.Sides.{allPass}
+use Rattle.judge.specs.Inside.{allPass}
 
 -- ---- a test of n numbers, one by one
 module _ (test : ℤ → Bool) (ns : List ℤ) (at : ℕ) where
-  -- the first i of four numbers pass
-  pub record Passing (i : ℕ) : Type 0 where
-    pub few : i ≤ suc covers
+  -- the first i of n numbers pass
+  pub record Passing (n i : ℕ) : Type 0 where
+    pub few : i ≤ n
     pub each : allPass test ns at i ≡ true
 
-  pub pass-none : Passing 0
-  pass-none = record { few = omega arith; each = refl }
+  pub pass-none : (n : ℕ) → Passing n 0
+  pass-none n = record { few = omega arith; each = refl }
 
-  module _ (i : ℕ) (p : Passing i) where
-    pub pass-more : i < suc covers → test (entry ns (at + 4 * i)) ≡ true → Passing (i + 1)
-    pass-more h f = let n : i + 1 ≡ suc i = omega arith in record { few = omega arith; each = rw (n, p .each, f) }
+  module _ {n i : ℕ} (p : Passing n i) where
+    pub pass-more : i < n → test (entry ns (at + 4 * i)) ≡ true → Passing n (i + 1)
+    pass-more h f = let m : i + 1 ≡ suc i = omega arith in record { few = omega arith; each = rw (m, p .each, f) }
 
-    pub pass-done : suc covers ≤ i → true ≡ allPass test ns at (suc covers)
+    pub pass-done : n ≤ i → true ≡ allPass test ns at n
     pass-done h =
         let f = p .few in
-        let n : i ≡ suc covers = omega arith in
-        sym (rw n at (p .each))
+        let m : i ≡ n = omega arith in
+        sym (rw m at (p .each))
 
-  fails : (n i : ℕ) → i < n → test (entry ns (at + 4 * i)) ≡ false → false ≡ allPass test ns at n
-  fails zero i h f = absurd (omega arith)
-  fails (suc n) i h f = ⊎-elim
+  pub pass-fails : (n i : ℕ) → i < n → test (entry ns (at + 4 * i)) ≡ false → false ≡ allPass test ns at n
+  pass-fails zero i h f = absurd (omega arith)
+  pass-fails (suc n) i h f = ⊎-elim
       (λ e. sym (rw (← e, f) (and-false (allPass test ns at i))))
-      (λ l. ap (λ b. b && test (entry ns (at + 4 * n))) (fails n i l f))
+      (λ l. ap (λ b. b && test (entry ns (at + 4 * n))) (pass-fails n i l f))
       (eq-or-lt-of-le (le-of-suc-le-suc h))
-
-  pub pass-fails : (i : ℕ) → i < suc covers → test (entry ns (at + 4 * i)) ≡ false → false ≡ allPass test ns at (suc covers)
-  pass-fails = fails (suc covers)
 
   pub pass-each : (n : ℕ) → allPass test ns at n ≡ true → (i : ℕ) → i < n → test (entry ns (at + 4 * i)) ≡ true
   pass-each zero e i h = absurd (omega arith)
@@ -54,3 +53,23 @@ module _ (test : ℤ → Bool) (ns : List ℤ) (at : ℕ) where
 pub turned : (a b : ℤ) (t : Bool) → leZ a b ≡ t → ltZ b a ≡ not t
 turned a b true e = no-lt {a = b} {b = a} (le-yes {a = a} {b = b} e)
 turned a b false e = yes-lt {a = b} {b = a} (le-no {a = a} {b = b} e)
+
+-- ---- a number of 32 bits, read as one of 64
+pub wide-fits : {z : ℤ} → SFits w32 z → SFits w64 (stored w32 z)
+wide-fits fits = rw (toZ-ofZ fits) (sfits-widen tt fits)
+
+pub widened : {z : ℤ} → SFits w32 z → stored w64 (stored w32 z) ≡ z
+widened fits = ap (stored w64) (toZ-ofZ fits) ∙ toZ-ofZ (sfits-widen {w′ = w64} tt fits)
+
+-- ---- a turn of a loop that reads the numbers: the comparison says where the test fails
+module _ (test compared : ℤ → Bool) (turn : (a : ℤ) (t : Bool) → compared a ≡ t → test a ≡ not t) (ns : List ℤ) (at : ℕ) {n i : ℕ}
+    (p : Passing test ns at n i)
+    (h : i < n) (fits : SFits w32 (entry ns (at + 4 * i))) where
+  abbrev read : ℤ
+  read = stored w64 (stored w32 (entry ns (at + 4 * i)))
+
+  pub read-fails : compared read ≡ true → false ≡ allPass test ns at n
+  read-fails e = pass-fails test ns at n i h (turn _ true (rw (widened fits) at e))
+
+  pub read-passes : compared read ≡ false → Passing test ns at n (i + 1)
+  read-passes e = pass-more test ns at p h (turn _ false (rw (widened fits) at e))

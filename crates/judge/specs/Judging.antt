@@ -1,5 +1,5 @@
--- The checks of a leaf list and a point in document 01's order ("Place of each check"), and what judging answers ("Judging"). The most curves that an outline
--- may have is a parameter.
+-- The checks of a leaf list and a point in document 01's order ("Place of each check"), and what judging answers
+-- ("Judging").
 use mathlib.Core.Path.{_≡_}
 use mathlib.Core.Bool.{true, false}
 use mathlib.Core.List.{List}
@@ -10,7 +10,7 @@ use lib.IntN.{ℤ}
 use Rattle.refusals.specs.declared.Refusal.{Refusal}
 use Rattle.refusals.specs.declared.Refusal.the-variants.{LeafListLength, LeafListNumber, PointX, PointY}
 use Rattle.boxes.specs.Ranges.{inRange}
-use Rattle.boxes.specs.Records.{covers, recordLength}
+use Rattle.setting.specs.Setting.{Setting, covers, recordLength}
 use Rattle.judge_list.specs.Checks.{lengthFine, numberFault}
 use Rattle.judge_cover.specs.Covers.{CoverHolds}
 use Rattle.judge.specs.declared.judging.Judgement.{Judgement}
@@ -18,31 +18,41 @@ use Rattle.judge.specs.declared.judging.Judgement.the-variants.{On, Off,
 
 -- ---- 11: x, then y
 abbrev pub pointFault : ℤ → ℤ → Option Refusal
-pointFault x y = elim (inRange x) [ false ↦ some PointX | true ↦ elim (inRange y) [ false ↦ some PointY | true ↦ none ] ]
-
--- ---- 9, 10 and 11 in this order
-unfoldable pub judgingFault : ℕ → List ℤ → (x y : ℤ) → Option Refusal
-judgingFault most ns x y =
-    elim (lengthFine (length ns)) [
-      | false ↦ some (LeafListLength (length ns))
-      | true ↦ elim (numberFault most ns) [ some i ↦ some (LeafListNumber i) | none ↦ pointFault x y ]
+pointFault x y =
+    elim (inRange x) [
+      | false ↦ some PointX
+      | true ↦ elim (inRange y) [ false ↦ some PointY | true ↦ none ]
     ]
 
--- ---- the first holder of a point (document 02, request 01): cover i of record k holds it, and no cover of an earlier record of the
--- list and no lower cover of record k does
-pub record FirstHolder (ns : List ℤ) (x y : ℤ) (k i : ℕ) : Type 0 where
-  pub inside : recordLength * k < length ns
-  pub cover : i < covers
-  pub holds : CoverHolds ns k i x y
-  pub none-earlier : (j q : ℕ) → j < k → q < covers → CoverHolds ns j q x y → ⊥
-  pub none-lower : (q : ℕ) → q < i → CoverHolds ns k q x y → ⊥
+-- ---- 9, 10 and 11 in this order
+unfoldable pub judgingFault : Setting → List ℤ → (x y : ℤ) → Option Refusal
+judgingFault σ ns x y =
+    elim (lengthFine σ (length ns)) [
+      | false ↦ some (LeafListLength (length ns))
+      | true ↦ elim (numberFault σ ns) [ some i ↦ some (LeafListNumber i) | none ↦ pointFault x y ]
+    ]
 
--- ---- What the answer says: on names the first holder of the point; off says that no cover of any record holds it.
-abbrev pub Verdict : Option Refusal → List ℤ → (x y : ℤ) → Judgement → Type 0
-Verdict (some r) ns x y answer = answer ≡ Refused r
-Verdict none ns x y (On k i) = FirstHolder ns x y k i
-Verdict none ns x y Off = (k i : ℕ) → recordLength * k < length ns → i < covers → CoverHolds ns k i x y → ⊥
-Verdict none ns x y (Refused r) = ⊥
+-- a list that passes 9 and 10
+pub record Passed (σ : Setting) (ns : List ℤ) : Type 0 where
+  pub whole : lengthFine σ (length ns) ≡ true
+  pub numbers : numberFault σ ns ≡ none
 
-abbrev pub Judged : ℕ → List ℤ → (x y : ℤ) → Judgement → Type 0
-Judged most ns x y answer = Verdict (judgingFault most ns x y) ns x y answer
+-- ---- the first holder of a point (document 02, request 01): cover i of record k holds it, and no cover of an earlier
+-- record of the list and no lower cover of record k does
+pub record FirstHolder (σ : Setting) (ns : List ℤ) (x y : ℤ) (k i : ℕ) : Type 0 where
+  pub inside : recordLength σ * k < length ns
+  pub cover : i < covers σ
+  pub holds : CoverHolds σ ns k i x y
+  pub none-earlier : (j q : ℕ) → j < k → q < covers σ → CoverHolds σ ns j q x y → ⊥
+  pub none-lower : (q : ℕ) → q < i → CoverHolds σ ns k q x y → ⊥
+
+-- ---- what the answer says: on names the first holder of the point; off says that no cover of any record holds it
+abbrev pub Verdict : Setting → Option Refusal → List ℤ → (x y : ℤ) → Judgement → Type 0
+Verdict σ (some r) ns x y answer = answer ≡ Refused r
+Verdict σ none ns x y (On k i) = FirstHolder σ ns x y k i
+Verdict σ none ns x y Off =
+    (k i : ℕ) → recordLength σ * k < length ns → i < covers σ → CoverHolds σ ns k i x y → ⊥
+Verdict σ none ns x y (Refused r) = ⊥
+
+abbrev pub Judged : Setting → List ℤ → (x y : ℤ) → Judgement → Type 0
+Judged σ ns x y answer = Verdict σ (judgingFault σ ns x y) ns x y answer

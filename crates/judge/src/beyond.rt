@@ -2,12 +2,13 @@
 ghost use mathlib.Core.Path.{_≡_};
 ghost use Prim.Native.Nat.{_+_, _≤_};
 ghost use lib.ListN.{length};
-ghost use Rattle.judge.specs.Sides.{belowAll, aboveAll, beyond};
+ghost use Rattle.setting.specs.Setting.{standard};
+ghost use Rattle.judge.specs.Inside.{belowAll, aboveAll, beyond};
 
 // Whether z is below the four numbers that stand four apart from index `at` on.
 fn below_all(leaves: &[i32], at: usize, z: i64) -> bool
     requires { ⌜ at + 13 ≤ length (now leaves) ⌝ }
-    ensures { λ r. ⌜ r ≡ belowAll z (now (leaves .entry)) at ⌝ }
+    ensures { λ r. ⌜ r ≡ belowAll standard z (now (leaves .entry)) at ⌝ }
 {
     let mut i: usize = 0;
     while i < 4 {
@@ -23,7 +24,7 @@ fn below_all(leaves: &[i32], at: usize, z: i64) -> bool
 // Whether z is above the four numbers that stand four apart from index `at` on.
 fn above_all(leaves: &[i32], at: usize, z: i64) -> bool
     requires { ⌜ at + 13 ≤ length (now leaves) ⌝ }
-    ensures { λ r. ⌜ r ≡ aboveAll z (now (leaves .entry)) at ⌝ }
+    ensures { λ r. ⌜ r ≡ aboveAll standard z (now (leaves .entry)) at ⌝ }
 {
     let mut i: usize = 0;
     while i < 4 {
@@ -39,7 +40,7 @@ fn above_all(leaves: &[i32], at: usize, z: i64) -> bool
 // Whether z is below every low of a record's boxes, the first of which stands at index `at`, or above every high.
 pub fn beyond(leaves: &[i32], at: usize, z: i64) -> bool
     requires { ⌜ at + 14 ≤ length (now leaves) ⌝ }
-    ensures { λ r. ⌜ r ≡ beyond z (now (leaves .entry)) at ⌝ }
+    ensures { λ r. ⌜ r ≡ beyond standard z (now (leaves .entry)) at ⌝ }
 {
     if below_all(leaves, at, z) {
         return true;

@@ -1,9 +1,10 @@
 // The first cover of a leaf list that holds a point.
 ghost use mathlib.Core.Path.{_≡_};
 ghost use mathlib.Core.Option.{none};
+ghost use Rattle.setting.specs.Setting.{standard, covers};
 ghost use Rattle.boxes.specs.Ranges.{placeOr};
-ghost use Rattle.judge.specs.Judging.{Verdict};
-ghost use Rattle.judge.specs.Searching.{Passed, InRange, RecordAt, holderAt};
+ghost use Rattle.judge.specs.Judging.{Passed, Verdict};
+ghost use Rattle.judge.specs.Inside.{InRange, RecordAt, holderAt};
 use crate::beyond::beyond;
 use crate::judging::Judgement;
 use judge_cover::cover_test::holds;
@@ -11,8 +12,8 @@ use judge_list::leaf_faults::box_in;
 
 // The first cover of the record that begins at index `at` that holds the point (x, y), or 3.
 fn first_cover(leaves: &[i32], at: usize, x: i64, y: i64) -> usize
-    requires { ⌜ (RecordAt 64 (now leaves) at) × (InRange x y) ⌝ }
-    ensures { λ r. ⌜ r ≡ placeOr 3 (holderAt (now (leaves .entry)) x y at) ⌝ }
+    requires { ⌜ (RecordAt standard (now leaves) at) × (InRange x y) ⌝ }
+    ensures { λ r. ⌜ r ≡ placeOr (covers standard) (holderAt standard (now (leaves .entry)) x y at) ⌝ }
 {
     let mut i: usize = 0;
     while i < 3 {
@@ -26,10 +27,11 @@ fn first_cover(leaves: &[i32], at: usize, x: i64, y: i64) -> usize
     3
 }
 
-// The same. A point beyond all boxes of the record on one side is turned away first.
+// The first cover of the record that begins at index `at` that holds the point (x, y), or 3. A point beyond all boxes
+// of the record on one side is turned away first.
 fn cover_of(leaves: &[i32], at: usize, x: i64, y: i64) -> usize
-    requires { ⌜ (RecordAt 64 (now leaves) at) × (InRange x y) ⌝ }
-    ensures { λ r. ⌜ r ≡ placeOr 3 (holderAt (now (leaves .entry)) x y at) ⌝ }
+    requires { ⌜ (RecordAt standard (now leaves) at) × (InRange x y) ⌝ }
+    ensures { λ r. ⌜ r ≡ placeOr (covers standard) (holderAt standard (now (leaves .entry)) x y at) ⌝ }
 {
     if beyond(leaves, at + 2, x) {
         return 3;
@@ -42,8 +44,8 @@ fn cover_of(leaves: &[i32], at: usize, x: i64, y: i64) -> usize
 
 // The first record and cover that hold the point (x, y), or off.
 pub fn find(leaves: &[i32], x: i64, y: i64) -> Judgement
-    requires { ⌜ (Passed 64 (now leaves)) × (InRange x y) ⌝ }
-    ensures { λ r. ⌜ Verdict none (now (leaves .entry)) x y r ⌝ }
+    requires { ⌜ (Passed standard (now leaves)) × (InRange x y) ⌝ }
+    ensures { λ r. ⌜ Verdict standard none (now (leaves .entry)) x y r ⌝ }
 {
     let mut at: usize = 0;
     let mut leaf: usize = 0;

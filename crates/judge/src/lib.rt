@@ -1,6 +1,6 @@
 // Judging: whether a point lies on the band that a leaf list describes.
-ghost use Rattle.judge.specs.Judging.{Judged};
-ghost use Rattle.judge.specs.Searching.{Passed};
+ghost use Rattle.setting.specs.Setting.{standard};
+ghost use Rattle.judge.specs.Judging.{Passed, Judged};
 use crate::judging::Judgement;
 use refusals::Refusal;
 
@@ -8,10 +8,10 @@ pub mod beyond;
 pub mod holder;
 pub mod judging;
 
-// Judges the point (x, y), in sixteenths, against a list of leaf records: on, with the first record of the list that holds it and in
-// this the lowest cover; off; or the first fault. Every list and every point may be asked about.
+// Judges the point (x, y), in sixteenths, against a list of leaf records: on, with the first record of the list that
+// holds it and in this the lowest cover; off; or the first fault. Every list and every point may be asked about.
 pub fn judge(leaves: &[i32], x: i32, y: i32) -> Judgement
-    ensures { λ r. ⌜ Judged 64 (now (leaves .entry)) x y r ⌝ }
+    ensures { λ r. ⌜ Judged standard (now (leaves .entry)) x y r ⌝ }
 {
     if leaves.len() == 0 {
         return Judgement::Refused(Refusal::LeafListLength(leaves.len()));
@@ -26,10 +26,11 @@ pub fn judge(leaves: &[i32], x: i32, y: i32) -> Judgement
     judge_point(leaves, x, y)
 }
 
-// The same of a list that has passed checks 9 and 10: check 11, and the first record and cover that hold the point.
+// Judges the point (x, y) against a list that has passed checks 9 and 10: check 11, and the first record and cover that
+// hold the point.
 pub fn judge_point(leaves: &[i32], x: i32, y: i32) -> Judgement
-    requires { ⌜ Passed 64 (now leaves) ⌝ }
-    ensures { λ r. ⌜ Judged 64 (now (leaves .entry)) x y r ⌝ }
+    requires { ⌜ Passed standard (now leaves) ⌝ }
+    ensures { λ r. ⌜ Judged standard (now (leaves .entry)) x y r ⌝ }
 {
     if !boxes::in_range(x) {
         return Judgement::Refused(Refusal::PointX);

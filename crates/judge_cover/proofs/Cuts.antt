@@ -4,25 +4,34 @@ use mathlib.Core.Bool.{true, false}
 use lib.IntN.{ℤ, pos, _-ℤ_}
 use lib.Signed.{ltZ}
 use Rattle.boxes.specs.declared.Box.{Box}
-use Rattle.judge_cover.specs.declared.held.Weights.{Weights}
 use Rattle.judge_cover.specs.declared.held.Range.{Range}
 use Rattle.judge_cover.specs.declared.held.Sides.{Sides}
-use Rattle.judge_cover.specs.Deciding.{later, earlier, sidesX, sidesY, apart, cut, heldBy, held}
+use Rattle.judge_cover.specs.Deciding.{ordered, later, earlier, sidesX, sidesY, apart, cut, heldBy, held}
+use Rattle.judge_cover.proofs.Sizes.{weights}
 
 module _ (r : Range) (a b : ℤ) where
-  pub cut-low : (w : Weights) → w ≡ later (r .low) (record { first = b; second = pos 0 -ℤ a }) → ltZ a (pos 0) ≡ true
-      → _≡_ {A = Range} (record { low = w; high = r .high }) (cut r a b)
-  cut-low w e t = rw (e, cut, t)
+  module _ (t : ltZ a (pos 0) ≡ true) where
+    pub cut-low : ordered (r .low) (weights b (pos 0 -ℤ a)) ≡ true
+        → _≡_ {A = Range} (record { low = weights b (pos 0 -ℤ a); high = r .high }) (cut r a b)
+    cut-low e = rw (cut, t, later, e)
 
-  pub cut-high : (w : Weights) → w ≡ earlier (r .high) (record { first = pos 0 -ℤ b; second = a }) → ltZ a (pos 0) ≡ false → ltZ b (pos 0) ≡ true
-      → _≡_ {A = Range} (record { low = r .low; high = w }) (cut r a b)
-  cut-high w e t u = rw (e, cut, t, u)
+    pub keep-low : ordered (r .low) (weights b (pos 0 -ℤ a)) ≡ false → r ≡ cut r a b
+    keep-low e = rw (cut, t, later, e)
+
+  module _ (t : ltZ a (pos 0) ≡ false) (u : ltZ b (pos 0) ≡ true) where
+    pub cut-high : ordered (r .high) (weights (pos 0 -ℤ b) a) ≡ false
+        → _≡_ {A = Range} (record { low = r .low; high = weights (pos 0 -ℤ b) a }) (cut r a b)
+    cut-high e = rw (cut, t, u, earlier, e)
+
+    pub keep-high : ordered (r .high) (weights (pos 0 -ℤ b) a) ≡ true → r ≡ cut r a b
+    keep-high e = rw (cut, t, u, earlier, e)
 
   pub cut-none : ltZ a (pos 0) ≡ false → ltZ b (pos 0) ≡ false → r ≡ cut r a b
   cut-none t u = rw (cut, t, u)
 
 pub sides-are : {a b c d e f g h : ℤ} → a ≡ e → b ≡ f → c ≡ g → d ≡ h
-    → _≡_ {A = Sides} (record { «low_first» = a; «low_second» = b; «high_first» = c; «high_second» = d }) (record { «low_first» = e; «low_second» = f; «high_first» = g; «high_second» = h })
+    → _≡_ {A = Sides} (record { «low_first» = a; «low_second» = b; «high_first» = c; «high_second» = d })
+    (record { «low_first» = e; «low_second» = f; «high_first» = g; «high_second» = h })
 sides-are p q r s = λ i. record { «low_first» = p i; «low_second» = q i; «high_first» = r i; «high_second» = s i }
 
 module _ (p q : Box) (x y : ℤ) where

@@ -1,5 +1,5 @@
--- The decision is right: a cover holds a point exactly where the cuts of its four sides leave weights. A range of weights lies between two of them; each cut keeps
--- just those on the inner side of its edge, so the range stays exact, and its low end is the witness.
+-- The decision is right: a cover holds a point exactly where the cuts of its four sides leave weights. A range of weights lies between two of them;
+-- each cut keeps just those on the inner side of its edge, so the range stays exact, and its low end is the witness.
 use mathlib.Core.Path.{_≡_, refl}
 use mathlib.Core.Logic.{_⊎_, inl, inr, ⊎-elim, _↔_}
 use mathlib.Core.Bool.{Bool, true, false, not, _&&_, _||_}
@@ -10,7 +10,8 @@ use lib.IntN.{ℤ, pos, _+ℤ_, _-ℤ_, _*ℤ_}
 use lib.Signed.{ltZ, _<ℤ_}
 use Rattle.integers.proofs.Ring.{sides}
 use Rattle.integers.proofs.Clash.{clash}
-use Rattle.integers.proofs.Order.{NonNeg, natural, nonneg-by, nonneg-natural, nonneg-cancel, gap, gap<, le-of-gap, nonneg, lt-le, le-or-lt, lt-by, clash-by, pos-lt, lt-pos, _+₀_, _×₀_}
+use Rattle.integers.proofs.Order.{NonNeg, natural, nonneg-by, nonneg-natural, nonneg-cancel, gap, gap<, le-of-gap, nonneg, lt-le, le-or-lt, lt-by}
+use Rattle.integers.proofs.Order.{clash-by, pos-lt, lt-pos, _+₀_, _×₀_}
 use Rattle.integers.proofs.Ranges.{lt-yes, lt-no, le-yes, le-no, yes-le}
 use Rattle.boxes.specs.declared.Box.{Box}
 use Rattle.judge_cover.specs.declared.held.Weights.{Weights}
@@ -42,7 +43,10 @@ module _ (p q : Weights) where
   ordered-no : ordered p q ≡ false → Before q p
   ordered-no e =
       let l = lt-le (le-no {a = one} {b = other} e) in
-      record { before = nonneg-by (p .first ∷ p .second ∷ q .first ∷ q .second ∷ []) (gap {a = other} {b = one} l) (search sides depth 40 fits 9999) refl }
+      record {
+        before = nonneg-by (p .first ∷ p .second ∷ q .first ∷ q .second ∷ []) (gap {a = other} {b = one} l)
+            (search sides depth 40 fits 9999) refl;
+      }
 
   yes-ordered : Before p q → ordered p q ≡ true
   yes-ordered h = yes-le {a = one} {b = other} (le-of-gap (h .before))
@@ -125,13 +129,17 @@ module _ (a b : ℤ) where
   module _ (w : Weights) where
     low-side : Before edge-low w ↔ Inside a b w
     low-side =
-        let ρ = a ∷ b ∷ w .first ∷ w .second ∷ [] in
-        (λ h. nonneg-by ρ (h .before) (search sides depth 40 fits 9999) refl, λ h. record { before = nonneg-by ρ h (search sides depth 40 fits 9999) refl })
+        let ρ = a ∷ b ∷ w .first ∷ w .second ∷ [] in (
+          λ h. nonneg-by ρ (h .before) (search sides depth 40 fits 9999) refl,
+          λ h. record { before = nonneg-by ρ h (search sides depth 40 fits 9999) refl },
+        )
 
     high-side : Before w edge-high ↔ Inside a b w
     high-side =
-        let ρ = a ∷ b ∷ w .first ∷ w .second ∷ [] in
-        (λ h. nonneg-by ρ (h .before) (search sides depth 40 fits 9999) refl, λ h. record { before = nonneg-by ρ h (search sides depth 40 fits 9999) refl })
+        let ρ = a ∷ b ∷ w .first ∷ w .second ∷ [] in (
+          λ h. nonneg-by ρ (h .before) (search sides depth 40 fits 9999) refl,
+          λ h. record { before = nonneg-by ρ h (search sides depth 40 fits 9999) refl },
+        )
 
   module _ (r : Range) (f : Fine r) where
     -- a side that the first box is outside of
@@ -187,7 +195,8 @@ module _ (a b : ℤ) where
       go true true e g n =
           let l : a <ℤ pos 0 = lt-yes e in
           let m : b <ℤ pos 0 = lt-yes g in
-          clash-by (a ∷ b ∷ w .first ∷ w .second ∷ []) (i +₀ h .first ×₀ gap< l +₀ h .second ×₀ gap< m +₀ gap< (h .some)) (search sides depth 40 fits 9999) refl
+          clash-by (a ∷ b ∷ w .first ∷ w .second ∷ []) (i +₀ h .first ×₀ gap< l +₀ h .second ×₀ gap< m +₀ gap< (h .some))
+          (search sides depth 40 fits 9999) refl
       go true false e g n = clash (cc)
       go false t e g n = clash (cc)
 
@@ -322,7 +331,10 @@ module _ (p q : Box) (x y : ℤ) where
 
   pub held-exactly : (held p q x y ≡ true) ↔ Holds p q x y
   unfolding held
-  held-exactly = (λ e. at-held (there (apart (sidesX p q x)) (apart (sidesY p q y)) refl refl e), λ h. back (apart (sidesX p q x)) (apart (sidesY p q y)) refl refl (held-at h))
+  held-exactly = (
+    λ e. at-held (there (apart (sidesX p q x)) (apart (sidesY p q y)) refl refl e),
+    λ h. back (apart (sidesX p q x)) (apart (sidesY p q y)) refl refl (held-at h),
+  )
     where
       there : (s t : Bool) → apart (sidesX p q x) ≡ s → apart (sidesY p q y) ≡ t → (not s && not t && heldBy (sidesX p q x) (sidesY p q y)) ≡ true
           → HeldAt (sidesX p q x) (sidesY p q y)

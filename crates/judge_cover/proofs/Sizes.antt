@@ -6,9 +6,8 @@ use native.Mathlib.Nat.{le-trans, le-of-eq, add-le-add}
 use lib.Dec.{lit≤}
 use lib.IntN.{ℤ, pos, negℤ, natAbs, _-ℤ_}
 use lib.Signed.{ltZ}
-use mir.Syntax.{w64}
+use mir.Syntax.{w32, w64}
 use mir.Facts.{toZ-ofZ}
-use Rattle.boxes.specs.declared.Box.{Box}
 use Rattle.boxes.specs.Ranges.{farthest}
 use Rattle.integers.proofs.Ranges.{stored}
 use Rattle.integers.proofs.Size.{Size, abs-neg, abs-add, fits-size}
@@ -16,7 +15,8 @@ use Rattle.integers.proofs.Machine.{tests}
 use Rattle.judge_cover.specs.declared.held.Weights.{Weights}
 use Rattle.judge_cover.specs.declared.held.Range.{Range}
 use Rattle.judge_cover.specs.declared.held.Sides.{Sides}
-use Rattle.judge_cover.specs.Deciding.{SmallWeights, SmallRange, SmallSides, BoxInRange, ordered, later, earlier, sidesOf, sidesX, sidesY, cut, cutSides, whole}
+use Rattle.judge_cover.specs.Deciding.{ordered, later, earlier, sidesOf, cut, cutSides, whole}
+use Rattle.judge_cover.specs.Inside.{SmallWeights, SmallRange, SmallSides, SpanInRange}
 
 module _ {w : Weights} (h : SmallWeights w) where
   abbrev pub size-first : Size (w .first)
@@ -25,18 +25,12 @@ module _ {w : Weights} (h : SmallWeights w) where
   abbrev pub size-second : Size (w .second)
   size-second = record { bound = 2 ^ 30; under = h .second }
 
-module _ {b : Box} (h : BoxInRange b) where
-  abbrev pub size-x-low : Size (b .«x_low»)
-  size-x-low = record { bound = farthest; under = h .x-low }
+module _ {low high : ℤ} (h : SpanInRange low high) where
+  abbrev pub size-low : Size low
+  size-low = record { bound = farthest; under = h .low }
 
-  abbrev pub size-x-high : Size (b .«x_high»)
-  size-x-high = record { bound = farthest; under = h .x-high }
-
-  abbrev pub size-y-low : Size (b .«y_low»)
-  size-y-low = record { bound = farthest; under = h .y-low }
-
-  abbrev pub size-y-high : Size (b .«y_high»)
-  size-y-high = record { bound = farthest; under = h .y-high }
+  abbrev pub size-high : Size high
+  size-high = record { bound = farthest; under = h .high }
 
 module _ {s : Sides} (h : SmallSides s) where
   abbrev pub size-low-first : Size (s .«low_first»)
@@ -57,11 +51,15 @@ pub record Small (B : ℕ) (z : ℤ) : Type 0 where
 abbrev pub size-small : {B : ℕ} {z : ℤ} → Small B z → Size z
 size-small {B} s = record { bound = B; under = s .small }
 
-pub ruleset sizes = (size-first, size-second, size-x-low, size-x-high, size-y-low, size-y-high, size-low-first, size-low-second, size-high-first, size-high-second, size-small, tests)
+pub ruleset sizes =
+    (size-first, size-second, size-low, size-high, size-low-first, size-low-second, size-high-first, size-high-second, size-small, tests)
 
 -- ---- a small number is what the machine keeps of it
 pub kept : (z : ℤ) → natAbs z ≤ 2 ^ 30 → stored w64 z ≡ z
 kept z h = toZ-ofZ (fits-size (record { bound = 2 ^ 30; under = h }) tt)
+
+kept-in : (z : ℤ) → natAbs z ≤ farthest → stored w32 z ≡ z
+kept-in z h = toZ-ofZ (fits-size (record { bound = farthest; under = h }) tt)
 
 -- ---- what is picked or cut is small
 pick-small : {p q : Weights} → SmallWeights p → SmallWeights q → (b : Bool) → SmallWeights (elim b [ true ↦ p | false ↦ q ])
@@ -78,7 +76,7 @@ pub turned : (a : ℤ) → natAbs a ≤ 2 ^ 30 → natAbs (pos 0 -ℤ a) ≤ 2 ^
 turned a h = le-trans (abs-add (pos 0) (negℤ a)) (add-le-add {b = 0} (lit≤ tt) (le-trans (le-of-eq (abs-neg a)) h))
 
 -- the edge of a side, as the machine keeps it
-abbrev weights : ℤ → ℤ → Weights
+abbrev pub weights : ℤ → ℤ → Weights
 weights a b = record { first = a; second = b }
 
 weights-are : {a b c d : ℤ} → a ≡ c → b ≡ d → weights a b ≡ weights c d
@@ -117,18 +115,15 @@ whole-small = record { low = record { first = lit≤ tt; second = lit≤ tt }; h
 apart-small : (a b : ℤ) → natAbs a ≤ farthest → natAbs b ≤ farthest → natAbs (a -ℤ b) ≤ 2 ^ 30
 apart-small a b ha hb = le-trans (abs-add a (negℤ b)) (add-le-add ha (le-trans (le-of-eq (abs-neg b)) hb))
 
-sides-of-small : (l h l₁ h₁ z : ℤ) → natAbs l ≤ farthest → natAbs h ≤ farthest → natAbs l₁ ≤ farthest → natAbs h₁ ≤ farthest → natAbs z ≤ farthest
-    → SmallSides (sidesOf l h l₁ h₁ z)
-sides-of-small l h l₁ h₁ z a b c d e = record {
-  low-first = apart-small z l e a;
-  low-second = apart-small z l₁ e c;
-  high-first = apart-small h z b e;
-  high-second = apart-small h₁ z d e;
+pub sides-small-of : {l h l₁ h₁ : ℤ} (z : ℤ) → SpanInRange l h → SpanInRange l₁ h₁ → natAbs z ≤ farthest → SmallSides (sidesOf l h l₁ h₁ z)
+sides-small-of {l} {h} {l₁} {h₁} z p q e = record {
+  low-first = apart-small z l e (p .low);
+  low-second = apart-small z l₁ e (q .low);
+  high-first = apart-small h z (p .high) e;
+  high-second = apart-small h₁ z (q .high) e;
 }
 
-module _ (p q : Box) (z : ℤ) (hp : BoxInRange p) (hq : BoxInRange q) (h : natAbs z ≤ farthest) where
-  pub x-small : SmallSides (sidesX p q z)
-  x-small = sides-of-small (p .«x_low») (p .«x_high») (q .«x_low») (q .«x_high») z (hp .x-low) (hp .x-high) (hq .x-low) (hq .x-high) h
-
-  pub y-small : SmallSides (sidesY p q z)
-  y-small = sides-of-small (p .«y_low») (p .«y_high») (q .«y_low») (q .«y_high») z (hp .y-low) (hp .y-high) (hq .y-low) (hq .y-high) h
+-- and what the machine keeps of the numbers does not change them
+pub sides-kept : {l h l₁ h₁ : ℤ} (z : ℤ) → SpanInRange l h → SpanInRange l₁ h₁
+    → sidesOf (stored w32 l) (stored w32 h) (stored w32 l₁) (stored w32 h₁) z ≡ sidesOf l h l₁ h₁ z
+sides-kept {l} {h} {l₁} {h₁} z p q = rw (kept-in l (p .low), kept-in h (p .high), kept-in l₁ (q .low), kept-in h₁ (q .high))

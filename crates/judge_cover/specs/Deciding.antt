@@ -1,11 +1,10 @@
--- How the code decides whether a cover holds a point. The weights u and v of the two boxes, s = v / (u + v), are kept as a range between two of them; each of the
--- four sides cuts it by a cross product.
+-- Whether a cover holds a point, as a function: `held-exactly` of the proofs says that it is `Holds`. The weights u and
+-- v of the two boxes, s = v / (u + v), are kept as a range between two of them; each of the four sides cuts it by a
+-- cross product.
 use mathlib.Core.Bool.{Bool, true, false, not, _&&_, _||_}
-use Prim.Native.Nat.{_^_, _≤_}
-use lib.IntN.{ℤ, pos, natAbs, _-ℤ_, _*ℤ_}
+use lib.IntN.{ℤ, pos, _-ℤ_, _*ℤ_}
 use lib.Signed.{leZ, ltZ}
 use Rattle.boxes.specs.declared.Box.{Box}
-use Rattle.boxes.specs.Ranges.{farthest}
 use Rattle.judge_cover.specs.declared.held.Weights.{Weights}
 use Rattle.judge_cover.specs.declared.held.Range.{Range}
 use Rattle.judge_cover.specs.declared.held.Sides.{Sides}
@@ -63,25 +62,3 @@ sidesY p q y = sidesOf (p .«y_low») (p .«y_high») (q .«y_low») (q .«y_hig
 
 unfoldable pub held : Box → Box → ℤ → ℤ → Bool
 held p q x y = not (apart (sidesX p q x)) && not (apart (sidesY p q y)) && heldBy (sidesX p q x) (sidesY p q y)
-
--- ---- sizes: no product is above 2^60
-pub record SmallWeights (w : Weights) : Type 0 where
-  pub first : natAbs (w .first) ≤ 2 ^ 30
-  pub second : natAbs (w .second) ≤ 2 ^ 30
-
-pub record SmallRange (r : Range) : Type 0 where
-  pub low : SmallWeights (r .low)
-  pub high : SmallWeights (r .high)
-
-pub record SmallSides (s : Sides) : Type 0 where
-  pub low-first : natAbs (s .«low_first») ≤ 2 ^ 30
-  pub low-second : natAbs (s .«low_second») ≤ 2 ^ 30
-  pub high-first : natAbs (s .«high_first») ≤ 2 ^ 30
-  pub high-second : natAbs (s .«high_second») ≤ 2 ^ 30
-
--- a box whose numbers are in range
-pub record BoxInRange (b : Box) : Type 0 where
-  pub x-low : natAbs (b .«x_low») ≤ farthest
-  pub x-high : natAbs (b .«x_high») ≤ farthest
-  pub y-low : natAbs (b .«y_low») ≤ farthest
-  pub y-high : natAbs (b .«y_high») ≤ farthest

@@ -1,9 +1,10 @@
-// Whether a cover holds a point, decided in 64 bits. What that means, and why the decision is right, stands in `held`.
+// Whether a cover holds a point, decided in 64 bits.
 ghost use mathlib.Core.Path.{_≡_};
 ghost use Prim.Native.Nat.{_≤_, _^_};
 ghost use lib.IntN.{natAbs};
 ghost use Rattle.boxes.specs.Ranges.{farthest};
-ghost use Rattle.judge_cover.specs.Deciding.{SmallWeights, SmallRange, SmallSides, BoxInRange, ordered, later, earlier, sidesX, sidesY, outside, apart, cut, cutSides, heldBy, held};
+ghost use Rattle.judge_cover.specs.Deciding.{ordered, sidesOf, outside, apart, cut, cutSides, heldBy, held};
+ghost use Rattle.judge_cover.specs.Inside.{SmallWeights, SmallRange, SmallSides, SpanInRange, BoxInRange};
 use crate::held::Range;
 use crate::held::Sides;
 use crate::held::Weights;
@@ -21,23 +22,8 @@ fn in_order(p: Weights, q: Weights) -> bool
     p_second * q_first <= p_first * q_second
 }
 
-// The one that gives the second box more weight.
-fn later(p: Weights, q: Weights) -> Weights
-    requires { ⌜ (SmallWeights p) × (SmallWeights q) ⌝ }
-    ensures { λ r. ⌜ r ≡ later p q ⌝ }
-{
-    if in_order(p, q) { q } else { p }
-}
-
-// The one that gives it less.
-fn earlier(p: Weights, q: Weights) -> Weights
-    requires { ⌜ (SmallWeights p) × (SmallWeights q) ⌝ }
-    ensures { λ r. ⌜ r ≡ earlier p q ⌝ }
-{
-    if in_order(p, q) { p } else { q }
-}
-
-// What one side leaves of a range: a and b say how far the coordinate lies inside of it at the first box and at the second.
+// What one side leaves of a range: a and b say how far the coordinate lies inside of it at the first box and at the
+// second. Its edge is the new end where it lies beyond the old one.
 fn cut(range: Range, a: i64, b: i64) -> Range
     requires { ⌜ (SmallRange range) × (natAbs a ≤ 2 ^ 30) × (natAbs b ≤ 2 ^ 30) ⌝ }
     ensures { λ r. ⌜ r ≡ cut range a b ⌝ }
@@ -49,16 +35,20 @@ fn cut(range: Range, a: i64, b: i64) -> Range
             first: b,
             second: -a,
         };
-        let cut = later(low, edge);
-        return Range { low: cut, high };
+        if in_order(low, edge) {
+            return Range { low: edge, high };
+        }
+        return range;
     }
     if b < 0 {
         let edge = Weights {
             first: -b,
             second: a,
         };
-        let cut = earlier(high, edge);
-        return Range { low, high: cut };
+        if in_order(high, edge) {
+            return range;
+        }
+        return Range { low, high: edge };
     }
     range
 }
@@ -118,50 +108,30 @@ fn outside(a: i64, b: i64) -> bool
     a < 0 && b < 0
 }
 
-// The sides of x.
-fn sides_x(first: Box, second: Box, x: i64) -> Sides
-    requires { ⌜ (BoxInRange first) × (BoxInRange second) × (natAbs x ≤ farthest) ⌝ }
-    ensures { λ r. ⌜ r ≡ sidesX first second x ⌝ }
+// How far a coordinate z lies inside the sides of two boxes, of which the lows and the highs are given.
+fn sides(low0: i32, high0: i32, low1: i32, high1: i32, z: i64) -> Sides
+    requires { ⌜ (SpanInRange low0 high0) × (SpanInRange low1 high1) × (natAbs z ≤ farthest) ⌝ }
+    ensures { λ r. ⌜ r ≡ sidesOf low0 high0 low1 high1 z ⌝ }
 {
-    let first_low = first.x_low as i64;
-    let first_high = first.x_high as i64;
-    let second_low = second.x_low as i64;
-    let second_high = second.x_high as i64;
     Sides {
-        low_first: x - first_low,
-        low_second: x - second_low,
-        high_first: first_high - x,
-        high_second: second_high - x,
+        low_first: z - low0 as i64,
+        low_second: z - low1 as i64,
+        high_first: high0 as i64 - z,
+        high_second: high1 as i64 - z,
     }
 }
 
-// The sides of y.
-fn sides_y(first: Box, second: Box, y: i64) -> Sides
-    requires { ⌜ (BoxInRange first) × (BoxInRange second) × (natAbs y ≤ farthest) ⌝ }
-    ensures { λ r. ⌜ r ≡ sidesY first second y ⌝ }
-{
-    let first_low = first.y_low as i64;
-    let first_high = first.y_high as i64;
-    let second_low = second.y_low as i64;
-    let second_high = second.y_high as i64;
-    Sides {
-        low_first: y - first_low,
-        low_second: y - second_low,
-        high_first: first_high - y,
-        high_second: second_high - y,
-    }
-}
-
-// Whether the cover between two boxes holds the point (x, y). A point beyond both boxes on one side is turned away first.
+// Whether the cover between two boxes holds the point (x, y). A point beyond both boxes on one side is turned away
+// first.
 pub fn holds(first: Box, second: Box, x: i64, y: i64) -> bool
     requires { ⌜ (BoxInRange first) × (BoxInRange second) × (natAbs x ≤ farthest) × (natAbs y ≤ farthest) ⌝ }
     ensures { λ r. ⌜ r ≡ held first second x y ⌝ }
 {
-    let in_x = sides_x(first, second, x);
+    let in_x = sides(first.x_low, first.x_high, second.x_low, second.x_high, x);
     if apart(in_x) {
         return false;
     }
-    let in_y = sides_y(first, second, y);
+    let in_y = sides(first.y_low, first.y_high, second.y_low, second.y_high, y);
     if apart(in_y) {
         return false;
     }

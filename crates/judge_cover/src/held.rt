@@ -1,4 +1,4 @@
-// When a cover holds a point: the numbers by which it is decided. The code stands in `cover_test`.
+// The numbers by which it is decided whether a cover holds a point.
 
 // The weights of two boxes, not both 0.
 pub struct Weights {

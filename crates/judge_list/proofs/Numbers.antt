@@ -5,7 +5,7 @@ use mathlib.Core.Logic.{⊎-elim}
 use mathlib.Core.List.{List}
 use mathlib.Core.Option.{Option, none, some}
 use Prim.Native.Nat.{ℕ, zero, suc, _+_, _*_, _-_, _/_, _%_, _≤_, _<_}
-use native.Mathlib.Nat.{zero-add, eq-or-lt-of-le, le-of-suc-le-suc}
+use native.Mathlib.Nat.{zero-add, zero-mod, eq-or-lt-of-le, le-of-suc-le-suc}
 use native.Mathlib.Omega.{arith}
 use lib.ListN.{length}
 use lib.IntN.{ℤ, pos}
@@ -20,11 +20,14 @@ use Rattle.integers.proofs.Clash.{clash}
 use Rattle.integers.proofs.Order.{lt-or-ge}
 use Rattle.integers.proofs.First.{orElse, moved, bad-parts, bad-moved, none-bad, bad-none}
 use Rattle.integers.proofs.Both.{and-false, both-true}
-use Rattle.boxes.specs.Ranges.{lowFine, inRange, sideFine, boxNumberFine, numbersOf, boxFault, placeOr}
-use Rattle.boxes.specs.Records.{recordLength, boxAtIndex}
+use Rattle.setting.specs.Setting.{Setting, breakPoints, recordLength}
+use Rattle.boxes.specs.Ranges.{lowFine, inRange, boxNumberFine, numbersOf, boxFault, placeOr}
+use Rattle.boxes.specs.Inside.{sideFine}
+use Rattle.boxes.specs.Records.{boxAtIndex}
+use Rattle.boxes.proofs.Records.{record-left, record-next, place-in}
 use Rattle.boxes.proofs.Faults.{fault-at, place-some, place-none, box-none, interval, interval-low, interval-high, side-interval, interval-side}
 use Rattle.judge_list.specs.Checks.{numberFine, numberFault}
-use Rattle.judge_list.specs.Parts.{boxFineAt, boxesFaultAt, fineAt, recordFaultAt, sidesFine, recordFine, noFault}
+use Rattle.judge_list.specs.Inside.{inBoxes, boxFineAt, boxesFaultAt, fineAt, recordFaultAt, sidesFine, recordFine, noFault}
 
 -- ---- a search that found nothing among the first a places goes on with the next b
 module _ (fine : ℕ → Bool) (a b : ℕ) (e : firstBad fine a 0 ≡ none) where
@@ -52,10 +55,13 @@ module _ (ns : List ℤ) (at : ℕ) where
   box-part i = fault-at boxNumber (4 * i) (boxAtIndex ns (at + 4 * i)) each
     where
       each : (p : ℕ) → p < 4
-          → boxNumber (4 * i + p) ≡ boxNumberFine p (entry (numbersOf (boxAtIndex ns (at + 4 * i))) p) (entry (numbersOf (boxAtIndex ns (at + 4 * i))) (suc p))
-      each zero h = low ns (4 * i + 0) (at + (4 * i + 0)) (at + 4 * i) (at + suc (4 * i + 0)) (at + 4 * i + 1) (omega arith) (omega arith) (omega arith)
+          → boxNumber (4 * i + p)
+          ≡ boxNumberFine p (entry (numbersOf (boxAtIndex ns (at + 4 * i))) p) (entry (numbersOf (boxAtIndex ns (at + 4 * i))) (suc p))
+      each zero h =
+          low ns (4 * i + 0) (at + (4 * i + 0)) (at + 4 * i) (at + suc (4 * i + 0)) (at + 4 * i + 1) (omega arith) (omega arith) (omega arith)
       each (suc zero) h = high ns (4 * i + 1) (at + (4 * i + 1)) (at + 4 * i + 1) (at + suc (4 * i + 1)) (omega arith) (omega arith)
-      each (suc (suc zero)) h = low ns (4 * i + 2) (at + (4 * i + 2)) (at + 4 * i + 2) (at + suc (4 * i + 2)) (at + 4 * i + 3) (omega arith) (omega arith) (omega arith)
+      each (suc (suc zero)) h =
+          low ns (4 * i + 2) (at + (4 * i + 2)) (at + 4 * i + 2) (at + suc (4 * i + 2)) (at + 4 * i + 3) (omega arith) (omega arith) (omega arith)
       each (suc (suc (suc zero))) h = high ns (4 * i + 3) (at + (4 * i + 3)) (at + 4 * i + 3) (at + suc (4 * i + 3)) (omega arith) (omega arith)
       each (suc (suc (suc (suc p)))) h = absurd (omega arith)
 
@@ -71,15 +77,15 @@ module _ (ns : List ℤ) (at : ℕ) where
         ap (boxesFaultAt ns at) {x = 4 * (i + 1)} {y = 4 * i + 4} (omega arith)
         ∙ with-box ∙ ap (moved (4 * i)) (box-none (boxAtIndex ns (at + 4 * i)) h)
 
-    pub box-bad : i < 4 → box < 4 → 4 * i + box ≡ placeOr 16 (boxesFaultAt ns at 16)
-    box-bad h l =
+    pub box-bad : (n : ℕ) → i < n → box < 4 → 4 * i + box ≡ placeOr (4 * n) (boxesFaultAt ns at (4 * n))
+    box-bad n h l =
         let f = with-box ∙ ap (moved (4 * i)) (place-some 4 (boxFault (boxAtIndex ns (at + 4 * i))) l) in
-        let g = found-first boxNumber (4 * i + 4) (16 - (4 * i + 4)) (4 * i + box) f in
-        let n : 16 ≡ 4 * i + 4 + (16 - (4 * i + 4)) = omega arith in
-        sym (ap (λ m. placeOr 16 (boxesFaultAt ns at m)) n ∙ ap (placeOr 16) g)
+        let g = found-first boxNumber (4 * i + 4) (4 * n - (4 * i + 4)) (4 * i + box) f in
+        let m : 4 * n ≡ 4 * i + 4 + (4 * n - (4 * i + 4)) = omega arith in
+        sym (ap (λ m. placeOr (4 * n) (boxesFaultAt ns at m)) m ∙ ap (placeOr (4 * n)) g)
 
-  pub boxes-fine : boxesFaultAt ns at 16 ≡ none → 16 ≡ placeOr 16 (boxesFaultAt ns at 16)
-  boxes-fine e = sym (ap (placeOr 16) e)
+  pub boxes-fine : (n : ℕ) → boxesFaultAt ns at n ≡ none → n ≡ placeOr n (boxesFaultAt ns at n)
+  boxes-fine n e = sym (ap (placeOr n) e)
 
 -- ---- what the tests of a curve number say
 module _ (most : ℕ) {z : ℤ} (next : ℤ) (fits : SFits w32 z) where
@@ -101,41 +107,46 @@ module _ (most : ℕ) {z : ℤ} (next : ℤ) (fits : SFits w32 z) where
   curve-fine e f = rw (from-zero false e, to-most false f)
 
 -- ---- a record: its curve, its node, its boxes
-module _ (most : ℕ) (ns : List ℤ) (at : ℕ) where
+module _ (σ : Setting) (ns : List ℤ) (at : ℕ) where
   abbrev number : ℕ → Bool
-  number = fineAt most ns at
+  number = fineAt (σ .most) ns at
 
-  box-number : (k : ℕ) → k < 16 → number (2 + k) ≡ boxFineAt ns (at + 2) k
-  box-number k h =
+  box-number : (k : ℕ) → number (2 + k) ≡ boxFineAt ns (at + 2) k
+  box-number k =
       let e : 2 + k ≡ suc (suc k) = omega arith in
       let f : at + suc (suc k) ≡ at + 2 + k = omega arith in
       let g : at + suc (suc (suc k)) ≡ at + 2 + suc k = omega arith in
       rw (e, f, g)
 
-  pub curve-bad : number 0 ≡ false → 0 ≡ placeOr recordLength (recordFaultAt most ns at)
+  two-more : recordLength σ ≡ suc (suc (inBoxes σ))
+  two-more = omega arith
+
+  pub curve-bad : number 0 ≡ false → 0 ≡ placeOr (recordLength σ) (recordFaultAt σ ns at)
   unfolding recordFaultAt firstBad
-  curve-bad e = rw (recordFaultAt, firstBad, e)
+  curve-bad e = rw (recordFaultAt, two-more, firstBad, e)
 
   module _ (curve : number 0 ≡ true) where
-    after-curve : recordFaultAt most ns at ≡ firstBad number 17 1
+    after-curve : recordFaultAt σ ns at ≡ firstBad number (suc (inBoxes σ)) 1
     unfolding recordFaultAt firstBad
-    after-curve = rw (recordFaultAt, firstBad, curve)
+    after-curve = rw (recordFaultAt, two-more, firstBad, curve)
 
-    pub node-bad : number 1 ≡ false → 1 ≡ placeOr recordLength (recordFaultAt most ns at)
+    pub node-bad : number 1 ≡ false → 1 ≡ placeOr (recordLength σ) (recordFaultAt σ ns at)
     unfolding firstBad
-    node-bad e = sym (ap (placeOr recordLength) after-curve ∙ rw (firstBad, e))
+    node-bad e = sym (ap (placeOr (recordLength σ)) after-curve ∙ rw (firstBad, e))
 
     module _ (node : number 1 ≡ true) where
-      after-node : firstBad number 17 1 ≡ firstBad number 16 2
+      after-node : firstBad number (suc (inBoxes σ)) 1 ≡ firstBad number (inBoxes σ) 2
       unfolding firstBad
       after-node = rw (firstBad, node)
 
-      shifted : (o : Option ℕ) → placeOr 18 (moved 2 o) ≡ 2 + placeOr 16 o
-      shifted (some p) = refl
-      shifted none = refl
+      shifted : (n : ℕ) (o : Option ℕ) → placeOr (2 + n) (moved 2 o) ≡ 2 + placeOr n o
+      shifted n (some p) = refl
+      shifted n none = refl
 
-      pub boxes-next : 2 + placeOr 16 (boxesFaultAt ns (at + 2) 16) ≡ placeOr recordLength (recordFaultAt most ns at)
-      boxes-next = sym (ap (placeOr 18) (after-curve ∙ after-node ∙ bad-moved number 2 (boxFineAt ns (at + 2)) 16 box-number) ∙ shifted (boxesFaultAt ns (at + 2) 16))
+      pub boxes-next : 2 + placeOr (inBoxes σ) (boxesFaultAt ns (at + 2) (inBoxes σ)) ≡ placeOr (recordLength σ) (recordFaultAt σ ns at)
+      boxes-next = sym
+          (ap (placeOr (recordLength σ)) (after-curve ∙ after-node ∙ bad-moved number 2 (boxFineAt ns (at + 2)) (inBoxes σ) (λ k h. box-number k))
+          ∙ shifted (inBoxes σ) (boxesFaultAt ns (at + 2) (inBoxes σ)))
 
 -- ---- a record at once
 module _ (ns : List ℤ) (at : ℕ) where
@@ -144,7 +155,8 @@ module _ (ns : List ℤ) (at : ℕ) where
 
   each-side : (n : ℕ) → sidesFine ns at n ≡ true → (i : ℕ) → i < n → side i ≡ true
   each-side zero e i h = absurd (omega arith)
-  each-side (suc n) e i h = let s = both-true (sidesFine ns at n) (side n) e in ⊎-elim (λ f. rw f (s .1)) (each-side n (s .0) i) (eq-or-lt-of-le (le-of-suc-le-suc h))
+  each-side (suc n) e i h =
+      let s = both-true (sidesFine ns at n) (side n) e in ⊎-elim (λ f. rw f (s .1)) (each-side n (s .0) i) (eq-or-lt-of-le (le-of-suc-le-suc h))
 
   all-sides : (n : ℕ) → ((i : ℕ) → i < n → side i ≡ true) → sidesFine ns at n ≡ true
   all-sides zero f = refl
@@ -157,111 +169,121 @@ module _ (ns : List ℤ) (at : ℕ) where
   odd : (i : ℕ) → boxFineAt ns at (suc (2 * i)) ≡ inRange (entry ns (at + suc (2 * i)))
   odd i = high ns (suc (2 * i)) (at + suc (2 * i)) (at + suc (2 * i)) (at + suc (suc (2 * i))) (omega arith) refl
 
-  sides-boxes : sidesFine ns at 8 ≡ true → (k : ℕ) → k < 16 → boxFineAt ns at k ≡ true
-  sides-boxes e k h =
+  sides-boxes : (n : ℕ) → sidesFine ns at (2 * n) ≡ true → (k : ℕ) → k < 4 * n → boxFineAt ns at k ≡ true
+  sides-boxes n e k h =
       let i = k / 2 in
-      let s = side-interval (entry ns (at + 2 * i)) (entry ns (at + suc (2 * i))) (each-side 8 e i (omega arith)) in
+      let s = side-interval (entry ns (at + 2 * i)) (entry ns (at + suc (2 * i))) (each-side (2 * n) e i (omega arith)) in
       ⊎-elim
       (λ l. subst (λ p. boxFineAt ns at p ≡ true) {x = 2 * i} {y = k} (omega arith) (even i ∙ interval-low s))
       (λ l. subst (λ p. boxFineAt ns at p ≡ true) {x = suc (2 * i)} {y = k} (omega arith) (odd i ∙ interval-high s))
       (lt-or-ge (k % 2) 1)
 
-  boxes-sides : ((k : ℕ) → k < 16 → boxFineAt ns at k ≡ true) → sidesFine ns at 8 ≡ true
-  boxes-sides f = all-sides 8 (λ i h.
+  boxes-sides : (n : ℕ) → ((k : ℕ) → k < 4 * n → boxFineAt ns at k ≡ true) → sidesFine ns at (2 * n) ≡ true
+  boxes-sides n f = all-sides (2 * n) (λ i h.
       interval-side (entry ns (at + 2 * i)) (entry ns (at + suc (2 * i)))
       (interval (sym (even i) ∙ f (2 * i) (omega arith)) (sym (odd i) ∙ f (suc (2 * i)) (omega arith))))
 
-module _ (most : ℕ) (ns : List ℤ) (at : ℕ) where
-  pub record-fine : recordFine most ns at ≡ true → recordLength ≤ placeOr recordLength (recordFaultAt most ns at)
-  record-fine e =
-      let a = both-true (fineAt most ns at 0 && fineAt most ns at 1) (sidesFine ns (at + 2) 8) e in
-      let b = both-true (fineAt most ns at 0) (fineAt most ns at 1) (a .0) in
-      let f = bad-none (boxFineAt ns (at + 2)) 16 0 (λ k h. rw zero-add (sides-boxes ns (at + 2) (a .1) k h)) in
-      let g = boxes-next most ns at (b .0) (b .1) in
-      omega (arith, g, ap (placeOr 16) f)
+module _ (σ : Setting) (ns : List ℤ) (at : ℕ) where
+  abbrev each : ℕ → Bool
+  each = fineAt (σ .most) ns at
 
-  pub record-unfine : recordFine most ns at ≡ false → placeOr recordLength (recordFaultAt most ns at) < recordLength
+  pub record-fine : recordFine σ ns at ≡ true → recordLength σ ≤ placeOr (recordLength σ) (recordFaultAt σ ns at)
+  record-fine e =
+      let n = inBoxes σ in
+      let a = both-true (each 0 && each 1) (sidesFine ns (at + 2) (2 * breakPoints σ)) e in
+      let b = both-true (each 0) (each 1) (a .0) in
+      let f = bad-none (boxFineAt ns (at + 2)) n 0 (λ k h. rw zero-add (sides-boxes ns (at + 2) (breakPoints σ) (a .1) k h)) in
+      omega (arith, boxes-next σ ns at (b .0) (b .1), ap (placeOr n) f)
+
+  pub record-unfine : recordFine σ ns at ≡ false → placeOr (recordLength σ) (recordFaultAt σ ns at) < recordLength σ
   unfolding recordFaultAt
-  record-unfine e = ⊎-elim (λ l. l) (λ l. clash (cc (e, fine (place-none (fineAt most ns at) recordLength l))))
-      (lt-or-ge (placeOr recordLength (recordFaultAt most ns at)) recordLength)
+  record-unfine e = ⊎-elim (λ l. l) (λ l. clash (cc (e, fine (place-none each (recordLength σ) l))))
+      (lt-or-ge (placeOr (recordLength σ) (recordFaultAt σ ns at)) (recordLength σ))
     where
-      fine : firstBad (fineAt most ns at) recordLength 0 ≡ none → recordFine most ns at ≡ true
+      fine : firstBad each (recordLength σ) 0 ≡ none → recordFine σ ns at ≡ true
       fine n =
-          let each : (k : ℕ) → k < recordLength → fineAt most ns at k ≡ true = λ k h. rw (zero-add k) at (none-bad (fineAt most ns at) recordLength 0 n k h) in
-          rw (each 0 (omega arith), each 1 (omega arith)) (boxes-sides ns (at + 2) (λ k h. sym (box-number most ns at k h) ∙ each (2 + k) (omega arith)))
+          let all : (k : ℕ) → k < recordLength σ → each k ≡ true = λ k h. rw (zero-add k) at (none-bad each (recordLength σ) 0 n k h) in
+          rw (all 0 (omega arith), all 1 (omega arith))
+          (boxes-sides ns (at + 2) (breakPoints σ) (λ k h. sym (box-number σ ns at k) ∙ all (2 + k) (omega arith)))
 
 -- ---- a list of records
--- where whole records are left, there is one more
-pub record-left : {at n : ℕ} → at % recordLength ≡ 0 → n % recordLength ≡ 0 → at < n → at + recordLength ≤ n
-record-left e f h = omega arith
-
-module _ (most : ℕ) (ns : List ℤ) where
+module _ (σ : Setting) (ns : List ℤ) where
   abbrev pub inList : ℕ → Bool
-  inList i = numberFine most (i % recordLength) (entry ns i) (entry ns (suc i))
+  inList i = numberFine (σ .most) (i % recordLength σ) (entry ns i) (entry ns (suc i))
 
-  record-part : (at : ℕ) → at % recordLength ≡ 0 → firstBad inList recordLength at ≡ moved at (recordFaultAt most ns at)
+  -- a number of the list is one of the record that begins at index `at`
+  pub in-record : (at : ℕ) → at % recordLength σ ≡ 0 → (k : ℕ) → k < recordLength σ → inList (at + k) ≡ fineAt (σ .most) ns at k
+  in-record at e k h =
+      let g : suc (at + k) ≡ at + suc k = omega arith in
+      rw (place-in (recordLength σ) h at e, g)
+
+  record-part : (at : ℕ) → at % recordLength σ ≡ 0 → firstBad inList (recordLength σ) at ≡ moved at (recordFaultAt σ ns at)
   unfolding recordFaultAt
-  record-part at e = bad-moved inList at (fineAt most ns at) recordLength each
-    where
-      each : (k : ℕ) → k < recordLength → inList (at + k) ≡ fineAt most ns at k
-      each k h =
-          let f : (at + k) % recordLength ≡ k = omega arith in
-          let g : suc (at + k) ≡ at + suc k = omega arith in
-          rw (f, g)
+  record-part at e = bad-moved inList at (fineAt (σ .most) ns at) (recordLength σ) (in-record at e)
 
   -- the first `at` numbers are whole records, and are fine
   pub record ReadTo (at : ℕ) : Type 0 where
-    pub whole : at % recordLength ≡ 0
+    pub whole : at % recordLength σ ≡ 0
     pub inside : at ≤ length ns
     pub fine : firstBad inList at 0 ≡ none
 
   pub read-none : ReadTo 0
   unfolding firstBad
-  read-none = record { whole = refl; inside = omega arith; fine = refl }
+  read-none = record { whole = zero-mod (recordLength σ); inside = omega arith; fine = refl }
 
-  module _ (at : ℕ) (r : ReadTo at) (h : at + recordLength ≤ length ns) where
+  -- a turn of a loop over the records: one more is there
+  pub record Turn (at : ℕ) : Type 0 where
+    pub read : ReadTo at
+    pub more : at + recordLength σ ≤ length ns
+
+  pub turn-at : {at : ℕ} → ReadTo at → length ns % recordLength σ ≡ 0 → at < length ns → Turn at
+  turn-at r e h = record { read = r; more = record-left (recordLength σ) (r .whole) e h }
+
+  module _ (at : ℕ) (t : Turn at) where
     abbrev place : ℕ
-    place = placeOr recordLength (recordFaultAt most ns at)
+    place = placeOr (recordLength σ) (recordFaultAt σ ns at)
 
-    with-record : firstBad inList (at + recordLength) 0 ≡ moved at (recordFaultAt most ns at)
-    with-record = gone-on inList at recordLength (r .fine) ∙ ap (firstBad inList recordLength) {x = 0 + at} {y = at} (omega arith) ∙ record-part at (r .whole)
+    with-record : firstBad inList (at + recordLength σ) 0 ≡ moved at (recordFaultAt σ ns at)
+    with-record =
+        gone-on inList at (recordLength σ) (t .read .fine) ∙ ap (firstBad inList (recordLength σ)) {x = 0 + at} {y = at} (omega arith)
+        ∙ record-part at (t .read .whole)
 
-    record-none : recordLength ≤ place → recordFaultAt most ns at ≡ none
+    record-none : recordLength σ ≤ place → recordFaultAt σ ns at ≡ none
     unfolding recordFaultAt
-    record-none l = place-none (fineAt most ns at) recordLength l
+    record-none l = place-none (fineAt (σ .most) ns at) (recordLength σ) l
 
-    pub read-more : recordLength ≤ place → ReadTo (at + recordLength)
+    pub read-more : recordLength σ ≤ place → ReadTo (at + recordLength σ)
     read-more l =
-        let w = r .whole in
-        record { whole = omega arith; inside = h; fine = with-record ∙ ap (moved at) (record-none l) }
+        record { whole = record-next (recordLength σ) at (t .read .whole); inside = t .more; fine = with-record ∙ ap (moved at) (record-none l) }
 
-    pub record-bad : place < recordLength → at + place ≡ placeOr (length ns) (numberFault most ns)
+    pub record-bad : place < recordLength σ → at + place ≡ placeOr (length ns) (numberFault σ ns)
     unfolding numberFault
     record-bad l =
-        let f = with-record ∙ ap (moved at) (place-some recordLength (recordFaultAt most ns at) l) in
-        let g = found-first inList (at + recordLength) (length ns - (at + recordLength)) (at + place) f in
-        let n : length ns ≡ at + recordLength + (length ns - (at + recordLength)) = omega arith in
+        let h = t .more in
+        let f = with-record ∙ ap (moved at) (place-some (recordLength σ) (recordFaultAt σ ns at) l) in
+        let g = found-first inList (at + recordLength σ) (length ns - (at + recordLength σ)) (at + place) f in
+        let n : length ns ≡ at + recordLength σ + (length ns - (at + recordLength σ)) = omega arith in
         sym (ap (λ m. placeOr (length ns) (firstBad inList m 0)) n ∙ ap (placeOr (length ns)) g)
 
-  read-whole : (at : ℕ) → ReadTo at → length ns ≤ at → numberFault most ns ≡ none
+  read-whole : (at : ℕ) → ReadTo at → length ns ≤ at → numberFault σ ns ≡ none
   unfolding numberFault
   read-whole at r l =
       let i = r .inside in
       let e : at ≡ length ns = omega arith in
       rw e at (r .fine)
 
-  pub read-all : (at : ℕ) → ReadTo at → length ns ≤ at → length ns ≡ placeOr (length ns) (numberFault most ns)
+  pub read-all : (at : ℕ) → ReadTo at → length ns ≤ at → length ns ≡ placeOr (length ns) (numberFault σ ns)
   read-all at r l = sym (ap (placeOr (length ns)) (read-whole at r l))
 
   -- ---- whether there is a fault
-  pub list-fine : (at : ℕ) → ReadTo at → length ns ≤ at → true ≡ noFault (numberFault most ns)
+  pub list-fine : (at : ℕ) → ReadTo at → length ns ≤ at → true ≡ noFault (numberFault σ ns)
   list-fine at r l = sym (ap noFault (read-whole at r l))
 
-  pub list-bad : (at : ℕ) → ReadTo at → at + recordLength ≤ length ns → placeOr recordLength (recordFaultAt most ns at) < recordLength
-      → false ≡ noFault (numberFault most ns)
-  list-bad at r h l =
-      let e = record-bad at r h l in
-      sym (ap noFault (place-some (length ns) (numberFault most ns) (omega (arith, e))))
+  pub list-bad : (at : ℕ) → Turn at → placeOr (recordLength σ) (recordFaultAt σ ns at) < recordLength σ → false ≡ noFault (numberFault σ ns)
+  list-bad at t l =
+      let h = t .more in
+      let e = record-bad at t l in
+      sym (ap noFault (place-some (length ns) (numberFault σ ns) (omega (arith, e))))
 
 pub no-fault : (n : ℕ) (o : Option ℕ) → noFault o ≡ true → n ≡ placeOr n o
 no-fault n none e = refl

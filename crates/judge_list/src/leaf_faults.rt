@@ -1,11 +1,12 @@
-// Checks 9 and 10 of a leaf list: its first bad number.
+// Check 10 of a leaf list: its first bad number.
 ghost use mathlib.Core.Path.{_≡_};
 ghost use Prim.Native.Nat.{_+_, _≤_, _%_};
 ghost use lib.ListN.{length};
+ghost use Rattle.setting.specs.Setting.{standard, recordLength};
 ghost use Rattle.boxes.specs.Ranges.{placeOr};
 ghost use Rattle.boxes.specs.Records.{boxAtIndex};
 ghost use Rattle.judge_list.specs.Checks.{numberFault};
-ghost use Rattle.judge_list.specs.Parts.{boxesFaultAt, recordFaultAt};
+ghost use Rattle.judge_list.specs.Inside.{inBoxes, boxesFaultAt, recordFaultAt};
 use crate::leaf_list::list_fine;
 use boxes::Box;
 
@@ -28,8 +29,8 @@ pub fn box_in(leaves: &[i32], at: usize) -> Box
 
 // The place of the first bad number of the four boxes from index `at` on, or 16.
 fn boxes_fault(leaves: &[i32], at: usize) -> usize
-    requires { ⌜ at + 16 ≤ length (now leaves) ⌝ }
-    ensures { λ r. ⌜ r ≡ placeOr 16 (boxesFaultAt (now (leaves .entry)) at 16) ⌝ }
+    requires { ⌜ at + inBoxes standard ≤ length (now leaves) ⌝ }
+    ensures { λ r. ⌜ r ≡ placeOr (inBoxes standard) (boxesFaultAt (now (leaves .entry)) at (inBoxes standard)) ⌝ }
 {
     let mut i: usize = 0;
     while i < 4 {
@@ -44,8 +45,8 @@ fn boxes_fault(leaves: &[i32], at: usize) -> usize
 
 // The place of the first bad number of the record that begins at index `at`, or 18.
 fn record_fault(leaves: &[i32], at: usize) -> usize
-    requires { ⌜ at + 18 ≤ length (now leaves) ⌝ }
-    ensures { λ r. ⌜ r ≡ placeOr 18 (recordFaultAt 64 (now (leaves .entry)) at) ⌝ }
+    requires { ⌜ at + recordLength standard ≤ length (now leaves) ⌝ }
+    ensures { λ r. ⌜ r ≡ placeOr (recordLength standard) (recordFaultAt standard (now (leaves .entry)) at) ⌝ }
 {
     let curve = leaves[at];
     if curve < 0 {
@@ -64,10 +65,10 @@ fn record_fault(leaves: &[i32], at: usize) -> usize
     2 + boxes_fault(leaves, at + 2)
 }
 
-// The index of the first bad number of a list of whole records, or the list's length, record by record.
+// The index of the first bad number of a list of whole records, or the list's length, looked for record by record.
 fn first_fault(leaves: &[i32]) -> usize
-    requires { ⌜ length (now leaves) % 18 ≡ 0 ⌝ }
-    ensures { λ r. ⌜ r ≡ placeOr (length (now (leaves .entry))) (numberFault 64 (now (leaves .entry))) ⌝ }
+    requires { ⌜ length (now leaves) % recordLength standard ≡ 0 ⌝ }
+    ensures { λ r. ⌜ r ≡ placeOr (length (now (leaves .entry))) (numberFault standard (now (leaves .entry))) ⌝ }
 {
     let mut at: usize = 0;
     while at < leaves.len() {
@@ -80,10 +81,11 @@ fn first_fault(leaves: &[i32]) -> usize
     leaves.len()
 }
 
-// The same. The numbers are looked at one by one only in a list that has a bad one.
+// The index of the first bad number of a list of whole records, or the list's length. The numbers are looked at one by
+// one only in a list that has a bad one.
 pub fn number_fault(leaves: &[i32]) -> usize
-    requires { ⌜ length (now leaves) % 18 ≡ 0 ⌝ }
-    ensures { λ r. ⌜ r ≡ placeOr (length (now (leaves .entry))) (numberFault 64 (now (leaves .entry))) ⌝ }
+    requires { ⌜ length (now leaves) % recordLength standard ≡ 0 ⌝ }
+    ensures { λ r. ⌜ r ≡ placeOr (length (now (leaves .entry))) (numberFault standard (now (leaves .entry))) ⌝ }
 {
     if list_fine(leaves) {
         return leaves.len();

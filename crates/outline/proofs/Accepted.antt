@@ -11,10 +11,11 @@ use lib.IntN.{ℤ}
 use Rattle.refusals.specs.declared.Refusal.{Refusal}
 use Rattle.curve_nodes.specs.declared.Curve.{Curve}
 use Rattle.curve_nodes.specs.Bounds.{Sized}
-use Rattle.outline.specs.declared.Checked.the-variants.{Curves, Refused}
+use Rattle.outline.specs.declared.Checked.the-variants.{Curves, Faulty}
 use Rattle.outline.specs.Curves.{nextAt, curveAt}
 use Rattle.outline.specs.Faults.{faultAt}
-use Rattle.outline.specs.Checks.{Outlined, curves, faulty, outlineFrom, outlined, checkedOf}
+use Rattle.outline.specs.Checks.{Outlined, curves, faulty, outlineFrom, outlined}
+use Rattle.outline.specs.Inside.{checkedOf}
 use Rattle.integers.proofs.Clash.{clash}
 use Rattle.outline.proofs.Faultless.{Padded, faultless, curve-sized, curve-padded}
 use Rattle.outline.proofs.Steps.{outline-begins, outline-ends}
@@ -33,7 +34,8 @@ module _ (P : Curve → Type 0) (ns : List ℤ) (rule : (at : ℕ) → faultAt n
 -- ---- how many there are
 pub accepted-count : (left : ℕ) (ns : List ℤ) (at : ℕ) (cs : List Curve) → outlineFrom left ns at ≡ curves cs → length cs ≤ left
 accepted-count left ns at [] e = omega arith
-accepted-count left ns at (c ∷ cs) e = let b = outline-begins left ns at c cs e in omega (arith, accepted-count (left - 1) ns (nextAt ns at) cs (b .rest))
+accepted-count left ns at (c ∷ cs) e =
+    let b = outline-begins left ns at c cs e in omega (arith, accepted-count (left - 1) ns (nextAt ns at) cs (b .rest))
 
 pub outlined-from : (most : ℕ) (ns : List ℤ) (cs : List Curve) → outlined most ns ≡ curves cs → outlineFrom most ns 0 ≡ curves cs
 unfolding outlined
@@ -76,6 +78,6 @@ pub checked-curves : (o : Outlined) (n : ℕ) → checkedOf o ≡ Curves n → A
 checked-curves (curves cs) n e = record { cs = cs; is = refl; count = cc }
 checked-curves (faulty r) n e = clash (cc)
 
-pub checked-refused : (o : Outlined) (r : Refusal) → checkedOf o ≡ Refused r → o ≡ faulty r
+pub checked-refused : (o : Outlined) (r : Refusal) → checkedOf o ≡ Faulty r → o ≡ faulty r
 checked-refused (curves cs) r e = clash (cc)
 checked-refused (faulty q) r e = cc

@@ -80,8 +80,8 @@ pub none-allowed : answer (outlined 0 (pos 9 ∷ [])) ≡ (5, 0)
 unfolding outlined outlineFrom
 none-allowed = refl
 
--- ---- 17: a curve that does not begin where the one before it ends. It is compared with the last point, in x and in y: with that of the degree, and no
--- padded one. The outline may stay open, and a curve of no length meets like any other.
+-- ---- 17: a curve that does not begin where the one before it ends. It is compared with the last point, in x and in y: with that of the degree, and
+-- no padded one. The outline may stay open, and a curve of no length meets like any other.
 pub left-open : check (bow ++ from 3 4 ++ from 0 0 ++ from 0 0) ≡ (0, 4)
 unfolding outlined outlineFrom faultAt firstBad
 left-open = refl

@@ -22,11 +22,12 @@ use Rattle.curve_nodes.specs.Bounds.{Sized}
 use Rattle.curve_halves.proofs.Sizes.{listed-under}
 use Rattle.outline.specs.Curves.{coordinates, degreeAt, nextAt, values, curveAt}
 use Rattle.outline.specs.declared.curve_faults.Found.{Found}
-use Rattle.outline.specs.declared.curve_faults.Found.the-variants.{At, Nothing as NotFound}
+use Rattle.outline.specs.declared.curve_faults.Found.the-variants.{At, Nowhere}
 use Rattle.outline.specs.declared.curve_faults.Fault.{Fault}
-use Rattle.outline.specs.declared.curve_faults.Fault.the-variants.{Is, Nothing as NoFault}
+use Rattle.outline.specs.declared.curve_faults.Fault.the-variants.{Is, NoFault}
 use Rattle.integers.specs.Between.{between}
-use Rattle.outline.specs.Faults.{coordinateFine, firstBeyond, meetsBefore, faultAt, foundOf, faultOf}
+use Rattle.outline.specs.Faults.{coordinateFine, firstBeyond, meetsBefore, faultAt}
+use Rattle.outline.specs.Inside.{foundOf, faultOf}
 use Rattle.integers.proofs.Between.{between-low, between-high}
 use Rattle.integers.proofs.First.{none-bad}
 use Rattle.outline.proofs.Degrees.{degree-least, degree-most}
@@ -34,8 +35,8 @@ use Rattle.outline.proofs.Degrees.{degree-least, degree-most}
 -- ---- the checks one after the other; the last two as the code has their answers
 abbrev pub lastFault : ℕ → Bool → Found → Fault
 lastFault at meet (At i) = Is (Coordinate i)
-lastFault at true NotFound = NoFault
-lastFault at false NotFound = Is (Gap at)
+lastFault at true Nowhere = NoFault
+lastFault at false Nowhere = Is (Gap at)
 
 module _ (ns : List ℤ) (at : ℕ) where
   pub fault-degree : between (pos 1) (pos 3) (entry ns at) ≡ false → faultAt ns at ≡ some (Degree at)

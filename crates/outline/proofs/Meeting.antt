@@ -69,7 +69,8 @@ gap-from (suc left) ns at p i e =
     go (ltb at (length ns)) (faultAt ns at) refl (outlineFrom left ns (nextAt ns at)) (λ f. gap-from left ns (nextAt ns at) (after at f) i) e
   where
     go : (b : Bool) (o : Option Refusal) → faultAt ns at ≡ o → (rest : Outlined) → (faultAt ns at ≡ none → rest ≡ faulty (Gap i) → Apart ns i)
-        → _≡_ {A = Outlined} (elim b [ false ↦ curves [] | true ↦ elim o [ some r ↦ faulty r | none ↦ withCurve (curveAt ns at) rest ] ]) (faulty (Gap i))
+        → _≡_ {A = Outlined} (elim b [ false ↦ curves [] | true ↦ elim o [ some r ↦ faulty r | none ↦ withCurve (curveAt ns at) rest ] ])
+        (faulty (Gap i))
         → Apart ns i
     go true none f (curves cs) again e = clash (cc)
     go true none f (faulty r) again e = again f e

@@ -88,7 +88,8 @@ outline-begins (suc left) ns at c cs e =
 pub outline-ends : (left : ℕ) (ns : List ℤ) (at : ℕ) → outlineFrom left ns at ≡ curves [] → length ns ≤ at
 unfolding outlineFrom
 outline-ends zero ns at e = ltb-false at (length ns) (no-room (ltb at (length ns)) at [] e .0)
-outline-ends (suc left) ns at e = ltb-false at (length ns) (last (ltb at (length ns)) (faultAt ns at) (curveAt ns at) (outlineFrom left ns (nextAt ns at)) e)
+outline-ends (suc left) ns at e =
+    ltb-false at (length ns) (last (ltb at (length ns)) (faultAt ns at) (curveAt ns at) (outlineFrom left ns (nextAt ns at)) e)
 
 -- ---- the same, where a loop has tested the index
 pub record Continues (left : ℕ) (ns : List ℤ) (at : ℕ) (cs : List Curve) : Type 0 where

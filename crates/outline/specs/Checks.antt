@@ -1,5 +1,5 @@
--- The checks of a tolerance and of an outline, in document 01's order ("Place of each check"), with 17 of document 02. The
--- most curves that an outline may have is a parameter.
+-- The checks of a tolerance and of an outline, in document 01's order ("Place of each check"), with 17 of document 02.
+-- The most curves that an outline may have is a parameter.
 use mathlib.Core.Bool.{Bool, true, false}
 use mathlib.Core.List.{List, [], _∷_}
 use mathlib.Core.Option.{none, some}
@@ -11,8 +11,6 @@ use Rattle.integers.specs.Between.{between}
 use Rattle.refusals.specs.declared.Refusal.{Refusal}
 use Rattle.refusals.specs.declared.Refusal.the-variants.{TooManyCurves, EmptyOutline}
 use Rattle.curve_nodes.specs.declared.Curve.{Curve}
-use Rattle.outline.specs.declared.Checked.{Checked}
-use Rattle.outline.specs.declared.Checked.the-variants.{Curves, Refused}
 use Rattle.outline.specs.Curves.{nextAt, curveAt}
 use Rattle.outline.specs.Faults.{faultAt}
 
@@ -35,15 +33,14 @@ outlineFrom zero ns at = elim (ltb at (length ns)) [ true ↦ faulty (TooManyCur
 outlineFrom (suc left) ns at =
     elim (ltb at (length ns)) [
       | false ↦ curves []
-      | true ↦ elim (faultAt ns at) [ some r ↦ faulty r | none ↦ withCurve (curveAt ns at) (outlineFrom left ns (nextAt ns at)) ]
+      | true ↦
+          elim (faultAt ns at) [
+            | some r ↦ faulty r
+            | none ↦ withCurve (curveAt ns at) (outlineFrom left ns (nextAt ns at))
+          ]
     ]
 
 -- 6 where the list is empty
 unfoldable pub outlined : ℕ → List ℤ → Outlined
 outlined most [] = faulty EmptyOutline
 outlined most (z ∷ ns) = outlineFrom most (z ∷ ns) 0
-
--- ---- the same as the code answers it
-abbrev pub checkedOf : Outlined → Checked
-checkedOf (curves cs) = Curves (length cs)
-checkedOf (faulty r) = Refused r

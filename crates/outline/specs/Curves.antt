@@ -1,10 +1,11 @@
--- The curves of an outline (document 01, "Outline and tolerance"): a list of numbers, for each curve its degree d, then x and y of its d + 1 control
--- points. `at` is the index of a curve's degree.
+-- The curves of an outline (document 01, "Outline and tolerance"): a list of numbers, for each curve its degree d, then
+-- x and y of its d + 1 control points. `at` is the index of a curve's degree.
 use mathlib.Core.Bool.{cond}
 use mathlib.Core.List.{List}
 use Prim.Native.Nat.{ℕ, _+_, _*_}
 use lib.Dec.{leb}
 use lib.IntN.{ℤ, pos, natAbs}
+use Rattle.setting.specs.Setting.{controlValues}
 use Rattle.integers.specs.Entry.{entry}
 use Rattle.curve_nodes.specs.declared.Curve.{Curve}
 use Rattle.curve_halves.specs.Halves.{listed}
@@ -19,9 +20,11 @@ degreeAt ns at = natAbs (entry ns at)
 abbrev pub nextAt : List ℤ → ℕ → ℕ
 nextAt ns at = at + 1 + coordinates (degreeAt ns at)
 
--- every other number from index i on, d + 1 of them, and zeros up to four
+-- every other number from index i on, d + 1 of them, and zeros up to the number of control values
 abbrev pub values : List ℤ → ℕ → ℕ → List ℤ
-values ns d i = listed 4 (λ k. cond (leb k d) (entry ns (i + 2 * k)) (pos 0))
+values ns d i = listed controlValues (λ k. cond (leb k d) (entry ns (i + 2 * k)) (pos 0))
 
 unfoldable pub curveAt : List ℤ → ℕ → Curve
-curveAt ns at = record { degree = degreeAt ns at; x = values ns (degreeAt ns at) (at + 1); y = values ns (degreeAt ns at) (at + 2) }
+curveAt ns at =
+    let d = degreeAt ns at in
+    record { degree = d; x = values ns d (at + 1); y = values ns d (at + 2) }

@@ -1,4 +1,5 @@
--- The checks of one curve of an outline, in document 01's order ("Place of each check"), and 17 of document 02, request 03.
+-- The checks of one curve of an outline, in document 01's order ("Place of each check"), and 17 of document 02, request
+-- 03.
 use mathlib.Core.Bool.{Bool, true, false, _&&_, _||_}
 use mathlib.Core.List.{List}
 use mathlib.Core.Option.{Option, none, some}
@@ -12,10 +13,6 @@ use Rattle.integers.specs.Equal.{equal}
 use Rattle.integers.specs.First.{firstBad}
 use Rattle.refusals.specs.declared.Refusal.{Refusal}
 use Rattle.refusals.specs.declared.Refusal.the-variants.{Degree, CutShort, Coordinate, Gap}
-use Rattle.outline.specs.declared.curve_faults.Found.{Found}
-use Rattle.outline.specs.declared.curve_faults.Found.the-variants.{At, Nothing as NotFound}
-use Rattle.outline.specs.declared.curve_faults.Fault.{Fault}
-use Rattle.outline.specs.declared.curve_faults.Fault.the-variants.{Is, Nothing as NoFault}
 use Rattle.outline.specs.Curves.{coordinates, degreeAt, nextAt}
 
 -- ---- 4: the first of n numbers from index i on that is no coordinate, −1,048,576 to 1,048,576
@@ -46,12 +43,3 @@ faultAt ns at =
                 ]
           ]
     ]
-
--- ---- the same as the code answers it
-abbrev pub foundOf : Option ℕ → Found
-foundOf (some i) = At i
-foundOf none = NotFound
-
-abbrev pub faultOf : Option Refusal → Fault
-faultOf (some r) = Is r
-faultOf none = NoFault

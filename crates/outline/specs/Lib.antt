@@ -1,7 +1,8 @@
--- What a reader must believe of one curve of an outline: where it stands, and what is read of it.
+-- What a reader must believe of outlines: where a curve stands and what is read of it (Curves), the faults of one curve
+-- (Faults), all checks in document 01's order (Checks), and two curves that meet (Meeting), of which theorems speak.
+-- Inside is only for contracts within the engine.
 pub mod Curves
--- What a reader must believe of the faults of one curve of an outline, in their order, and of two curves that meet.
 pub mod Faults
-pub mod Meeting
--- What a reader must believe of outlines: the checks in document 01's order.
 pub mod Checks
+pub mod Meeting
+pub mod Inside

@@ -1,14 +1,14 @@
-// The faults of one curve of an outline: what its checks answer. The code stands in `curve_checks`.
+// What the checks of one curve of an outline answer. Their code stands in the crate `outline_checks`.
 use refusals::Refusal;
 
 // An index, where there is one.
 pub enum Found {
     At(usize),
-    Nothing,
+    Nowhere,
 }
 
 // A refusal, where there is one.
 pub enum Fault {
     Is(Refusal),
-    Nothing,
+    NoFault,
 }

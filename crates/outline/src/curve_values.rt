@@ -19,7 +19,8 @@ pub fn curve_at(ns: &[i32], at: usize) -> Curve
     Curve { degree, x, y }
 }
 
-// The control values of one coordinate: every other number from index `from` on, degree + 1 of them, and zeros up to four.
+// The control values of one coordinate: every other number from index `from` on, degree + 1 of them, and zeros up to
+// four.
 fn values_at(ns: &[i32], degree: u32, from: usize) -> [i64; 4]
     requires { ⌜ (1 ≤ degree) × (degree ≤ 3) × (from + 2 * degree < length (now ns)) ⌝ }
     ensures { λ r. ⌜ r ≡ values (now (ns .entry)) degree from ⌝ }

@@ -1,4 +1,5 @@
-// The checks of a tolerance and an outline: what they answer. The code stands in `outline_checks`.
+// Outlines: where their curves stand, what is read of them, and what their checks answer. The code of the checks stands
+// in the crate `outline_checks`.
 use refusals::Refusal;
 
 pub mod curve_faults;
@@ -8,5 +9,5 @@ pub mod outline_curves;
 // What the checks of an outline find: how many curves it has, or the first fault.
 pub enum Checked {
     Curves(usize),
-    Refused(Refusal),
+    Faulty(Refusal),
 }

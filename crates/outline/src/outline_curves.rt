@@ -1,4 +1,5 @@
-// Where the curves of an outline stand. An outline is a list of numbers, for each curve its degree d, then x and y of its d + 1 control points.
+// Where the curves of an outline stand. An outline is a list of numbers, for each curve its degree d, then x and y of
+// its d + 1 control points.
 ghost use mathlib.Core.Path.{_≡_};
 ghost use mathlib.Core.Bool.{true};
 ghost use lib.IntN.{pos};

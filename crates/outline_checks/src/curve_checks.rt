@@ -2,7 +2,8 @@
 ghost use mathlib.Core.Path.{_≡_};
 ghost use Prim.Native.Nat.{_+_, _-_, _≤_, _<_};
 ghost use lib.ListN.{length};
-ghost use Rattle.outline.specs.Faults.{firstBeyond, meetsBefore, faultAt, foundOf, faultOf};
+ghost use Rattle.outline.specs.Faults.{firstBeyond, meetsBefore, faultAt};
+ghost use Rattle.outline.specs.Inside.{foundOf, faultOf};
 use outline::curve_faults::Fault;
 use outline::curve_faults::Found;
 use outline::outline_curves::next_at;
@@ -24,11 +25,11 @@ fn first_beyond(ns: &[i32], from: usize, end: usize) -> Found
         }
         i += 1;
     }
-    Found::Nothing
+    Found::Nowhere
 }
 
-// Check 17: whether the curve whose degree stands at index `at` begins where the curve before it ends. That point is the two
-// numbers before `at`; the first curve has none before it.
+// Check 17: whether the curve whose degree stands at index `at` begins where the curve before it ends. That point is
+// the two numbers before `at`; the first curve has none before it.
 fn meets_before(ns: &[i32], at: usize) -> bool
     requires { ⌜ at + 2 < length (now ns) ⌝ }
     ensures { λ r. ⌜ r ≡ meetsBefore (now (ns .entry)) at ⌝ }
@@ -64,9 +65,9 @@ pub fn fault_at(ns: &[i32], at: usize) -> Fault
     }
     match first_beyond(ns, at + 1, next) {
         Found::At(i) => Fault::Is(Refusal::Coordinate(i)),
-        Found::Nothing => {
+        Found::Nowhere => {
             if meets_before(ns, at) {
-                return Fault::Nothing;
+                return Fault::NoFault;
             }
             Fault::Is(Refusal::Gap(at))
         }

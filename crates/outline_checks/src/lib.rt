@@ -1,6 +1,7 @@
 // Checks 1 to 6 and 17 of a tolerance and an outline, in their order.
 ghost use mathlib.Core.Path.{_≡_};
-ghost use Rattle.outline.specs.Checks.{toleranceFine, outlined, checkedOf};
+ghost use Rattle.outline.specs.Checks.{toleranceFine, outlined};
+ghost use Rattle.outline.specs.Inside.{checkedOf};
 use crate::curve_checks::fault_at;
 use outline::Checked;
 use outline::curve_faults::Fault;
@@ -25,19 +26,19 @@ pub fn check_outline(ns: &[i32], most: usize) -> Checked
     ensures { λ r. ⌜ r ≡ checkedOf (outlined most (now (ns .entry))) ⌝ }
 {
     if ns.len() == 0 {
-        return Checked::Refused(Refusal::EmptyOutline);
+        return Checked::Faulty(Refusal::EmptyOutline);
     }
     let mut at: usize = 0;
     let mut count: usize = 0;
     while at < ns.len() {
         if count == most {
-            return Checked::Refused(Refusal::TooManyCurves(at));
+            return Checked::Faulty(Refusal::TooManyCurves(at));
         }
         match fault_at(ns, at) {
             Fault::Is(refusal) => {
-                return Checked::Refused(refusal);
+                return Checked::Faulty(refusal);
             }
-            Fault::Nothing => {
+            Fault::NoFault => {
                 at = next_at(ns, at);
             }
         }

@@ -1,9 +1,10 @@
 // Callers of the functions that `contour` exports to programs in other languages.
 ghost use mathlib.Core.Path.{_≡_};
 ghost use lib.ListN.{length};
+ghost use Rattle.setting.specs.Setting.{standard};
 ghost use Rattle.band.specs.Banding.{banded, written};
 ghost use Rattle.draw.specs.Drawing.{drawn, drawnInto};
-ghost use Rattle.contour.specs.CAnswers.{answerOf};
+ghost use Rattle.contour.specs.Numbers.{bandAnswerOf};
 ghost use Rattle.contour.specs.Drawings.{drawingOf};
 ghost use Rattle.engine.specs.Outcomes.{writtenFor};
 ghost use Rattle.contour.specs.Answers.{JudgedInNumbers, AnsweredInNumbers};
@@ -14,8 +15,9 @@ use contour::c_answers::Drawing;
 use contour::c_answers::JudgingAnswer;
 
 pub fn contour_band(outline: &[i32], tolerance: i32, records: &mut [i32]) -> Answer
-    ensures { λ r. ⌜ (r ≡ answerOf (banded 64 tolerance (now (outline .entry)) (length (now (records .entry)))))
-        × (now (records .exit) ≡ written 64 tolerance (now (outline .entry)) (now (records .entry))) ⌝ }
+    ensures { λ r. ⌜ r
+        ≡ bandAnswerOf (banded standard tolerance (now (outline .entry)) (length (now (records .entry)))) ⌝ }
+    ensures { λ r. ⌜ now (records .exit) ≡ written standard tolerance (now (outline .entry)) (now (records .entry)) ⌝ }
 {
     contour::contour_band(outline, tolerance, records)
 }
@@ -33,15 +35,16 @@ pub fn contour_band_and_judge(
     x: i32,
     y: i32,
 ) -> OutcomeAnswer
-    ensures { λ r. ⌜ now (records .exit) ≡ writtenFor 64 tolerance (now (outline .entry)) x y (now (records .entry)) ⌝ }
+    ensures { λ r. ⌜ now (records .exit)
+        ≡ writtenFor standard tolerance (now (outline .entry)) x y (now (records .entry)) ⌝ }
     ensures { λ r. ⌜ AnsweredInNumbers tolerance (now (outline .entry)) x y (now (records .entry)) r ⌝ }
 {
     contour::contour_band_and_judge(outline, tolerance, records, x, y)
 }
 
 pub fn contour_draw(first: Box, second: Box, vertices: &mut [i32]) -> Drawing
-    ensures { λ r. ⌜ (r ≡ drawingOf (drawn first second (length (now (vertices .entry)))))
-        × (now (vertices .exit) ≡ drawnInto first second (now (vertices .entry))) ⌝ }
+    ensures { λ r. ⌜ r ≡ drawingOf (drawn first second (length (now (vertices .entry)))) ⌝ }
+    ensures { λ r. ⌜ now (vertices .exit) ≡ drawnInto first second (now (vertices .entry)) ⌝ }
 {
     contour::contour_draw(first, second, vertices)
 }

@@ -1,7 +1,9 @@
 // Callers of banding, judging and drawing.
 ghost use mathlib.Core.Path.{_≡_};
 ghost use lib.ListN.{length};
+ghost use Rattle.setting.specs.Setting.{standard};
 ghost use Rattle.band.specs.Banding.{banded, written};
+ghost use Rattle.setting.specs.Setting.{standard};
 ghost use Rattle.judge.specs.Judging.{Judged};
 ghost use Rattle.draw.specs.Drawing.{drawn, drawnInto};
 use band::banding::Banded;
@@ -10,21 +12,21 @@ use draw::drawing::Drawn;
 use judge::judging::Judgement;
 
 pub fn band(outline: &[i32], tolerance: i32, records: &mut [i32]) -> Banded
-    ensures { λ r. ⌜ (r ≡ banded 64 tolerance (now (outline .entry)) (length (now (records .entry))))
-        × (now (records .exit) ≡ written 64 tolerance (now (outline .entry)) (now (records .entry))) ⌝ }
+    ensures { λ r. ⌜ r ≡ banded standard tolerance (now (outline .entry)) (length (now (records .entry))) ⌝ }
+    ensures { λ r. ⌜ now (records .exit) ≡ written standard tolerance (now (outline .entry)) (now (records .entry)) ⌝ }
 {
     band::band(outline, tolerance, records)
 }
 
 pub fn judge(leaves: &[i32], x: i32, y: i32) -> Judgement
-    ensures { λ r. ⌜ Judged 64 (now (leaves .entry)) x y r ⌝ }
+    ensures { λ r. ⌜ Judged standard (now (leaves .entry)) x y r ⌝ }
 {
     judge::judge(leaves, x, y)
 }
 
 pub fn draw(first: Box, second: Box, vertices: &mut [i32]) -> Drawn
-    ensures { λ r. ⌜ (r ≡ drawn first second (length (now (vertices .entry))))
-        × (now (vertices .exit) ≡ drawnInto first second (now (vertices .entry))) ⌝ }
+    ensures { λ r. ⌜ r ≡ drawn first second (length (now (vertices .entry))) ⌝ }
+    ensures { λ r. ⌜ now (vertices .exit) ≡ drawnInto first second (now (vertices .entry)) ⌝ }
 {
-    draw::cover::draw(first, second, vertices)
+    draw::draw(first, second, vertices)
 }

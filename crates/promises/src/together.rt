@@ -1,6 +1,7 @@
 // Callers of the operations that band and judge: the engine's, and the text program's.
 ghost use mathlib.Core.Path.{_≡_};
-ghost use Rattle.write_numbers.specs.Appends.{Within};
+ghost use Rattle.setting.specs.Setting.{standard};
+ghost use Rattle.write_numbers.specs.Appends.{PutWithin};
 ghost use Rattle.engine.specs.Outcomes.{writtenFor, Answered};
 ghost use Rattle.answer.specs.Answers.{answerOf};
 use engine::Outcome;
@@ -12,14 +13,15 @@ pub fn band_and_judge(
     x: i32,
     y: i32,
 ) -> Outcome
-    ensures { λ r. ⌜ now (records .exit) ≡ writtenFor 64 tolerance (now (outline .entry)) x y (now (records .entry)) ⌝ }
-    ensures { λ r. ⌜ Answered 64 tolerance (now (outline .entry)) x y (now (records .entry)) r ⌝ }
+    ensures { λ r. ⌜ now (records .exit)
+        ≡ writtenFor standard tolerance (now (outline .entry)) x y (now (records .entry)) ⌝ }
+    ensures { λ r. ⌜ Answered standard tolerance (now (outline .entry)) x y (now (records .entry)) r ⌝ }
 {
     engine::band_and_judge(outline, tolerance, records, x, y)
 }
 
 pub fn answer(text: &[u8], out: &mut [u8; 243100]) -> usize
-    ensures { λ r. ⌜ Within (now (out .entry)) 0 243100 (answerOf (now (text .entry))) (now (out .exit)) r ⌝ }
+    ensures { λ r. ⌜ PutWithin (now (out .entry)) 0 243100 (answerOf (now (text .entry))) (now (out .exit)) r ⌝ }
 {
     answer::answer(text, out)
 }

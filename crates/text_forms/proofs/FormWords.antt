@@ -9,17 +9,17 @@ use mir.Syntax.{w64}
 use mir.Val.{Fits}
 use Rattle.text_forms.specs.Pairs.{wordAt}
 use Rattle.text_forms.proofs.PairWords.{word-fits}
-use Rattle.text_forms.specs.Forms.{tolerance, curve, point, closing}
+use Rattle.text_forms.specs.Forms.{toleranceWord, curveWord, pointWord, closing}
 
 module _ (s : List ℕ) (i : ℕ) (r : Bool) where
-  pub tolerance-fits : r ≡ wordAt tolerance s i → r ≡ true → length s < 2 ^ 64 → Fits w64 (i + 11)
-  tolerance-fits e t h = word-fits s i r tolerance e t h (omega arith)
+  pub tolerance-fits : r ≡ wordAt toleranceWord s i → r ≡ true → length s < 2 ^ 64 → Fits w64 (i + 11)
+  tolerance-fits e t h = word-fits s i r toleranceWord e t h (omega arith)
 
-  pub curve-fits : r ≡ wordAt curve s i → r ≡ true → length s < 2 ^ 64 → Fits w64 (i + 6)
-  curve-fits e t h = word-fits s i r curve e t h (omega arith)
+  pub curve-fits : r ≡ wordAt curveWord s i → r ≡ true → length s < 2 ^ 64 → Fits w64 (i + 6)
+  curve-fits e t h = word-fits s i r curveWord e t h (omega arith)
 
-  pub point-fits : r ≡ wordAt point s i → r ≡ true → length s < 2 ^ 64 → Fits w64 (i + 6)
-  point-fits e t h = word-fits s i r point e t h (omega arith)
+  pub point-fits : r ≡ wordAt pointWord s i → r ≡ true → length s < 2 ^ 64 → Fits w64 (i + 6)
+  point-fits e t h = word-fits s i r pointWord e t h (omega arith)
 
   pub closing-fits : r ≡ wordAt closing s i → r ≡ true → length s < 2 ^ 64 → Fits w64 (i + 2)
   closing-fits e t h = word-fits s i r closing e t h (omega arith)

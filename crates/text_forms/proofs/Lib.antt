@@ -1,8 +1,7 @@
--- Laws of words and pairs. Each file opens with what it holds.
+-- Laws of words, pairs and forms. Each file opens with what it holds.
 pub mod PairWords
 pub mod PairLaws
 pub mod PairReach
--- Laws of forms. Each file opens with what it holds.
 pub mod FormWords
 pub mod Lines
 pub mod FormReach

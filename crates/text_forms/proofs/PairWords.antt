@@ -9,43 +9,41 @@ use lib.Dec.{eqb}
 use lib.ListN.{length, drop, length-drop, drop-of-length-le}
 use mir.Syntax.{w64}
 use mir.Val.{Fits}
+use Rattle.integers.proofs.Clash.{clash}
 use Rattle.text_numbers.specs.Numerals.{byte}
 use Rattle.text_numbers.proofs.Places.{byte-first}
 use Rattle.text_forms.specs.Pairs.{startsWith, wordAt}
 
--- ---- the comparison, at place j of the word and place i of the text
-module _ (w s : List ℕ) (j i : ℕ) where
-  pub word-over : length w ≤ j → startsWith (drop j w) (drop i s) ≡ true
+-- ---- the comparison: from place j of the word and place i of the text on it finds what the whole does
+module _ (w s : List ℕ) (at i j : ℕ) (r : startsWith (drop j w) (drop i s) ≡ wordAt w s at) where
+  pub word-over : length w ≤ j → true ≡ wordAt w s at
   unfolding startsWith
-  word-over h = simp (drop-of-length-le w h)
+  word-over h = sym (simp (drop-of-length-le w h)) ∙ r
 
   module _ (h : j < length w) where
-    pub text-over : length s ≤ i → startsWith (drop j w) (drop i s) ≡ false
+    pub text-over : length s ≤ i → false ≡ wordAt w s at
     unfolding startsWith
-    text-over k = simp (byte-first w j h, drop-of-length-le s k)
+    text-over k = sym (simp (byte-first w j h, drop-of-length-le s k)) ∙ r
 
     module _ (k : i < length s) where
-      pub bytes-differ : (byte s i ≡ byte w j → ⊥) → startsWith (drop j w) (drop i s) ≡ false
+      pub bytes-differ : (byte s i ≡ byte w j → ⊥) → false ≡ wordAt w s at
       unfolding startsWith
-      bytes-differ e = simp (byte-first w j h, byte-first s i k, ne-eqb _ _ e)
+      bytes-differ e = sym (simp (byte-first w j h, byte-first s i k, ne-eqb _ _ e)) ∙ r
 
-      pub bytes-agree : byte s i ≡ byte w j → startsWith (drop j w) (drop i s) ≡ startsWith (drop (j + 1) w) (drop (i + 1) s)
+      pub bytes-agree : byte s i ≡ byte w j → startsWith (drop (j + 1) w) (drop (i + 1) s) ≡ wordAt w s at
       unfolding startsWith
-      bytes-agree e = simp (byte-first w j h, byte-first s i k, eq-eqb _ _ e)
+      bytes-agree e = sym (simp (byte-first w j h, byte-first s i k, eq-eqb _ _ e)) ∙ r
 
 -- ---- a word that was found ends inside
-clash : {X : Type 0} → _≡_ {A = Bool} false true → X
-clash e = let z : _≡_ {A = ℕ} 0 1 = cc in absurd (omega arith)
-
 pub starts-length : (w bs : List ℕ) → startsWith w bs ≡ true → length w ≤ length bs
 unfolding startsWith
 starts-length [] bs e = omega arith
-starts-length (k ∷ ks) [] e = clash e
+starts-length (k ∷ ks) [] e = clash (cc)
 starts-length (k ∷ ks) (b ∷ bs) e = omega (arith, starts-length ks bs (then-true (eqb b k) (startsWith ks bs) e))
   where
     then-true : (a c : Bool) → cond a c false ≡ true → c ≡ true
     then-true true c f = f
-    then-true false c f = clash f
+    then-true false c f = clash (cc)
 
 pub word-inside : (w s : List ℕ) (i : ℕ) → 0 < length w → wordAt w s i ≡ true → i + length w ≤ length s
 word-inside w s i h e = omega (arith, starts-length w (drop i s) e, length-drop i s)

@@ -1,4 +1,3 @@
--- What a reader must believe of words and pairs of numbers at a place of a text.
+-- A line of a text: its three forms, and the words and pairs of numbers that they are made of.
 pub mod Pairs
--- What a reader must believe of a line: its three forms.
 pub mod Forms

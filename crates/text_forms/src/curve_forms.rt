@@ -1,6 +1,6 @@
 // A curve line read from a text.
 ghost use mathlib.Core.Path.{_≡_};
-ghost use Rattle.text_forms.specs.Forms.{curveAt, curveThird, curveFourth, curveEnd};
+ghost use Rattle.text_forms.specs.Forms.{curveFormAt, curveThird, curveFourth, curveEnd};
 use crate::forms::Form;
 use crate::forms::Points;
 use crate::pairs::Pair;
@@ -8,13 +8,13 @@ use crate::pairs::spaced_pair_at;
 use crate::pairs::word_at;
 
 // A curve line, after its word.
-pub fn curve_at(text: &[u8], i: usize) -> Form
-    ensures { λ r. ⌜ r ≡ curveAt (now (text .entry)) i ⌝ }
+pub fn curve_form_at(text: &[u8], i: usize) -> Form
+    ensures { λ r. ⌜ r ≡ curveFormAt (now (text .entry)) i ⌝ }
 {
-    let Pair::Is(x0, y0, j) = spaced_pair_at(text, i) else {
+    let Pair::IsPair(x0, y0, j) = spaced_pair_at(text, i) else {
         return Form::NoForm;
     };
-    let Pair::Is(x1, y1, k) = spaced_pair_at(text, j) else {
+    let Pair::IsPair(x1, y1, k) = spaced_pair_at(text, j) else {
         return Form::NoForm;
     };
     curve_third(
@@ -38,7 +38,7 @@ pub fn curve_at(text: &[u8], i: usize) -> Form
 fn curve_third(text: &[u8], i: usize, p: Points) -> Form
     ensures { λ r. ⌜ r ≡ curveThird (now (text .entry)) i p ⌝ }
 {
-    let Pair::Is(x, y, j) = spaced_pair_at(text, i) else {
+    let Pair::IsPair(x, y, j) = spaced_pair_at(text, i) else {
         return curve_end(text, i, p);
     };
     let mut q = p;
@@ -52,7 +52,7 @@ fn curve_third(text: &[u8], i: usize, p: Points) -> Form
 fn curve_fourth(text: &[u8], i: usize, p: Points) -> Form
     ensures { λ r. ⌜ r ≡ curveFourth (now (text .entry)) i p ⌝ }
 {
-    let Pair::Is(x, y, j) = spaced_pair_at(text, i) else {
+    let Pair::IsPair(x, y, j) = spaced_pair_at(text, i) else {
         return curve_end(text, i, p);
     };
     let mut q = p;

@@ -1,7 +1,7 @@
 // The form of a line read from a text.
 ghost use mathlib.Core.Path.{_≡_};
-ghost use Rattle.text_forms.specs.Forms.{toleranceAt, pointAt, formAt};
-use crate::curve_forms::curve_at;
+ghost use Rattle.text_forms.specs.Forms.{toleranceFormAt, pointFormAt, formAt};
+use crate::curve_forms::curve_form_at;
 use crate::forms::Form;
 use crate::pairs::Pair;
 use crate::pairs::spaced_pair_at;
@@ -13,22 +13,22 @@ pub fn form_at(text: &[u8], i: usize) -> Form
     ensures { λ r. ⌜ r ≡ formAt (now (text .entry)) i ⌝ }
 {
     if word_at(b"(tolerance ", text, i) {
-        return tolerance_at(text, i + 11);
+        return tolerance_form_at(text, i + 11);
     }
     if word_at(b"(curve", text, i) {
-        return curve_at(text, i + 6);
+        return curve_form_at(text, i + 6);
     }
     if word_at(b"(point", text, i) {
-        return point_at(text, i + 6);
+        return point_form_at(text, i + 6);
     }
     Form::NoForm
 }
 
 // A tolerance line, after its word.
-fn tolerance_at(text: &[u8], i: usize) -> Form
-    ensures { λ r. ⌜ r ≡ toleranceAt (now (text .entry)) i ⌝ }
+fn tolerance_form_at(text: &[u8], i: usize) -> Form
+    ensures { λ r. ⌜ r ≡ toleranceFormAt (now (text .entry)) i ⌝ }
 {
-    let Number::Is(tolerance, j) = text_numbers::number_reading::number_at(text, i) else {
+    let Number::IsNumber(tolerance, j) = text_numbers::number_reading::number_at(text, i) else {
         return Form::NoForm;
     };
     if word_at(b")\n", text, j) {
@@ -39,10 +39,10 @@ fn tolerance_at(text: &[u8], i: usize) -> Form
 }
 
 // A point line, after its word.
-fn point_at(text: &[u8], i: usize) -> Form
-    ensures { λ r. ⌜ r ≡ pointAt (now (text .entry)) i ⌝ }
+fn point_form_at(text: &[u8], i: usize) -> Form
+    ensures { λ r. ⌜ r ≡ pointFormAt (now (text .entry)) i ⌝ }
 {
-    let Pair::Is(x, y, j) = spaced_pair_at(text, i) else {
+    let Pair::IsPair(x, y, j) = spaced_pair_at(text, i) else {
         return Form::NoForm;
     };
     if word_at(b")\n", text, j) {

@@ -1,4 +1,4 @@
-// The forms of a line, tolerance, curve, point, and a line read.
+// A line of a text: words, numbers and pairs of numbers, the forms (tolerance, curve, point), and a line read.
 pub mod curve_forms;
 pub mod form_reading;
 pub mod forms;

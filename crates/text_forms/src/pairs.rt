@@ -6,8 +6,8 @@ use text_numbers::numerals::Number;
 
 // Two numbers in parentheses, and the place after them, where they stand.
 pub enum Pair {
-    Is(i32, i32, usize),
-    Nothing,
+    IsPair(i32, i32, usize),
+    NoPair,
 }
 
 // A space and a pair.
@@ -15,7 +15,7 @@ pub fn spaced_pair_at(text: &[u8], i: usize) -> Pair
     ensures { λ r. ⌜ r ≡ spacedPairAt (now (text .entry)) i ⌝ }
 {
     if text_numbers::digit_runs::byte_at(text, i) != b' ' {
-        return Pair::Nothing;
+        return Pair::NoPair;
     }
     pair_at(text, i + 1)
 }
@@ -25,15 +25,15 @@ fn pair_at(text: &[u8], i: usize) -> Pair
     ensures { λ r. ⌜ r ≡ pairAt (now (text .entry)) i ⌝ }
 {
     if text_numbers::digit_runs::byte_at(text, i) != b'(' {
-        return Pair::Nothing;
+        return Pair::NoPair;
     }
-    let Number::Is(x, j) = number_then(text, i + 1, b' ') else {
-        return Pair::Nothing;
+    let Number::IsNumber(x, j) = number_then(text, i + 1, b' ') else {
+        return Pair::NoPair;
     };
-    let Number::Is(y, k) = number_then(text, j, b')') else {
-        return Pair::Nothing;
+    let Number::IsNumber(y, k) = number_then(text, j, b')') else {
+        return Pair::NoPair;
     };
-    Pair::Is(x, y, k)
+    Pair::IsPair(x, y, k)
 }
 
 // A number and the byte b after it; the place after both.
@@ -41,13 +41,13 @@ fn number_then(text: &[u8], i: usize, b: u8) -> Number
     requires { ⌜ 0 < b ⌝ }
     ensures { λ r. ⌜ r ≡ numberThen b (now (text .entry)) i ⌝ }
 {
-    let Number::Is(value, j) = text_numbers::number_reading::number_at(text, i) else {
-        return Number::Nothing;
+    let Number::IsNumber(value, j) = text_numbers::number_reading::number_at(text, i) else {
+        return Number::NoNumber;
     };
     if text_numbers::digit_runs::byte_at(text, j) != b {
-        return Number::Nothing;
+        return Number::NoNumber;
     }
-    Number::Is(value, j + 1)
+    Number::IsNumber(value, j + 1)
 }
 
 // Whether the bytes from place `at` on start with a word.

@@ -14,8 +14,9 @@ use Rattle.text_forms.specs.declared.forms.Points.{Points}
 use Rattle.text_forms.specs.declared.forms.Form.{Form}
 use Rattle.text_forms.specs.declared.forms.Form.the-variants.{Tolerance, Curve, Point, NoForm}
 use Rattle.text_forms.specs.Forms.{formAt}
-use Rattle.text_lines.specs.declared.text.Order.the-variants.{Refused}
-use Rattle.text_lines.proofs.Faults.{Checking, ordered, checking-start, rest-over, rest-no-form, rest-tolerance, rest-late, rest-curve, rest-point}
+use Rattle.text_lines.specs.declared.text.LinesCheck.the-variants.{LinesRefused}
+use Rattle.text_lines.proofs.Faults.{Checking, ordered, checking-start, rest-over, rest-no-form, rest-tolerance, rest-late, rest-curve}
+use Rattle.text_lines.proofs.Faults.{rest-point}
 use Rattle.text_lines.proofs.Lines.{curve-less, point-less}
 use Rattle.text_reader.specs.Reading.{placeAfter}
 use Rattle.text_lines.specs.declared.line_checks.Checks.{Checks}
@@ -49,13 +50,13 @@ module _ (c : Checks) (f : Form) (i n : ℕ) (r : Checks) where
 module _ (s : List ℕ) (at : ℕ) where
   pub record Stands (c : Checks) (i : ℕ) : Type 0 where
     pub next : c .going ≡ true → Checking s at (c .late) i (c .line) × (i < length s)
-    pub found : c .going ≡ false → c .order ≡ ordered s at
+    pub found : c .going ≡ false → c .fault ≡ ordered s at
 
   -- where the next line starts at place i, or the text ends there
   goes-on : (late : Bool) (i line : ℕ) → Checking s at late i line → Stands (beforeLine (ltb i (length s)) late line) i
   goes-on late i line r = record { next = λ e. (r, ltb-true i (length s) e); found = λ e. rest-over s at late i line r (ltb-false i (length s) e) }
 
-  stops : (r : Refusal) (i : ℕ) → Refused r ≡ ordered s at → Stands (refusedFor r) i
+  stops : (r : Refusal) (i : ℕ) → LinesRefused r ≡ ordered s at → Stands (refusedFor r) i
   stops r i e = record { next = λ g. absurd (subst T (sym g) tt); found = λ g. e }
 
   pub stands-start : Stands (beforeLine (ltb at (length s)) false 2) at

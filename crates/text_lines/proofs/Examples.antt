@@ -7,9 +7,9 @@ use lib.ListN.{replicate}
 use Rattle.refusals.specs.declared.Refusal.the-variants.{NotAForm, OutOfOrder, TextTooLong}
 use Rattle.text_numbers.specs.Numerals.{valueFrom, digitCount, naturalAt, numberAt}
 use Rattle.text_forms.specs.Pairs.{startsWith, numberThen, pairAt, spacedPairAt}
-use Rattle.text_forms.specs.Forms.{toleranceAt, pointAt, curveEnd, curveFourth, curveThird, curveAt, formAt}
+use Rattle.text_forms.specs.Forms.{toleranceFormAt, pointFormAt, curveEnd, curveFourth, curveThird, curveFormAt, formAt}
 use Rattle.text_lines.specs.Lines.{linesFrom, linesOf, gather}
-use Rattle.text_lines.specs.Meaning.{numbersOf, faultFrom, means, refused, meaningOf, meaning}
+use Rattle.text_lines.specs.Meaning.{numbersOfCurve, faultFrom, means, refused, meaningOf, meaning}
 
 -- "(tolerance 44)"
 abbrev tolerance : List ℕ
@@ -17,7 +17,9 @@ tolerance = 40 ∷ 116 ∷ 111 ∷ 108 ∷ 101 ∷ 114 ∷ 97 ∷ 110 ∷ 99 ∷
 
 -- "(curve (0 0) (10 30) (20 30) (30 0))"
 abbrev curve : List ℕ
-curve = 40 ∷ 99 ∷ 117 ∷ 114 ∷ 118 ∷ 101 ∷ 32 ∷ 40 ∷ 48 ∷ 32 ∷ 48 ∷ 41 ∷ 32 ∷ 40 ∷ 49 ∷ 48 ∷ 32 ∷ 51 ∷ 48 ∷ 41 ∷ 32 ∷ 40 ∷ 50 ∷ 48 ∷ 32 ∷ 51 ∷ 48 ∷ 41 ∷ 32 ∷ 40 ∷ 51 ∷ 48 ∷ 32 ∷ 48 ∷ 41 ∷ 41 ∷ 10 ∷ []
+curve =
+    40 ∷ 99 ∷ 117 ∷ 114 ∷ 118 ∷ 101 ∷ 32 ∷ 40 ∷ 48 ∷ 32 ∷ 48 ∷ 41 ∷ 32 ∷ 40 ∷ 49 ∷ 48 ∷ 32 ∷ 51 ∷ 48 ∷ 41 ∷ 32 ∷ 40 ∷ 50 ∷ 48 ∷ 32 ∷ 51 ∷ 48 ∷ 41
+    ∷ 32 ∷ 40 ∷ 51 ∷ 48 ∷ 32 ∷ 48 ∷ 41 ∷ 41 ∷ 10 ∷ []
 
 -- "(point (240 363))", the last digit being a parameter
 abbrev point : ℕ → List ℕ
@@ -27,8 +29,10 @@ point last = 40 ∷ 112 ∷ 111 ∷ 105 ∷ 110 ∷ 116 ∷ 32 ∷ 40 ∷ 50 ∷
 abbrev pub listing : List ℕ
 listing = tolerance ++ curve ++ point 51 ++ point 52
 
-pub listing-means : meaning listing ≡ means (pos 44) (pos 3 ∷ pos 0 ∷ pos 0 ∷ pos 10 ∷ pos 30 ∷ pos 20 ∷ pos 30 ∷ pos 30 ∷ pos 0 ∷ []) ((pos 240, pos 363) ∷ (pos 240, pos 364) ∷ [])
-unfolding meaning meaningOf faultFrom numbersOf linesOf linesFrom gather formAt startsWith toleranceAt pointAt curveAt curveThird curveFourth curveEnd spacedPairAt pairAt numberThen numberAt naturalAt valueFrom digitCount
+pub listing-means : meaning listing ≡ means (pos 44) (pos 3 ∷ pos 0 ∷ pos 0 ∷ pos 10 ∷ pos 30 ∷ pos 20 ∷ pos 30 ∷ pos 30 ∷ pos 0 ∷ [])
+    ((pos 240, pos 363) ∷ (pos 240, pos 364) ∷ [])
+unfolding meaning meaningOf faultFrom numbersOfCurve linesOf linesFrom gather formAt startsWith toleranceFormAt pointFormAt curveFormAt curveThird
+    curveFourth curveEnd spacedPairAt pairAt numberThen numberAt naturalAt valueFrom digitCount
 listing-means = refl
 
 -- ---- 15: an empty text, no tolerance first, a second tolerance, a curve after a point
@@ -37,15 +41,18 @@ unfolding meaning meaningOf linesOf linesFrom
 empty-text = refl
 
 pub curve-first : meaning (curve ++ tolerance) ≡ refused (OutOfOrder 1)
-unfolding meaning meaningOf linesOf linesFrom formAt startsWith curveAt curveThird curveFourth curveEnd spacedPairAt pairAt numberThen numberAt naturalAt valueFrom digitCount
+unfolding meaning meaningOf linesOf linesFrom formAt startsWith curveFormAt curveThird curveFourth curveEnd spacedPairAt pairAt numberThen numberAt
+    naturalAt valueFrom digitCount
 curve-first = refl
 
 pub second-tolerance : meaning (tolerance ++ point 51 ++ tolerance) ≡ refused (OutOfOrder 3)
-unfolding meaning meaningOf faultFrom linesOf linesFrom formAt startsWith toleranceAt pointAt spacedPairAt pairAt numberThen numberAt naturalAt valueFrom digitCount
+unfolding meaning meaningOf faultFrom linesOf linesFrom formAt startsWith toleranceFormAt pointFormAt spacedPairAt pairAt numberThen numberAt
+    naturalAt valueFrom digitCount
 second-tolerance = refl
 
 pub curve-after-point : meaning (tolerance ++ point 51 ++ curve) ≡ refused (OutOfOrder 3)
-unfolding meaning meaningOf faultFrom linesOf linesFrom formAt startsWith toleranceAt pointAt curveAt curveThird curveFourth curveEnd spacedPairAt pairAt numberThen numberAt naturalAt valueFrom digitCount
+unfolding meaning meaningOf faultFrom linesOf linesFrom formAt startsWith toleranceFormAt pointFormAt curveFormAt curveThird curveFourth curveEnd
+    spacedPairAt pairAt numberThen numberAt naturalAt valueFrom digitCount
 curve-after-point = refl
 
 -- ---- 14: an empty line, a last line without byte 10, and before 15 on the same line
@@ -54,22 +61,24 @@ unfolding meaning meaningOf linesOf linesFrom formAt startsWith
 empty-line = refl
 
 pub not-ended : meaning (tolerance ++ (40 ∷ [])) ≡ refused (NotAForm 2)
-unfolding meaning meaningOf faultFrom linesOf linesFrom formAt startsWith toleranceAt numberAt naturalAt valueFrom digitCount
+unfolding meaning meaningOf faultFrom linesOf linesFrom formAt startsWith toleranceFormAt numberAt naturalAt valueFrom digitCount
 not-ended = refl
 
 -- "(curve (0 0))" after a point
-pub form-before-order : meaning (tolerance ++ point 51 ++ (40 ∷ 99 ∷ 117 ∷ 114 ∷ 118 ∷ 101 ∷ 32 ∷ 40 ∷ 48 ∷ 32 ∷ 48 ∷ 41 ∷ 41 ∷ 10 ∷ [])) ≡ refused (NotAForm 3)
-unfolding meaning meaningOf faultFrom linesOf linesFrom formAt startsWith toleranceAt pointAt curveAt spacedPairAt pairAt numberThen numberAt naturalAt valueFrom digitCount
+pub form-before-order : meaning (tolerance ++ point 51 ++ (40 ∷ 99 ∷ 117 ∷ 114 ∷ 118 ∷ 101 ∷ 32 ∷ 40 ∷ 48 ∷ 32 ∷ 48 ∷ 41 ∷ 41 ∷ 10 ∷ []))
+    ≡ refused (NotAForm 3)
+unfolding meaning meaningOf faultFrom linesOf linesFrom formAt startsWith toleranceFormAt pointFormAt curveFormAt spacedPairAt pairAt numberThen
+    numberAt naturalAt valueFrom digitCount
 form-before-order = refl
 
 -- the first faulty line decides
 pub first-fault : meaning (tolerance ++ tolerance ++ (10 ∷ [])) ≡ refused (OutOfOrder 2)
-unfolding meaning meaningOf faultFrom linesOf linesFrom formAt startsWith toleranceAt numberAt naturalAt valueFrom digitCount
+unfolding meaning meaningOf faultFrom linesOf linesFrom formAt startsWith toleranceFormAt numberAt naturalAt valueFrom digitCount
 first-fault = refl
 
 -- ---- a tolerance alone is in order
 pub tolerance-alone : meaning tolerance ≡ means (pos 44) [] []
-unfolding meaning meaningOf faultFrom linesOf linesFrom gather formAt startsWith toleranceAt numberAt naturalAt valueFrom digitCount
+unfolding meaning meaningOf faultFrom linesOf linesFrom gather formAt startsWith toleranceFormAt numberAt naturalAt valueFrom digitCount
 tolerance-alone = refl
 
 -- ---- 16: 16,385 bytes; 16,384 are looked at

@@ -1,5 +1,5 @@
--- A list that is made line by line of a text, what a function gives of each line: the law of each turn of a loop that reads the text. A line takes nine bytes or more, so
--- where the function gives at most 18 elements, there are never more than twice as many as bytes were read.
+-- A list that is made line by line of a text, what a function gives of each line: the law of each turn of a loop that reads the text. A line takes
+-- nine bytes or more, so where the function gives at most 18 elements, there are never more than twice as many as bytes were read.
 use mathlib.Core.Path.{_≡_, sym, ap, _∙_}
 use mathlib.Core.List.{List, [], _∷_, _++_, append-assoc, append-nil}
 use Prim.Native.Nat.{ℕ, _-_, _*_, _≤_, _<_}

@@ -9,16 +9,16 @@ use Rattle.text_forms.specs.declared.forms.Form.the-variants.{Tolerance, Curve,
 use Rattle.text_forms.specs.Forms.{formAt}
 
 -- what is read from the place after a form
-abbrev pub onward : Form → (ℕ → List Form) → List Form
-onward (Tolerance t next) read = read next
-onward (Curve p next) read = read next
-onward (Point x y next) read = read next
-onward NoForm read = []
+abbrev pub linesAfter : Form → (ℕ → List Form) → List Form
+linesAfter (Tolerance t next) read = read next
+linesAfter (Curve p next) read = read next
+linesAfter (Point x y next) read = read next
+linesAfter NoForm read = []
 
 -- the lines from place i on, n at most
 unfoldable pub linesFrom : ℕ → List ℕ → ℕ → List Form
 linesFrom zero s i = []
-linesFrom (suc n) s i = cond (ltb i (length s)) (formAt s i ∷ onward (formAt s i) (linesFrom n s)) []
+linesFrom (suc n) s i = cond (ltb i (length s)) (formAt s i ∷ linesAfter (formAt s i) (linesFrom n s)) []
 
 -- a text has no more lines than bytes
 unfoldable pub linesOf : List ℕ → List Form

@@ -12,18 +12,16 @@ use Rattle.refusals.specs.declared.Refusal.the-variants.{NotAForm, OutOfOrder, 
 use Rattle.text_forms.specs.declared.forms.Points.{Points}
 use Rattle.text_forms.specs.declared.forms.Form.{Form}
 use Rattle.text_forms.specs.declared.forms.Form.the-variants.{Tolerance, Curve, Point, NoForm}
-use Rattle.text_lines.specs.declared.text.Checked.{Checked}
-use Rattle.text_lines.specs.declared.text.Checked.the-variants.{Tolerance as Accepted, Refused}
 use Rattle.text_lines.specs.Lines.{linesOf, gather}
 
 -- ---- the outline that the curve lines give: of each its degree, then x and y of its points
-unfoldable pub numbersOf : Points → List ℤ
-numbersOf p =
+unfoldable pub numbersOfCurve : Points → List ℤ
+numbersOfCurve p =
     p .degree ∷ p .x0 ∷ p .y0 ∷ p .x1 ∷ p .y1
     ∷ cond (ltZ (p .degree) (pos 2)) [] (p .x2 ∷ p .y2 ∷ cond (ltZ (p .degree) (pos 3)) [] (p .x3 ∷ p .y3 ∷ []))
 
 abbrev pub curveNumbers : Form → List ℤ
-curveNumbers (Curve p next) = numbersOf p
+curveNumbers (Curve p next) = numbersOfCurve p
 curveNumbers (Tolerance t next) = []
 curveNumbers (Point x y next) = []
 curveNumbers NoForm = []
@@ -35,7 +33,8 @@ pointOf (Tolerance t next) = []
 pointOf (Curve p next) = []
 pointOf NoForm = []
 
--- ---- the first fault of the lines after the first, which are numbered from n on: curves, then points. `late` says whether a point came before them.
+-- ---- the first fault of the lines after the first, which are numbered from n on: curves, then points. `late` says
+-- whether a point came before them.
 unfoldable pub faultFrom : Bool → ℕ → List Form → Option Refusal
 faultFrom late n [] = none
 faultFrom late n (NoForm ∷ ls) = some (NotAForm n)
@@ -48,14 +47,16 @@ pub data Meaning : Type 0 where
   refused : Refusal → Meaning
   means : (T : ℤ) (outline : List ℤ) (points : List (ℤ × ℤ)) → Meaning
 
-abbrev pub unless : Option Refusal → Meaning → Meaning
-unless (some r) m = refused r
-unless none m = m
+-- the fault, where there is one
+abbrev pub faultOr : Option Refusal → Meaning → Meaning
+faultOr (some r) m = refused r
+faultOr none m = m
 
 unfoldable pub meaningOf : List Form → Meaning
 meaningOf [] = refused (OutOfOrder 1)
 meaningOf (NoForm ∷ ls) = refused (NotAForm 1)
-meaningOf (Tolerance T next ∷ ls) = unless (faultFrom false 2 ls) (means T (gather curveNumbers ls) (gather pointOf ls))
+meaningOf (Tolerance T next ∷ ls) =
+    faultOr (faultFrom false 2 ls) (means T (gather curveNumbers ls) (gather pointOf ls))
 meaningOf (Curve p next ∷ ls) = refused (OutOfOrder 1)
 meaningOf (Point x y next ∷ ls) = refused (OutOfOrder 1)
 
@@ -65,8 +66,3 @@ mostBytes = 16384
 
 unfoldable pub meaning : List ℕ → Meaning
 meaning s = cond (ltb mostBytes (length s)) (refused (TextTooLong (mostBytes + 1))) (meaningOf (linesOf s))
-
--- ---- the same as the code answers it
-abbrev pub checkedOf : Meaning → Checked
-checkedOf (refused r) = Refused r
-checkedOf (means T outline points) = Accepted T

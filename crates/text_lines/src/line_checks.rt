@@ -5,9 +5,8 @@ ghost use Prim.Native.Nat.{_+_, _-_, _<_, _^_};
 ghost use lib.ListN.{length};
 ghost use Rattle.text_lines.specs.Lines.{linesFrom};
 ghost use Rattle.text_lines.specs.Meaning.{faultFrom};
-ghost use Rattle.text_lines.specs.Orders.{orderOf};
-ghost use Rattle.text_lines.specs.Inside.{beforeLine, refusedFor, afterLine};
-use crate::text::Order;
+ghost use Rattle.text_lines.specs.Inside.{linesCheckOf, beforeLine, refusedFor, afterLine};
+use crate::text::LinesCheck;
 use refusals::Refusal;
 use text_forms::forms::Form;
 
@@ -17,12 +16,12 @@ pub struct Checks {
     pub going: bool,
     pub late: bool,
     pub line: usize,
-    pub order: Order,
+    pub fault: LinesCheck,
 }
 
 // Checks 14 and 15 of the lines from place `at` on, the first of which is line 2.
-pub fn check_rest(text: &[u8], at: usize) -> Order
-    ensures { λ r. ⌜ r ≡ orderOf (faultFrom false 2
+pub fn check_rest(text: &[u8], at: usize) -> LinesCheck
+    ensures { λ r. ⌜ r ≡ linesCheckOf (faultFrom false 2
         (linesFrom (length (now (text .entry)) - at) (now (text .entry)) at)) ⌝ }
 {
     let mut reader = text_reader::new(text, at);
@@ -32,7 +31,7 @@ pub fn check_rest(text: &[u8], at: usize) -> Order
         reader = text_reader::after(reader, form);
         checks = check_line(checks, form, reader.read, text.len());
     }
-    checks.order
+    checks.fault
 }
 
 // Checks 14 and 15 of one line. Of the text, which has `length` bytes, `read` are read with the line.
@@ -63,7 +62,7 @@ fn before(going: bool, late: bool, line: usize) -> Checks
         going,
         late,
         line,
-        order: Order::Fine,
+        fault: LinesCheck::LinesFine,
     }
 }
 
@@ -75,6 +74,6 @@ fn refused(refusal: Refusal) -> Checks
         going: false,
         late: false,
         line: 0,
-        order: Order::Refused(refusal),
+        fault: LinesCheck::LinesRefused(refusal),
     }
 }

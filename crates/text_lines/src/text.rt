@@ -1,14 +1,14 @@
-// The lines of a text and what they mean: what its checks answer. The code stands in `text_checks`.
+// What the checks of a text answer. The code stands in `text_checks` and `line_checks`.
 use refusals::Refusal;
 
 // What the checks of a text find: its tolerance, or the first fault.
-pub enum Checked {
-    Tolerance(i32),
-    Refused(Refusal),
+pub enum TextCheck {
+    TextFine(i32),
+    TextRefused(Refusal),
 }
 
-// The first fault of some lines, where there is one.
-pub enum Order {
-    Fine,
-    Refused(Refusal),
+// What checks 14 and 15 of the lines after the first find: nothing, or the first fault.
+pub enum LinesCheck {
+    LinesFine,
+    LinesRefused(Refusal),
 }

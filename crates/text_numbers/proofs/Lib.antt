@@ -1,7 +1,5 @@
--- Laws of numerals. Each file opens with what it holds.
+-- Laws of places, runs of digits and numbers of a text. Each file opens with what it holds.
 pub mod Places
-pub mod Examples
--- Laws of runs of digits.
 pub mod Runs
--- Laws of reading a number.
 pub mod Numbers
+pub mod Examples

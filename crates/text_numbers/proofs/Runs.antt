@@ -8,7 +8,7 @@ use borrow.Author.Tests.{le-leb, lt-leb, ltb-true, ltb-false}
 use lib.Dec.{ltb}
 use lib.ListN.{length, drop, drop-of-length-le}
 use Rattle.text_numbers.specs.Numerals.{byte, isDigit, valueFrom, digitCount}
-use Rattle.text_numbers.specs.Digits.{StandsFor, Digits}
+use Rattle.text_numbers.specs.Inside.{StandsFor, DigitRun}
 use Rattle.text_numbers.proofs.Places.{byte-first}
 
 -- ---- which bytes are digits
@@ -40,20 +40,20 @@ pub reading-start : (s : List ℕ) (at : ℕ) → Reading s at 0 at
 reading-start s at = record { value = record { low = λ _. refl; high = λ h. h }; next = refl }
 
 module _ {s : List ℕ} {at v i : ℕ} (r : Reading s at v i) where
-  ended : (bs : List ℕ) → drop i s ≡ bs → valueFrom v bs ≡ v → digitCount bs ≡ 0 → Digits (drop at s) at v i
+  ended : (bs : List ℕ) → drop i s ≡ bs → valueFrom v bs ≡ v → digitCount bs ≡ 0 → DigitRun (drop at s) at v i
   ended bs e p q = record {
     value = rw (e, p) at (r .value);
     after = let c = rw (e, q) at (r .next) in omega arith;
   }
 
   -- the text is over
-  pub reading-over : length s ≤ i → Digits (drop at s) at v i
+  pub reading-over : length s ≤ i → DigitRun (drop at s) at v i
   unfolding valueFrom digitCount
   reading-over h = ended [] (drop-of-length-le s h) refl refl
 
   module _ (h : i < length s) where
     -- another byte stands at place i
-    pub reading-stopped : isDigit (byte s i) ≡ false → Digits (drop at s) at v i
+    pub reading-stopped : isDigit (byte s i) ≡ false → DigitRun (drop at s) at v i
     unfolding valueFrom digitCount
     reading-stopped e = ended (byte s i ∷ drop (i + 1) s) (byte-first s i h) (rw (valueFrom, e)) (rw (digitCount, e))
 

@@ -1,4 +1,3 @@
--- What a reader must believe of numerals: the number that stands at a place of a text.
+-- Numerals: the number that stands at a place of a text; and, inside, what the loop over digits answers.
 pub mod Numerals
--- What the contract of the loop over digits cites; no public promise does.
-pub mod Digits
+pub mod Inside

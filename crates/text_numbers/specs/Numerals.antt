@@ -1,5 +1,5 @@
--- Decimal numbers in a text (document 01, "Text program"): without leading zeros or −0, the minus being byte 45, within 32 bits signed. A text is the list of its
--- bytes, and a place is an index, from 0.
+-- Decimal numbers in a text (document 01, "Text program"): without leading zeros or −0, the minus being byte 45, within
+-- 32 bits signed. A text is the list of its bytes, and a place is an index, from 0.
 use mathlib.Core.Bool.{Bool, _&&_, cond}
 use mathlib.Core.List.{List, [], _∷_}
 use Prim.Native.Nat.{ℕ, suc, _+_, _-_, _*_}
@@ -7,9 +7,9 @@ use lib.Dec.{leb, eqb}
 use lib.ListN.{getD, drop}
 use lib.IntN.{pos, negℤ}
 use Rattle.text_numbers.specs.declared.numerals.Number.{Number}
-use Rattle.text_numbers.specs.declared.numerals.Number.the-variants.{Is, Nothing}
+use Rattle.text_numbers.specs.declared.numerals.Number.the-variants.{IsNumber, NoNumber}
 use Rattle.text_numbers.specs.declared.numerals.Natural.{Natural}
-use Rattle.text_numbers.specs.declared.numerals.Natural.the-variants.{Is as IsNatural, Nothing as NoNatural}
+use Rattle.text_numbers.specs.declared.numerals.Natural.the-variants.{IsNatural, NoNatural}
 
 -- the byte at place i; past the end it is 0, which no numeral and no form has
 abbrev pub byte : List ℕ → ℕ → ℕ
@@ -37,16 +37,16 @@ naturalAt s i =
 
 -- with a sign: 2^31 is in range only below zero
 abbrev pub plus : Natural → Number
-plus (IsNatural n next) = cond (leb n 2147483647) (Is (pos n) next) Nothing
-plus NoNatural = Nothing
+plus (IsNatural n next) = cond (leb n 2147483647) (IsNumber (pos n) next) NoNumber
+plus NoNatural = NoNumber
 
 abbrev pub minus : Natural → Number
-minus (IsNatural n next) = Is (negℤ (pos n)) next
-minus NoNatural = Nothing
+minus (IsNatural n next) = IsNumber (negℤ (pos n)) next
+minus NoNatural = NoNumber
 
 -- the number at place i, and the place after it: a 0 by itself, or digits that start with none, after a minus or not
 unfoldable pub numberAt : List ℕ → ℕ → Number
 numberAt s i =
-    cond (eqb (byte s i) 48) (Is (pos 0) (i + 1))
+    cond (eqb (byte s i) 48) (IsNumber (pos 0) (i + 1))
     (cond (eqb (byte s i) 45) (minus (naturalAt s (i + 1)))
     (plus (naturalAt s i)))

@@ -3,7 +3,7 @@ ghost use mathlib.Core.Path.{_≡_};
 ghost use Prim.Native.Nat.{_≤_, _*_, _-_};
 ghost use lib.ListN.{length, drop};
 ghost use Rattle.text_numbers.specs.Numerals.{byte};
-ghost use Rattle.text_numbers.specs.Digits.{Digits};
+ghost use Rattle.text_numbers.specs.Inside.{DigitRun};
 
 // The value of a run of digits, and the place after it.
 pub struct Run {
@@ -19,8 +19,8 @@ pub fn byte_at(text: &[u8], i: usize) -> u8
 }
 
 // The digits from place `at` on. A value above 2^32 need not be right, and stays above.
-pub fn digits(text: &[u8], at: usize) -> Run
-    ensures { λ r. ⌜ Digits (drop at (now (text .entry))) at (r .value) (r .next) ⌝ }
+pub fn digit_run(text: &[u8], at: usize) -> Run
+    ensures { λ r. ⌜ DigitRun (drop at (now (text .entry))) at (r .value) (r .next) ⌝ }
 {
     let mut value: u64 = 0;
     let mut i = at;

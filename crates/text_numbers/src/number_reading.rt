@@ -4,38 +4,38 @@ ghost use Prim.Native.Nat.{_≤_};
 ghost use lib.IntN.{pos, negℤ};
 ghost use Rattle.text_numbers.specs.Numerals.{naturalAt, numberAt};
 use crate::digit_runs::byte_at;
-use crate::digit_runs::digits;
+use crate::digit_runs::digit_run;
 use crate::numerals::Natural;
 use crate::numerals::Number;
 
-// The number that stands at a place: digits without leading zeros, a minus before them or not, within 32 bits signed. Every text and every place may be
-// asked about.
+// The number that stands at a place: digits without leading zeros, a minus before them or not, within 32 bits signed.
+// Every text and every place may be asked about.
 pub fn number_at(text: &[u8], i: usize) -> Number
     ensures { λ r. ⌜ r ≡ numberAt (now (text .entry)) i ⌝ }
 {
     let b = byte_at(text, i);
     if b == 48 {
-        return Number::Is(0, i + 1);
+        return Number::IsNumber(0, i + 1);
     }
     if b == 45 {
         match natural_at(text, i + 1) {
-            Natural::Is(value, next) => {
-                return Number::Is(negative(value), next);
+            Natural::IsNatural(value, next) => {
+                return Number::IsNumber(negative(value), next);
             }
-            Natural::Nothing => {
-                return Number::Nothing;
+            Natural::NoNatural => {
+                return Number::NoNumber;
             }
         }
     }
     match natural_at(text, i) {
-        Natural::Is(value, next) => {
+        Natural::IsNatural(value, next) => {
             if value <= 2147483647 {
-                Number::Is(positive(value), next)
+                Number::IsNumber(positive(value), next)
             } else {
-                Number::Nothing
+                Number::NoNumber
             }
         }
-        Natural::Nothing => Number::Nothing,
+        Natural::NoNatural => Number::NoNumber,
     }
 }
 
@@ -45,20 +45,21 @@ fn natural_at(text: &[u8], i: usize) -> Natural
 {
     let first = byte_at(text, i);
     if first < 49 {
-        return Natural::Nothing;
+        return Natural::NoNatural;
     }
     if 57 < first {
-        return Natural::Nothing;
+        return Natural::NoNatural;
     }
-    let run = digits(text, i);
+    let run = digit_run(text, i);
     let value = run.value;
     if value <= 2147483648 {
-        Natural::Is(value, run.next)
+        Natural::IsNatural(value, run.next)
     } else {
-        Natural::Nothing
+        Natural::NoNatural
     }
 }
 
+// The value as a number of 32 bits signed.
 fn positive(value: u64) -> i32
     requires { ⌜ value ≤ 2147483647 ⌝ }
     ensures { λ r. ⌜ r ≡ pos value ⌝ }
@@ -66,6 +67,7 @@ fn positive(value: u64) -> i32
     value as i32
 }
 
+// The value below zero, as a number of 32 bits signed.
 fn negative(value: u64) -> i32
     requires { ⌜ value ≤ 2147483648 ⌝ }
     ensures { λ r. ⌜ r ≡ negℤ (pos value) ⌝ }

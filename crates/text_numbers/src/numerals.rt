@@ -2,12 +2,12 @@
 
 // A number and the place after it, where one stands.
 pub enum Number {
-    Is(i32, usize),
-    Nothing,
+    IsNumber(i32, usize),
+    NoNumber,
 }
 
-// The same without a sign, from 1 to 2147483648.
+// A number without a sign, from 1 to 2147483648, and the place after it, where one stands.
 pub enum Natural {
-    Is(u64, usize),
-    Nothing,
+    IsNatural(u64, usize),
+    NoNatural,
 }

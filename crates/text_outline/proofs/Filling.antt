@@ -19,17 +19,21 @@ use Rattle.text_forms.specs.Forms.{formAt}
 use Rattle.write_numbers.specs.Appends.{Appended}
 use Rattle.write_numbers.proofs.Appends.{append-none, append-both, appended-length}
 use Rattle.text_lines.specs.Lines.{linesFrom, linesOf}
-use Rattle.text_lines.specs.Meaning.{numbersOf}
-use Rattle.text_outline.specs.Outlines.{kept, firstNumbers}
+use Rattle.text_lines.specs.Meaning.{numbersOfCurve}
+use Rattle.text_outline.specs.Outlines.{kept}
+use Rattle.text_outline.specs.Inside.{firstNumbers}
 use Rattle.text_lines.proofs.Lines.{linesLeft, lines-over, lines-start, line-none, line-tolerance, line-curve, line-point}
 
 -- ---- a pair, and a pair after other numbers
-pub put-both : (d o u : List ℤ) (i j k : ℕ) (x y : ℤ) → Appended d i (stored w32 x ∷ []) o j → Appended o j (stored w32 y ∷ []) u k → SFits w32 x → SFits w32 y
+pub put-both : (d o u : List ℤ) (i j k : ℕ) (x y : ℤ) → Appended d i (stored w32 x ∷ []) o j → Appended o j (stored w32 y ∷ []) u k → SFits w32 x
+    → SFits w32 y
     → Appended d i (x ∷ y ∷ []) u k
 put-both d o u i j k x y p q hx hy =
-    append-both d o u (x ∷ []) (y ∷ []) i j k (subst (λ (z : ℤ). Appended d i (z ∷ []) o j) (toZ-ofZ hx) p) (subst (λ (z : ℤ). Appended o j (z ∷ []) u k) (toZ-ofZ hy) q)
+    append-both d o u (x ∷ []) (y ∷ []) i j k (subst (λ (z : ℤ). Appended d i (z ∷ []) o j) (toZ-ofZ hx) p)
+    (subst (λ (z : ℤ). Appended o j (z ∷ []) u k) (toZ-ofZ hy) q)
 
-then-pair : (d o u : List ℤ) (i j k : ℕ) (xs : List ℤ) (x y : ℤ) → Appended d i xs o j → Appended o j (stored w32 x ∷ stored w32 y ∷ []) u k → mag x < 2 ^ 31 → mag y < 2 ^ 31
+then-pair : (d o u : List ℤ) (i j k : ℕ) (xs : List ℤ) (x y : ℤ) → Appended d i xs o j → Appended o j (stored w32 x ∷ stored w32 y ∷ []) u k
+    → mag x < 2 ^ 31 → mag y < 2 ^ 31
     → Appended d i (xs ++ (x ∷ y ∷ [])) u k
 then-pair d o u i j k xs x y p q hx hy = append-both d o u xs (x ∷ y ∷ []) i j k p (rw (read-again w32 x hx, read-again w32 y hy) at q)
 
@@ -48,26 +52,29 @@ degree-test : (p : Points) (m : ℤ) (b : Bool) → mag (p .degree) < 2 ^ 31 →
 degree-test p m b h e = rw (read-again w32 (p .degree) h) at e
 
 module _ (d o : List ℤ) (i j : ℕ) (p : Points) (a : Appended d i (firstNumbers p) o j) (m : mag (p .degree) < 2 ^ 31) where
-  pub put-line : ltZ (stored w32 (p .degree)) (pos 2) ≡ true → Appended d i (numbersOf p) o j
-  unfolding numbersOf
-  put-line h = rw (numbersOf, degree-test p (pos 2) true m h) a
+  pub put-line : ltZ (stored w32 (p .degree)) (pos 2) ≡ true → Appended d i (numbersOfCurve p) o j
+  unfolding numbersOfCurve
+  put-line h = rw (numbersOfCurve, degree-test p (pos 2) true m h) a
 
-  module _ (h : ltZ (stored w32 (p .degree)) (pos 2) ≡ false) (u : List ℤ) (k : ℕ) (b : Appended o j (stored w32 (p .x2) ∷ stored w32 (p .y2) ∷ []) u k)
+  module _ (h : ltZ (stored w32 (p .degree)) (pos 2) ≡ false) (u : List ℤ) (k : ℕ)
+      (b : Appended o j (stored w32 (p .x2) ∷ stored w32 (p .y2) ∷ []) u k)
       (hx : mag (p .x2) < 2 ^ 31) (hy : mag (p .y2) < 2 ^ 31) where
     three : Appended d i (firstNumbers p ++ (p .x2 ∷ p .y2 ∷ [])) u k
     three = then-pair d o u i j k (firstNumbers p) (p .x2) (p .y2) a b hx hy
 
-    pub put-quadratic : ltZ (stored w32 (p .degree)) (pos 3) ≡ true → Appended d i (numbersOf p) u k
-    unfolding numbersOf
-    put-quadratic l = rw (numbersOf, degree-test p (pos 2) false m h, degree-test p (pos 3) true m l) three
+    pub put-quadratic : ltZ (stored w32 (p .degree)) (pos 3) ≡ true → Appended d i (numbersOfCurve p) u k
+    unfolding numbersOfCurve
+    put-quadratic l = rw (numbersOfCurve, degree-test p (pos 2) false m h, degree-test p (pos 3) true m l) three
 
-    pub put-cubic : ltZ (stored w32 (p .degree)) (pos 3) ≡ false → (v : List ℤ) (n : ℕ) → Appended u k (stored w32 (p .x3) ∷ stored w32 (p .y3) ∷ []) v n
-        → mag (p .x3) < 2 ^ 31 → mag (p .y3) < 2 ^ 31 → Appended d i (numbersOf p) v n
-    unfolding numbersOf
-    put-cubic l v n c hx′ hy′ = rw (numbersOf, degree-test p (pos 2) false m h, degree-test p (pos 3) false m l)
+    pub put-cubic : ltZ (stored w32 (p .degree)) (pos 3) ≡ false → (v : List ℤ) (n : ℕ)
+        → Appended u k (stored w32 (p .x3) ∷ stored w32 (p .y3) ∷ []) v n
+        → mag (p .x3) < 2 ^ 31 → mag (p .y3) < 2 ^ 31 → Appended d i (numbersOfCurve p) v n
+    unfolding numbersOfCurve
+    put-cubic l v n c hx′ hy′ = rw (numbersOfCurve, degree-test p (pos 2) false m h, degree-test p (pos 3) false m l)
         (then-pair d u v i k n (firstNumbers p ++ (p .x2 ∷ p .y2 ∷ [])) (p .x3) (p .y3) three c hx′ hy′)
 
--- ---- `keep_outline`: of the lines from place i on, `left` curves are to be kept; what the lines before them gave stands in the list, which was d and is o
+-- ---- `keep_outline`: of the lines from place i on, `left` curves are to be kept; what the lines before them gave stands in the list, which was d
+-- and is o
 pub record Keeping (s : List ℕ) (d o : List ℤ) (at i left : ℕ) : Type 0 where
   pub done : List ℤ
   pub split : kept 64 (linesOf s) ≡ done ++ kept left (linesFrom (length s - i) s i)
@@ -75,8 +82,8 @@ pub record Keeping (s : List ℕ) (d o : List ℤ) (at i left : ℕ) : Type 0 wh
   pub size : length o ≡ length d
   pub room : at + 9 * left + 1 ≤ length d
 
-pub few-numbers : (p : Points) → length (numbersOf p) ≤ 9
-unfolding numbersOf
+pub few-numbers : (p : Points) → length (numbersOfCurve p) ≤ 9
+unfolding numbersOfCurve
 few-numbers p = either (ltZ (p .degree) (pos 2)) (ltZ (p .degree) (pos 3))
   where
     either : (a b : Bool) → length (firstNumbers p ++ cond {A = List ℤ} a [] (p .x2 ∷ p .y2 ∷ cond {A = List ℤ} b [] (p .x3 ∷ p .y3 ∷ []))) ≤ 9
@@ -132,15 +139,22 @@ module _ (s : List ℕ) (d : List ℤ) where
             (sym (found ∙ ap (λ (n : ℕ). r .done ++ kept n (Curve p j ∷ linesLeft s j)) z))
             (append-both d o u (r .done) (p .degree ∷ []) 0 at k (r .put) (rw (read-again w32 (p .degree) m) at a))
 
-        pub keep-curve : (left ≡ 0 → ⊥) → Appended o at (numbersOf p) u k → Keeping s d u k j (left - 1)
+        pub keep-curve : (left ≡ 0 → ⊥) → Appended o at (numbersOfCurve p) u k → Keeping s d u k j (left - 1)
         unfolding kept
         keep-curve z a = record {
-          done = r .done ++ numbersOf p;
-          split = found ∙ ap (λ (n : ℕ). r .done ++ kept n (Curve p j ∷ linesLeft s j)) one-less ∙ sym (append-assoc (r .done) (numbersOf p) (kept (left - 1) (linesLeft s j)));
-          put = append-both d o u (r .done) (numbersOf p) 0 at k (r .put) a;
-          size = appended-length o at (numbersOf p) u k a ∙ r .size;
+          done = r .done ++ numbersOfCurve p;
+          split =
+              found ∙ ap (λ (n : ℕ). r .done ++ kept n (Curve p j ∷ linesLeft s j)) one-less
+              ∙ sym (append-assoc (r .done) (numbersOfCurve p) (kept (left - 1) (linesLeft s j)));
+          put = append-both d o u (r .done) (numbersOfCurve p) 0 at k (r .put) a;
+          size = appended-length o at (numbersOfCurve p) u k a ∙ r .size;
           room = omega (arith, a .next, few-numbers p, r .room);
         }
           where
             one-less : left ≡ suc (left - 1)
             one-less = omega arith
+
+-- ---- a turn of the loop goes on past a line, or stops
+pub ruleset keep-past = (keep-tolerance, keep-curve, keep-point)
+
+pub ruleset keep-stops = (keep-no-form, keep-last, keep-over)

@@ -19,7 +19,8 @@ use Rattle.outline.specs.Curves.{coordinates, degreeAt, nextAt, values, curveAt
 use Rattle.integers.specs.Between.{between}
 use Rattle.integers.specs.Equal.{equal}
 use Rattle.integers.specs.First.{firstBad}
-use Rattle.outline.specs.Faults.{coordinateFine, firstBeyond, meetsBefore, faultAt, foundOf, faultOf}
+use Rattle.outline.specs.Faults.{coordinateFine, firstBeyond, meetsBefore, faultAt}
+use Rattle.outline.specs.Inside.{foundOf, faultOf}
 use Rattle.outline.specs.Checks.{faulty, withCurve, outlineFrom, outlined}
 use Rattle.outline.proofs.Faultless.{lastFault, fault-degree, fault-last}
 use Rattle.outline.proofs.Steps.{outline-full, outline-faulty, outline-step}
@@ -28,8 +29,8 @@ use Rattle.text_forms.specs.declared.forms.Form.{Form}
 use Rattle.text_forms.specs.declared.forms.Form.the-variants.{Tolerance, Curve as CurveLine, Point, NoForm}
 use Rattle.text_forms.specs.Forms.{formAt}
 use Rattle.text_forms.proofs.FormReach.{OneToThree, Reaches, form-reaches}
-use Rattle.text_lines.specs.Lines.{onward, linesFrom, linesOf, gather}
-use Rattle.text_lines.specs.Meaning.{numbersOf, curveNumbers, means, meaning}
+use Rattle.text_lines.specs.Lines.{linesAfter, linesFrom, linesOf, gather}
+use Rattle.text_lines.specs.Meaning.{numbersOfCurve, curveNumbers, means, meaning}
 use Rattle.text_outline.specs.Outlines.{kept}
 use Rattle.text_outline.proofs.Filling.{few-numbers}
 use Rattle.text_lines.proofs.Accepted.{accepted}
@@ -51,7 +52,8 @@ module _ {ns ms : List ℤ} {e : ℕ} (a : Agree ns ms e) where
   unfolding firstBad
   beyond-same zero i h = refl
   beyond-same (suc n) i h =
-      ap₂ (λ (z : ℤ) (o : Option ℕ). elim (coordinateFine z) [ true ↦ o | false ↦ some i ]) (a .same i (omega arith)) (beyond-same n (i + 1) (omega arith))
+      ap₂ (λ (z : ℤ) (o : Option ℕ). elim (coordinateFine z) [ true ↦ o | false ↦ some i ]) (a .same i (omega arith))
+      (beyond-same n (i + 1) (omega arith))
 
   -- a curve whose degree stands at index `at`, all of it before index e
   module _ (at : ℕ) (h : nextAt ns at ≤ e) where
@@ -83,7 +85,8 @@ module _ {ns ms : List ℤ} {e : ℕ} (a : Agree ns ms e) where
     values-same : (i : ℕ) → i ≤ 2 → values ns (degreeAt ns at) (at + i) ≡ values ms (degreeAt ns at) (at + i)
     values-same i l = listed-ext 4 _ _ (λ k m. either k (leb k (degreeAt ns at)) refl)
       where
-        either : (k : ℕ) (b : Bool) → leb k (degreeAt ns at) ≡ b → cond b (entry ns (at + i + 2 * k)) (pos 0) ≡ cond b (entry ms (at + i + 2 * k)) (pos 0)
+        either : (k : ℕ) (b : Bool) → leb k (degreeAt ns at) ≡ b
+            → cond b (entry ns (at + i + 2 * k)) (pos 0) ≡ cond b (entry ms (at + i + 2 * k)) (pos 0)
         either k true f = a .same (at + i + 2 * k) (omega (arith, leb-true k (degreeAt ns at) f))
         either k false f = refl
 
@@ -106,7 +109,8 @@ unfolding linesFrom
 lines-degrees zero s i = tt
 lines-degrees (suc n) s i = either (ltb i (length s)) (formAt s i) (form-reaches s i) (lines-degrees n s)
   where
-    either : (b : Bool) (f : Form) → Reaches i (length s) f → ((j : ℕ) → Degrees (linesFrom n s j)) → Degrees (cond b (f ∷ onward f (linesFrom n s)) [])
+    either : (b : Bool) (f : Form) → Reaches i (length s) f → ((j : ℕ) → Degrees (linesFrom n s j))
+        → Degrees (cond b (f ∷ linesAfter f (linesFrom n s)) [])
     either false f r again = tt
     either true (Tolerance t j) r again = again j
     either true (CurveLine p j) r again = (r .1, again j)
@@ -115,10 +119,12 @@ lines-degrees (suc n) s i = either (ltb i (length s)) (formAt s i) (form-reaches
 
 -- ---- a curve's numbers are its degree and d + 1 points
 abbrev numbersBy : Points → ℤ → List ℤ
-numbersBy p z = z ∷ p .x0 ∷ p .y0 ∷ p .x1 ∷ p .y1 ∷ cond {A = List ℤ} (ltZ z (pos 2)) [] (p .x2 ∷ p .y2 ∷ cond {A = List ℤ} (ltZ z (pos 3)) [] (p .x3 ∷ p .y3 ∷ []))
+numbersBy p z =
+    z ∷ p .x0 ∷ p .y0 ∷ p .x1 ∷ p .y1 ∷ cond {A = List ℤ} (ltZ z (pos 2)) []
+    (p .x2 ∷ p .y2 ∷ cond {A = List ℤ} (ltZ z (pos 3)) [] (p .x3 ∷ p .y3 ∷ []))
 
-numbers-length : (p : Points) → OneToThree (p .degree) → length (numbersOf p) ≡ 1 + coordinates (natAbs (p .degree))
-unfolding numbersOf
+numbers-length : (p : Points) → OneToThree (p .degree) → length (numbersOfCurve p) ≡ 1 + coordinates (natAbs (p .degree))
+unfolding numbersOfCurve
 numbers-length p r = subst (λ (z : ℤ). length (numbersBy p z) ≡ 1 + coordinates (natAbs z)) (sym (r .is)) (each (r .natural) (r .least) (r .most))
   where
     each : (d : ℕ) → 1 ≤ d → d ≤ 3 → length (numbersBy p (pos d)) ≡ 1 + coordinates d
@@ -131,41 +137,45 @@ numbers-length p r = subst (λ (z : ℤ). length (numbersBy p z) ≡ 1 + coordin
 -- ---- a curve after the numbers `front`, and whatever follows it
 module _ (front : List ℤ) (p : Points) (d : OneToThree (p .degree)) (xs ys : List ℤ) where
   abbrev whole : List ℤ → List ℤ
-  whole zs = front ++ (numbersOf p ++ zs)
+  whole zs = front ++ (numbersOfCurve p ++ zs)
 
   degree-there : (zs : List ℤ) → entry (whole zs) (length front) ≡ p .degree
-  unfolding numbersOf
+  unfolding numbersOfCurve
   degree-there zs = getD-append-seam front (p .degree) _ (pos 0)
 
-  inside : (zs : List ℤ) (k : ℕ) → k < length (front ++ numbersOf p) → entry (whole zs) k ≡ entry (front ++ numbersOf p) k
-  inside zs k h = ap (λ (l : List ℤ). entry l k) (sym (append-assoc front (numbersOf p) zs)) ∙ List·getD-append (front ++ numbersOf p) zs (pos 0) k h
+  inside : (zs : List ℤ) (k : ℕ) → k < length (front ++ numbersOfCurve p) → entry (whole zs) k ≡ entry (front ++ numbersOfCurve p) k
+  inside zs k h =
+      ap (λ (l : List ℤ). entry l k) (sym (append-assoc front (numbersOfCurve p) zs)) ∙ List·getD-append (front ++ numbersOfCurve p) zs (pos 0) k h
 
-  reaches : (zs : List ℤ) → length (front ++ numbersOf p) ≤ length (whole zs)
-  reaches zs = omega (arith, ap length (append-assoc front (numbersOf p) zs), length-append (front ++ numbersOf p) zs)
+  reaches : (zs : List ℤ) → length (front ++ numbersOfCurve p) ≤ length (whole zs)
+  reaches zs = omega (arith, ap length (append-assoc front (numbersOfCurve p) zs), length-append (front ++ numbersOfCurve p) zs)
 
-  agree : Agree (whole xs) (whole ys) (length (front ++ numbersOf p))
+  agree : Agree (whole xs) (whole ys) (length (front ++ numbersOfCurve p))
   agree = record { same = λ k h. inside xs k h ∙ sym (inside ys k h); first = reaches xs; second = reaches ys }
 
-  next-there : (zs : List ℤ) → nextAt (whole zs) (length front) ≡ length (front ++ numbersOf p)
+  next-there : (zs : List ℤ) → nextAt (whole zs) (length front) ≡ length (front ++ numbersOfCurve p)
   next-there zs =
       ap (λ (z : ℤ). length front + 1 + coordinates (natAbs z)) (degree-there zs)
-      ∙ omega (arith, numbers-length p d, length-append front (numbersOf p))
+      ∙ omega (arith, numbers-length p d, length-append front (numbersOfCurve p))
 
   -- the checks of this curve are the same, and then those of the rest
-  after-curve : (most : ℕ) → outlineFrom most ((front ++ numbersOf p) ++ xs) (length (front ++ numbersOf p)) ≡ outlineFrom most ((front ++ numbersOf p) ++ ys) (length (front ++ numbersOf p))
+  after-curve : (most : ℕ) → outlineFrom most ((front ++ numbersOfCurve p) ++ xs) (length (front ++ numbersOfCurve p))
+      ≡ outlineFrom most ((front ++ numbersOfCurve p) ++ ys) (length (front ++ numbersOfCurve p))
       → outlineFrom (suc most) (whole xs) (length front) ≡ outlineFrom (suc most) (whole ys) (length front)
   after-curve most again = either (faultAt (whole xs) (length front)) refl
     where
-      reach : nextAt (whole xs) (length front) ≤ length (front ++ numbersOf p)
+      reach : nextAt (whole xs) (length front) ≤ length (front ++ numbersOfCurve p)
       reach = omega (arith, next-there xs)
 
       within : (zs : List ℤ) → length front < length (whole zs)
-      within zs = omega (arith, reaches zs, length-append front (numbersOf p), numbers-length p d)
+      within zs = omega (arith, reaches zs, length-append front (numbersOfCurve p), numbers-length p d)
 
-      moved : (zs : List ℤ) → outlineFrom most (whole zs) (nextAt (whole zs) (length front)) ≡ outlineFrom most ((front ++ numbersOf p) ++ zs) (length (front ++ numbersOf p))
-      moved zs = ap₂ (outlineFrom most) (sym (append-assoc front (numbersOf p) zs)) (next-there zs)
+      moved : (zs : List ℤ) → outlineFrom most (whole zs) (nextAt (whole zs) (length front))
+          ≡ outlineFrom most ((front ++ numbersOfCurve p) ++ zs) (length (front ++ numbersOfCurve p))
+      moved zs = ap₂ (outlineFrom most) (sym (append-assoc front (numbersOfCurve p) zs)) (next-there zs)
 
-      either : (o : Option Refusal) → faultAt (whole xs) (length front) ≡ o → outlineFrom (suc most) (whole xs) (length front) ≡ outlineFrom (suc most) (whole ys) (length front)
+      either : (o : Option Refusal) → faultAt (whole xs) (length front) ≡ o
+          → outlineFrom (suc most) (whole xs) (length front) ≡ outlineFrom (suc most) (whole ys) (length front)
       either (some r) e =
           outline-faulty (whole xs) (length front) most r (within xs) e
           ∙ sym (outline-faulty (whole ys) (length front) most r (within ys) (sym (fault-same agree (length front) reach) ∙ e))
@@ -182,14 +192,16 @@ kept-from [] d most front = refl
 kept-from (Tolerance t j ∷ ls) d most front = kept-from ls d most front
 kept-from (Point x y j ∷ ls) d most front = kept-from ls d most front
 kept-from (NoForm ∷ ls) d most front = kept-from ls d most front
-kept-from (CurveLine p j ∷ ls) d zero front = begins (p .degree ∷ []) (omega arith) ∙ sym (begins (numbersOf p ++ gather curveNumbers ls) some-there)
+kept-from (CurveLine p j ∷ ls) d zero front =
+    begins (p .degree ∷ []) (omega arith) ∙ sym (begins (numbersOfCurve p ++ gather curveNumbers ls) some-there)
   where
     begins : (zs : List ℤ) → 0 < length zs → outlineFrom 0 (front ++ zs) (length front) ≡ faulty (TooManyCurves (length front))
     begins zs h = outline-full (front ++ zs) (length front) (omega (arith, length-append front zs))
 
-    some-there : 0 < length (numbersOf p ++ gather curveNumbers ls)
-    some-there = omega (arith, length-append (numbersOf p) (gather curveNumbers ls), numbers-length p (d .0))
-kept-from (CurveLine p j ∷ ls) d (suc most) front = after-curve front p (d .0) (kept most ls) (gather curveNumbers ls) most (kept-from ls (d .1) most (front ++ numbersOf p))
+    some-there : 0 < length (numbersOfCurve p ++ gather curveNumbers ls)
+    some-there = omega (arith, length-append (numbersOfCurve p) (gather curveNumbers ls), numbers-length p (d .0))
+kept-from (CurveLine p j ∷ ls) d (suc most) front =
+    after-curve front p (d .0) (kept most ls) (gather curveNumbers ls) most (kept-from ls (d .1) most (front ++ numbersOfCurve p))
 
 -- ---- what is kept of the lines of a text
 not-empty : (most : ℕ) (ns : List ℤ) → 0 < length ns → outlined most ns ≡ outlineFrom most ns 0
@@ -198,8 +210,8 @@ not-empty most [] h = absurd (omega arith)
 not-empty most (z ∷ ns) h = refl
 
 module _ (p : Points) (j : ℕ) (ls : List Form) (d : OneToThree (p .degree)) where
-  curve-some : (xs : List ℤ) → 0 < length (numbersOf p ++ xs)
-  curve-some xs = omega (arith, length-append (numbersOf p) xs, numbers-length p d)
+  curve-some : (xs : List ℤ) → 0 < length (numbersOfCurve p ++ xs)
+  curve-some xs = omega (arith, length-append (numbersOfCurve p) xs, numbers-length p d)
 
   kept-some : (most : ℕ) → 0 < length (kept most (CurveLine p j ∷ ls))
   unfolding kept
@@ -215,12 +227,14 @@ kept-lines (NoForm ∷ ls) d most = kept-lines ls d most
 kept-lines (CurveLine p j ∷ ls) d most =
     not-empty most (kept most (CurveLine p j ∷ ls)) (kept-some p j ls (d .0) most)
     ∙ kept-from (CurveLine p j ∷ ls) d most []
-    ∙ sym (not-empty most (numbersOf p ++ gather curveNumbers ls) (curve-some p j ls (d .0) (gather curveNumbers ls)))
+    ∙ sym (not-empty most (numbersOfCurve p ++ gather curveNumbers ls) (curve-some p j ls (d .0) (gather curveNumbers ls)))
 
 -- ---- and of a text that is accepted: the checks of its outline, and so banding, find the same
-pub outline-kept : (most : ℕ) (s : List ℕ) (T : ℤ) (outline : List ℤ) (points : List (ℤ × ℤ)) → meaning s ≡ means T outline points → outlined most (kept most (linesOf s)) ≡ outlined most outline
+pub outline-kept : (most : ℕ) (s : List ℕ) (T : ℤ) (outline : List ℤ) (points : List (ℤ × ℤ)) → meaning s ≡ means T outline points
+    → outlined most (kept most (linesOf s)) ≡ outlined most outline
 unfolding linesOf
-outline-kept most s T outline points e = kept-lines (linesOf s) (lines-degrees (length s) s 0) most ∙ ap (outlined most) (sym (accepted s T outline points e .outline))
+outline-kept most s T outline points e =
+    kept-lines (linesOf s) (lines-degrees (length s) s 0) most ∙ ap (outlined most) (sym (accepted s T outline points e .outline))
 
 -- ---- and it is no more than nine numbers a curve, and one
 pub kept-few : (most : ℕ) (ls : List Form) → length (kept most ls) ≤ 9 * most + 1
@@ -230,4 +244,4 @@ kept-few most (Tolerance t j ∷ ls) = kept-few most ls
 kept-few most (Point x y j ∷ ls) = kept-few most ls
 kept-few most (NoForm ∷ ls) = kept-few most ls
 kept-few zero (CurveLine p j ∷ ls) = omega arith
-kept-few (suc most) (CurveLine p j ∷ ls) = omega (arith, length-append (numbersOf p) (kept most ls), few-numbers p, kept-few most ls)
+kept-few (suc most) (CurveLine p j ∷ ls) = omega (arith, length-append (numbersOfCurve p) (kept most ls), few-numbers p, kept-few most ls)

@@ -1,2 +1,3 @@
--- What a reader must believe of the outline of a text: what the program keeps of it.
+-- The outline of a text: what the program keeps of it; and, inside, a part of one curve.
 pub mod Outlines
+pub mod Inside

@@ -4,16 +4,19 @@ ghost use Prim.Native.Nat.{_+_, _≤_, _<_};
 ghost use lib.ListN.{length};
 ghost use Rattle.write_numbers.specs.Appends.{Appended};
 ghost use Rattle.text_lines.specs.Lines.{linesOf};
-ghost use Rattle.text_lines.specs.Meaning.{numbersOf};
-ghost use Rattle.text_outline.specs.Outlines.{kept, firstNumbers};
+ghost use Rattle.text_lines.specs.Meaning.{numbersOfCurve};
+ghost use Rattle.text_outline.specs.Outlines.{kept};
+ghost use Rattle.text_outline.specs.Inside.{firstNumbers};
 use text_forms::forms::Form;
 use text_forms::forms::Points;
 
-// Puts the outline of a text at the front of a list, as far as the checks of an outline of 64 curves look at it, and answers how many numbers that are. Of a
-// text that is refused these are the curves before the first line that is no form.
+// Puts the outline of a text at the front of a list, as far as the checks of an outline of 64 curves look at it, and
+// answers how many numbers that are. Of a text that is refused these are the curves before the first line that is no
+// form.
 pub fn keep_outline(text: &[u8], numbers: &mut [i32]) -> usize
     requires { ⌜ 577 ≤ length (now numbers) ⌝ }
-    ensures { λ r. ⌜ Appended (now (numbers .entry)) 0 (kept 64 (linesOf (now (text .entry)))) (now (numbers .exit)) r ⌝ }
+    ensures { λ r. ⌜ Appended (now (numbers .entry)) 0 (kept 64 (linesOf (now (text .entry))))
+        (now (numbers .exit)) r ⌝ }
 {
     let mut at: usize = 0;
     let mut i: usize = 0;
@@ -45,7 +48,7 @@ pub fn keep_outline(text: &[u8], numbers: &mut [i32]) -> usize
 // A curve: its degree, then x and y of its points.
 fn put_curve(out: &mut [i32], at: usize, p: Points) -> usize
     requires { ⌜ at + 9 ≤ length (now out) ⌝ }
-    ensures { λ r. ⌜ Appended (now (out .entry)) at (numbersOf p) (now (out .exit)) r ⌝ }
+    ensures { λ r. ⌜ Appended (now (out .entry)) at (numbersOfCurve p) (now (out .exit)) r ⌝ }
 {
     let degree = p.degree;
     let i = put_first(out, at, p);
@@ -69,6 +72,7 @@ fn put_first(out: &mut [i32], at: usize, p: Points) -> usize
     put_pair(out, j, p.x1, p.y1)
 }
 
+// x and y of a point.
 fn put_pair(out: &mut [i32], at: usize, x: i32, y: i32) -> usize
     requires { ⌜ at + 2 ≤ length (now out) ⌝ }
     ensures { λ r. ⌜ Appended (now (out .entry)) at (x ∷ y ∷ []) (now (out .exit)) r ⌝ }
@@ -77,6 +81,7 @@ fn put_pair(out: &mut [i32], at: usize, x: i32, y: i32) -> usize
     put(out, i, y)
 }
 
+// One number.
 fn put(out: &mut [i32], at: usize, value: i32) -> usize
     requires { ⌜ at < length (now out) ⌝ }
     ensures { λ r. ⌜ Appended (now (out .entry)) at (value ∷ []) (now (out .exit)) r ⌝ }

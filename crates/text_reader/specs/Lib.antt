@@ -1,2 +1,2 @@
--- What a reader must believe of reading on.
+-- Reading on: the place after a line.
 pub mod Reading

@@ -1,6 +1,6 @@
 // The line reader: the text that it was lent, and how far it has read. The functions over it are thin, since each is
-// proved by a walk of its code; the reading itself is `text_forms::form_reading::form_at`. Other crates call `line_from`, whose
-// parameters are plain.
+// proved by a walk of its code; the reading itself is `text_forms::form_reading::form_at`. Other crates call
+// `line_from`, whose parameters are plain.
 ghost use mathlib.Core.Path.{_≡_};
 ghost use Rattle.text_forms.specs.Forms.{formAt};
 ghost use Rattle.text_reader.specs.Reading.{placeAfter};

@@ -7,16 +7,18 @@ use native.Mathlib.Nat.{div-le-self}
 use native.Mathlib.Omega.{arith}
 use lib.Count.{trailingZeros}
 use lib.IntN.{ℤ}
+use Rattle.setting.specs.Setting.{Setting}
 use Rattle.curve_nodes.specs.declared.Curve.{Curve}
-use Rattle.curve_nodes.specs.Halves.{leftHalf, onwardOf}
+use Rattle.curve_nodes.specs.Inside.{onwardOf, Halvable}
+use Rattle.curve_nodes.specs.Halves.{leftHalf}
 use Rattle.curve_nodes.specs.Nodes.{depth, nodeCurve, after}
-use Rattle.curve_nodes.specs.Bounds.{Sized, Halvable}
+use Rattle.curve_nodes.specs.Bounds.{Sized}
 use Rattle.curve_nodes.proofs.Numbers.{depth-under, node-one, node-half, after-shifted}
 use Rattle.curve_nodes.proofs.Sizes.{node-sized, node-halvable}
 use Rattle.curve_nodes.proofs.Onward.{NextStretch, next-stretch, few-zeros, node-onward}
 use Rattle.bound_node.specs.Boxes.{meets}
 use Rattle.walk_curve.specs.declared.Part.{Part}
-use Rattle.walk_curve.specs.Parts.{PartOf, Standing, leftPart, AfterOf}
+use Rattle.walk_curve.specs.Inside.{PartOf, Standing, leftPart, AfterOf}
 use Rattle.walk_curve.specs.Walked.{nodeMeets}
 
 -- node n with curve c
@@ -37,8 +39,9 @@ module _ {root : Curve} {p : Part} (h : PartOf root p) where
   part-halvable = rw (h .is) (node-halvable (h .sized) (p .node) (h .some) (h .deep))
 
   -- the test of a part, at the depth that the code computed, is the test of its node
-  pub part-meets : (T : ℤ) {k : ℕ} {r v : Bool} → k ≡ depth (p .node) → r ≡ meets T k (p .curve) → r ≡ v → nodeMeets T root (p .node) ≡ v
-  part-meets T e f g = ap₂ (λ k c. meets T k c) (sym e) (sym (h .is)) ∙ sym f ∙ g
+  pub part-meets : (σ : Setting) (T : ℤ) {k : ℕ} {r v : Bool} → k ≡ depth (p .node) → r ≡ meets σ T k (p .curve) → r ≡ v
+      → nodeMeets σ T root (p .node) ≡ v
+  part-meets σ T e f g = ap₂ (λ k c. meets σ T k c) (sym e) (sym (h .is)) ∙ sym f ∙ g
 
   pub part-left : p .node < 256 → PartOf root (leftPart p)
   part-left l = let n = p .node in record {

@@ -1,4 +1,4 @@
--- What a reader must believe of the walk of a curve: where it ends at a tolerance, and what it finds. `Parts` is only
--- for the contracts of its steps.
+-- What a reader must believe of the walk of a curve: when a node meets a tolerance, and where the walk ends. Inside is
+-- only for contracts within the engine.
 pub mod Walked
-pub mod Parts
+pub mod Inside

@@ -1,29 +1,18 @@
--- Where the walk of a curve ends at T, and what it finds (document 01, "Enclosure rows").
+-- The test of a node, and where the walk of a curve ends at T (document 01, "Enclosure rows").
 use mathlib.Core.Bool.{Bool}
 use mathlib.Core.List.{List}
-use mathlib.Core.Option.{none, some}
 use Prim.Native.Nat.{ℕ}
-use lib.ListN.{length}
 use lib.IntN.{ℤ}
+use Rattle.setting.specs.Setting.{Setting, deepest}
 use Rattle.curve_nodes.specs.declared.Curve.{Curve}
 use Rattle.curve_nodes.specs.Nodes.{depth, nodeCurve}
 use Rattle.bound_node.specs.Boxes.{meets}
-use Rattle.walk_curve.specs.declared.Walked.{Walked}
-use Rattle.walk_curve.specs.declared.Walked.the-variants.{Leaves, TooWide}
-use Rattle.walk_tree.specs.Tree.{ends, firstFailing}
-
--- greatest depth
-abbrev pub deepest : ℕ
-deepest = 8
+use Rattle.walk_tree.specs.Tree.{ends}
 
 -- node n of curve c meets T
-abbrev pub nodeMeets : ℤ → Curve → ℕ → Bool
-nodeMeets T c n = meets T (depth n) (nodeCurve c n)
+abbrev pub nodeMeets : Setting → ℤ → Curve → ℕ → Bool
+nodeMeets σ T c n = meets σ T (depth n) (nodeCurve c n)
 
 -- where the walk of curve c ends at T
-abbrev pub endsOf : ℤ → Curve → List ℕ
-endsOf T c = ends (nodeMeets T c) deepest 1
-
--- the first node at the last depth that does not meet T, or else how many leaves the curve has
-unfoldable pub walkedOf : ℤ → Curve → Walked
-walkedOf T c = elim (firstFailing (nodeMeets T c) (endsOf T c)) [ some n ↦ TooWide n | none ↦ Leaves (length (endsOf T c)) ]
+abbrev pub endsOf : Setting → ℤ → Curve → List ℕ
+endsOf σ T c = ends (nodeMeets σ T c) (deepest (c .degree)) 1

@@ -1,9 +1,9 @@
 // The walk of a curve in parameter order, from its root on: where it stands, its steps, and a curve walked.
 ghost use mathlib.Core.Path.{_≡_};
-ghost use Prim.Native.Nat.{_<_};
+ghost use Prim.Native.Nat.{_<_, _^_};
+ghost use Rattle.setting.specs.Setting.{standard, deepest};
 ghost use Rattle.curve_nodes.specs.Bounds.{Sized};
-ghost use Rattle.walk_curve.specs.Parts.{Standing, leftPart, AfterOf};
-ghost use Rattle.walk_curve.specs.Walked.{walkedOf};
+ghost use Rattle.walk_curve.specs.Inside.{Standing, leftPart, AfterOf, walkedOf};
 use curve_nodes::Curve;
 
 // Where a walk stands: a node, with the node's own curve. Every step follows from it alone, so no walk keeps a stack.
@@ -15,7 +15,7 @@ pub struct Part {
 impl Part {
     // The left half.
     pub fn left(self) -> Part
-        requires { ⌜ Standing self × (self .node < 256) ⌝ }
+        requires { ⌜ Standing self × (self .node < 2 ^ deepest (self .curve .degree)) ⌝ }
         ensures { λ r. ⌜ r ≡ leftPart self ⌝ }
     {
         let node = 2 * self.node;
@@ -42,16 +42,17 @@ impl Part {
     }
 }
 
-// What the walk of a curve finds: how many leaves it has, or the first node at the last depth that does not meet the tolerance.
+// What the walk of a curve finds: how many leaves it has, or the first node at the last depth that does not meet the
+// tolerance.
 pub enum Walked {
     Leaves(usize),
-    TooWide(u32),
+    WideNode(u32),
 }
 
 // The leaves of a curve, counted.
 pub fn walk(curve: Curve, t: i64) -> Walked
     requires { ⌜ Sized 0 curve ⌝ }
-    ensures { λ r. ⌜ r ≡ walkedOf t curve ⌝ }
+    ensures { λ r. ⌜ r ≡ walkedOf standard t curve ⌝ }
 {
     let mut part = Part { node: 1, curve };
     let mut leaves: usize = 0;
@@ -66,7 +67,7 @@ pub fn walk(curve: Curve, t: i64) -> Walked
             }
         } else {
             if 256 <= node {
-                return Walked::TooWide(node);
+                return Walked::WideNode(node);
             }
             part = part.left();
         }

@@ -11,7 +11,7 @@ use Rattle.integers.proofs.Order.{lt-or-ge}
 use Rattle.curve_nodes.specs.Nodes.{depth, start}
 use Rattle.curve_nodes.proofs.Numbers.{depth-one}
 use Rattle.walk_tree.specs.Tree.{ends}
-use Rattle.walk_tree.specs.Leaves.{Covers, EndToEnd, done, next}
+use Rattle.walk_tree.specs.Leaves.{Spans, EndToEnd, done, next}
 use Rattle.walk_tree.proofs.Halves.{Half, left-half, right-half, finer}
 use Rattle.walk_tree.proofs.Tree.{ends-induction}
 
@@ -22,14 +22,14 @@ module _ (p r : ℕ) where
     from : s * (p + r) ≤ w * p
     to : w * p ≤ (s + 1) * (p + r)
 
-  covers-half : {n c b : ℕ} → Half n c b → Between (2 * start n + b) (2 ^ depth n * 2) → Covers c p r
-  covers-half h i = let c = subst₂ Between (sym (h .starts)) (sym (finer h)) i in record { from = c .from; to = c .to }
+  spans-half : {n c b : ℕ} → Half n c b → Between (2 * start n + b) (2 ^ depth n * 2) → Spans c p r
+  spans-half h i = let c = subst₂ Between (sym (h .starts)) (sym (finer h)) i in record { from = c .from; to = c .to }
 
   -- a parameter of a node is one of its left half or of its right half
-  in-half : (n : ℕ) → 0 < n → Covers n p r → Covers (2 * n) p r ⊎ Covers (2 * n + 1) p r
+  in-half : (n : ℕ) → 0 < n → Spans n p r → Spans (2 * n) p r ⊎ Spans (2 * n + 1) p r
   in-half n hn h = ⊎-elim
-      (λ l. inl (covers-half (left-half n hn) (first (start n) (2 ^ depth n) (h .from) l)))
-      (λ l. inr (covers-half (right-half n hn) (second (start n) (2 ^ depth n) (h .to) l)))
+      (λ l. inl (spans-half (left-half n hn) (first (start n) (2 ^ depth n) (h .from) l)))
+      (λ l. inr (spans-half (right-half n hn) (second (start n) (2 ^ depth n) (h .to) l)))
       (lt-or-ge (2 ^ depth n * 2 * p) ((2 * start n + 1) * (p + r)))
     where
       first : (s w : ℕ) → s * (p + r) ≤ w * p → w * 2 * p < (2 * s + 1) * (p + r) → Between (2 * s + 0) (w * 2)
@@ -38,12 +38,12 @@ module _ (p r : ℕ) where
       second : (s w : ℕ) → w * p ≤ (s + 1) * (p + r) → (2 * s + 1) * (p + r) ≤ w * 2 * p → Between (2 * s + 1) (w * 2)
       second s w t l = record { from = omega arith; to = omega arith }
 
-  covers-one : Covers 1 p r
-  covers-one = record { from = rw depth-one (omega arith); to = rw depth-one (omega arith) }
+  spans-one : Spans 1 p r
+  spans-one = record { from = rw depth-one (omega arith); to = rw depth-one (omega arith) }
 
   module _ (test : ℕ → Bool) where
-    covered : (k n : ℕ) → 0 < n → Covers n p r → (m : ℕ) × List·Memᴰ m (ends test k n) × Covers m p r
-    covered = ends-induction test (λ k n ns. 0 < n → Covers n p r → (m : ℕ) × List·Memᴰ m ns × Covers m p r)
+    covered : (k n : ℕ) → 0 < n → Spans n p r → (m : ℕ) × List·Memᴰ m (ends test k n) × Spans m p r
+    covered = ends-induction test (λ k n ns. 0 < n → Spans n p r → (m : ℕ) × List·Memᴰ m ns × Spans m p r)
         (λ k n e hn h. (n, List·Memᴰ·head refl, h))
         (λ k n ls rs e l r hn h. ⊎-elim
         (λ i. let m = l (omega arith) i in (m .0, Memᴰ·append-left rs (m .1), m .2))
@@ -51,8 +51,8 @@ module _ (p r : ℕ) where
         (in-half n hn h))
 
     -- p and r may even both be 0
-    pub some-end-covers : (k : ℕ) → (n : ℕ) × List·Memᴰ n (ends test k 1) × Covers n p r
-    some-end-covers k = covered k 1 (omega arith) covers-one
+    pub some-end-spans : (k : ℕ) → (n : ℕ) × List·Memᴰ n (ends test k 1) × Spans n p r
+    some-end-spans k = covered k 1 (omega arith) spans-one
 
 -- ---- end to end
 -- two fractions that equal a third one are equal
@@ -73,7 +73,8 @@ both h (done {s} {w} c) d = begin-at s w h (sym c) d
 both h (next c cs) d = next c (both h cs d)
 
 -- the halves' stretches make the node's
-joined : {s w : ℕ} {ls rs : List ℕ} → 0 < w → EndToEnd (2 * s + 0) (w * 2) ls (2 * s + 0 + 1) (w * 2) → EndToEnd (2 * s + 1) (w * 2) rs (2 * s + 1 + 1) (w * 2)
+joined : {s w : ℕ} {ls rs : List ℕ} → 0 < w → EndToEnd (2 * s + 0) (w * 2) ls (2 * s + 0 + 1) (w * 2)
+    → EndToEnd (2 * s + 1) (w * 2) rs (2 * s + 1 + 1) (w * 2)
     → EndToEnd s w (ls ++ rs) (s + 1) w
 joined {s} {w} h l r =
     let hw : 0 < w * 2 = omega arith in

@@ -2,7 +2,8 @@
 use mathlib.Core.Path.{_≡_, refl, sym, _∙_, ap}
 use mathlib.Core.Bool.{Bool, true, false}
 use mathlib.Core.Logic.{⊎-elim, _↔_}
-use mathlib.Core.List.{List, [], _∷_, _++_, append-nil, List·Memᴰ·head, List·Memᴰ·tail, List·Memᴰ·not-nil, List·Memᴰ·cases-cons, List·Memᴰ·append-cases, List·Memᴰ·eq-of-singleton}
+use mathlib.Core.List.{List, [], _∷_, _++_, append-nil, List·Memᴰ·head}
+use mathlib.Core.List.{List·Memᴰ·tail, List·Memᴰ·not-nil, List·Memᴰ·cases-cons, List·Memᴰ·append-cases, List·Memᴰ·eq-of-singleton}
 use mathlib.Core.Option.{none, some, Option·some-injective, Option·none-ne-some, Option·some-ne-none}
 use Prim.Native.Nat.{ℕ}
 use Rattle.walk_tree.specs.Tree.{firstFailing}
@@ -29,7 +30,8 @@ module _ (test : ℕ → Bool) where
 
   behind : (front ns : List ℕ) → AllPass test front → firstFailing test (front ++ ns) ≡ firstFailing test ns
   behind [] ns h = refl
-  behind (m ∷ front) ns h = behind-passing m (front ++ ns) (h .each m (List·Memᴰ·head refl)) ∙ behind front ns (record { each = λ n i. h .each n (List·Memᴰ·tail i) })
+  behind (m ∷ front) ns h =
+      behind-passing m (front ++ ns) (h .each m (List·Memᴰ·head refl)) ∙ behind front ns (record { each = λ n i. h .each n (List·Memᴰ·tail i) })
 
   pub none-passing : (ns : List ℕ) → firstFailing test ns ≡ none → AllPass test ns
   none-passing [] e = pass-nil

@@ -5,7 +5,8 @@ use mathlib.Core.Bool.{Bool, true, false}
 use mathlib.Core.Logic.{⊎-elim, _↔_}
 use mathlib.Core.List.{List·Memᴰ, List·Memᴰ·head, List·Memᴰ·append-cases, List·Memᴰ·eq-of-singleton, Memᴰ·append-left, Memᴰ·append-right}
 use Prim.Native.Nat.{ℕ, zero, suc, _+_, _-_, _*_, _/_, _^_, _≤_, _<_, suc-le-suc}
-use native.Mathlib.Nat.{le-refl, pow-suc, div-one, div-div-eq-div-mul, le-div-iff-mul-le, div-lt-iff-lt-mul, pos-of-div-pos, lt-of-lt-of-le, div-eq-of-lt}
+use native.Mathlib.Nat.{le-refl, pow-suc, div-one, div-div-eq-div-mul, le-div-iff-mul-le}
+use native.Mathlib.Nat.{div-lt-iff-lt-mul, pos-of-div-pos, lt-of-lt-of-le, div-eq-of-lt}
 use native.Mathlib.Omega.{arith}
 use lib.Pow.{pow-pos, pow-mono}
 use Rattle.integers.proofs.Order.{lt-or-ge}
@@ -50,8 +51,15 @@ module _ (test : ℕ → Bool) where
   -- an end is reached
   reached : (n k m : ℕ) → List·Memᴰ n (ends test k m) → (j : ℕ) × Reached test k m n j
   reached n = ends-induction test (λ k m ns. List·Memᴰ n ns → (j : ℕ) × Reached test k m n j)
-      (λ k m h i. let e = List·Memᴰ·eq-of-singleton i in
-      (0, record { few = omega arith; from = div-one n ∙ e; through = λ i a b. absurd (omega arith); none-left = λ f. sym (h (ap test (sym e) ∙ f)) }))
+      (λ k m h i. let e = List·Memᴰ·eq-of-singleton i in (
+        0,
+        record {
+          few = omega arith;
+          from = div-one n ∙ e;
+          through = λ i a b. absurd (omega arith);
+          none-left = λ f. sym (h (ap test (sym e) ∙ f));
+        },
+      ))
       (λ k m ls rs e l r i. ⊎-elim
       (λ i. (suc (l i .0), reached-half (omega arith) e (l i .1)))
       (λ i. (suc (r i .0), reached-half (omega arith) e (r i .1)))

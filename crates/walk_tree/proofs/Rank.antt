@@ -1,6 +1,6 @@
--- A number that falls with each step of the walk, for any limit `most` of the depth: one more than the limit for each of the deepest nodes that the walk
--- has not passed, and one for each halving that is left. Halving a node leaves the first as it is and takes one of the second; a leaf takes at least
--- one of the first.
+-- A number that falls with each step of the walk, for any limit `most` of the depth: one more than the limit for each of the deepest nodes that the
+-- walk has not passed, and one for each halving that is left. Halving a node leaves the first as it is and takes one of the second; a leaf takes at
+-- least one of the first.
 use mathlib.Core.Path.{_≡_, sym, _∙_, ap}
 use mathlib.Core.Logic.{_⊎_, inl, inr, ⊎-elim}
 use Prim.Native.Nat.{ℕ, suc, _+_, _-_, _*_, _^_, _≤_, _<_}

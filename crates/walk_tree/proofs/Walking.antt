@@ -1,5 +1,5 @@
--- The walk without a stack, over any test of a node and any limit `most` of the depth. It stands at a node; a leaf leads to the node after it, another
--- node to its left half. What the walk has passed, the ends below its node and the ends that follow them are all the ends, in order.
+-- The walk without a stack, over any test of a node and any limit `most` of the depth. It stands at a node; a leaf leads to the node after it,
+-- another node to its left half. What the walk has passed, the ends below its node and the ends that follow them are all the ends, in order.
 use mathlib.Core.Path.{_≡_, refl, sym, _∙_, ap, ap₂}
 use mathlib.Core.Bool.{Bool, true, false}
 use mathlib.Core.Logic.{_⊎_, inl, inr, ⊎-elim}
@@ -37,7 +37,8 @@ module _ (test : ℕ → Bool) (most : ℕ) where
       let k = most - suc (depth n) in
       ap (λ (k : ℕ). ends test k n) {x = most - depth n} {y = suc k} (omega arith)
       ∙ ends-halved test k n e
-      ∙ ap₂ (λ (i j : ℕ). ends test (most - i) (2 * n) ++ ends test (most - j) (2 * n + 1)) (sym (left-half n hn .deeper)) (sym (right-half n hn .deeper))
+      ∙ ap₂ (λ (i j : ℕ). ends test (most - i) (2 * n) ++ ends test (most - j) (2 * n + 1)) (sym (left-half n hn .deeper))
+      (sym (right-half n hn .deeper))
 
   -- they begin with those below node a, which is at most d deep
   record Next (d a : ℕ) (ns : List ℕ) : Type 0 where
@@ -59,7 +60,13 @@ module _ (test : ℕ → Bool) (most : ℕ) where
   }))
   next (right {n} {ns} hn f) = rw (after-right n) (⊎-elim
       inl
-      (λ x. inr (record { node = x .node; within = omega (arith, x .within, right-half n hn .deeper); rest = x .rest; follow = x .follow; is = x .is }))
+      (λ x. inr (record {
+        node = x .node;
+        within = omega (arith, x .within, right-half n hn .deeper);
+        rest = x .rest;
+        follow = x .follow;
+        is = x .is;
+      }))
       (next f))
 
   -- the walk stands at node n and has passed these leaves; what is left are the ends below n and those that follow
@@ -99,7 +106,8 @@ module _ {test : ℕ → Bool} {most : ℕ} {passed : List ℕ} {n : ℕ} (w : W
     rest = below test most (2 * n + 1) ++ w .rest;
     follow = left (w .node) (w .follow);
     split = w .split ∙ ap (λ l. passed ++ l)
-        (ap (λ l. l ++ w .rest) (below-half test most n (w .node) e h) ∙ append-assoc (below test most (2 * n)) (below test most (2 * n + 1)) (w .rest));
+        (ap (λ l. l ++ w .rest) (below-half test most n (w .node) e h) ∙ append-assoc (below test most (2 * n)) (below test most (2 * n + 1))
+        (w .rest));
     passing = w .passing;
   }
 

@@ -1,5 +1,5 @@
--- What a leaf is, and the stretch of parameters that a node covers (document 01, "Halving" and "Enclosure rows"). Nothing here fixes the test of a node
--- or how many halvings there may be.
+-- What a leaf is, and the stretch of parameters of a node (document 01, "Halving" and "Enclosure rows"). Nothing here
+-- fixes the test of a node or how many halvings there may be.
 use mathlib.Core.Path.{_≡_}
 use mathlib.Core.Bool.{Bool, true, false}
 use mathlib.Core.List.{List, [], _∷_}
@@ -19,12 +19,14 @@ pub record Leaf (test : ℕ → Bool) (n : ℕ) : Type 0 where
   pub passes : test n ≡ true
   pub longest : (a : ℕ) → Ancestor a n → test a ≡ false
 
--- Node n covers the parameter p / (p + r), its two ends included.
-pub record Covers (n p r : ℕ) : Type 0 where
+-- The stretch of node n has the parameter p / (p + r), its two ends included.
+pub record Spans (n p r : ℕ) : Type 0 where
   pub from : start n * (p + r) ≤ 2 ^ depth n * p
   pub to : 2 ^ depth n * p ≤ (start n + 1) * (p + r)
 
--- The stretches of the nodes lie end to end, from the parameter s / w to the parameter t / u: each begins where the one before ends.
+-- The stretches of the nodes lie end to end, from the parameter s / w to the parameter t / u: each begins where the one
+-- before ends.
 pub data EndToEnd : (s w : ℕ) → List ℕ → (t u : ℕ) → Type 0 where
   done : {s w t u : ℕ} → s * u ≡ t * w → EndToEnd s w [] t u
-  next : {s w n t u : ℕ} {ns : List ℕ} → s * 2 ^ depth n ≡ start n * w → EndToEnd (start n + 1) (2 ^ depth n) ns t u → EndToEnd s w (n ∷ ns) t u
+  next : {s w n t u : ℕ} {ns : List ℕ} → s * 2 ^ depth n ≡ start n * w → EndToEnd (start n + 1) (2 ^ depth n) ns t u
+      → EndToEnd s w (n ∷ ns) t u

@@ -1,12 +1,12 @@
--- Where the walk of a curve's nodes ends (document 01, "Enclosure rows"), by recursion on the tree of nodes. Nothing here fixes the test of a node or how
--- many halvings are left.
+-- Where the walk of a curve's nodes ends (document 01, "Enclosure rows"), by recursion on the tree of nodes. Nothing
+-- here fixes the test of a node or how many halvings are left.
 use mathlib.Core.Bool.{Bool, true, false}
 use mathlib.Core.List.{List, [], _∷_, _++_}
 use mathlib.Core.Option.{Option, none, some}
 use Prim.Native.Nat.{ℕ, zero, suc, _+_, _*_}
 
--- The nodes below n where the walk ends, by parameter: a node that passes the test is a leaf; otherwise it is halved, or, with no halving left, it is
--- one that is still too wide.
+-- The nodes below n where the walk ends, by parameter: a node that passes the test is a leaf; otherwise it is halved,
+-- or, with no halving left, it is one that is still too wide.
 unfoldable pub ends : (ℕ → Bool) → ℕ → ℕ → List ℕ
 ends test zero n = n ∷ []
 ends test (suc k) n = elim (test n) [ true ↦ n ∷ [] | false ↦ ends test k (2 * n) ++ ends test k (2 * n + 1) ]

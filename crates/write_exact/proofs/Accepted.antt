@@ -15,15 +15,15 @@ use Rattle.refusals.specs.declared.Refusal.{Refusal}
 use Rattle.text_forms.specs.declared.forms.Points.{Points}
 use Rattle.text_forms.specs.declared.forms.Form.{Form}
 use Rattle.text_forms.specs.declared.forms.Form.the-variants.{Tolerance, Curve, Point, NoForm}
-use Rattle.text_forms.specs.Forms.{curve, closing, formAt}
+use Rattle.text_forms.specs.Forms.{curveWord, closing, formAt}
 use Rattle.text_forms.proofs.FormReach.{curve-ended, point-ended}
 use Rattle.text_lines.specs.Lines.{gather}
-use Rattle.text_lines.specs.Meaning.{curveNumbers, pointOf, faultFrom, means, unless, meaningOf, mostBytes, meaning}
+use Rattle.text_lines.specs.Meaning.{curveNumbers, pointOf, faultFrom, means, faultOr, meaningOf, mostBytes, meaning}
 use Rattle.text_lines.proofs.Lines.{linesLeft, lines-over, lines-start, line-none, line-tolerance, line-curve, line-point}
 use Rattle.text_lines.proofs.Accepted.{accepted}
 use Rattle.write_exact.specs.Written.{Written, curveLine, toleranceLine, pointLine, LineWritten}
-use Rattle.write_exact.specs.Texts.{In32, PointsIn32, TwoToFour, CurvesIn32, Legal, tolerance, two, three, four, point}
-use Rattle.write_exact.specs.Texts.{pairsBytes, curvesText, pointsText, textOf, outlineOf, IsText}
+use Rattle.write_exact.specs.Texts.{In32, PointsIn32, TwoToFour, CurvesIn32, Legal, tolerance, two, three, four, point, pairsBytes, curvesText}
+use Rattle.write_exact.specs.Texts.{pointsText, textOf, outlineOf, IsText}
 use Rattle.write_exact.proofs.Written.{form-written}
 use Rattle.write_exact.proofs.Legal.{LegalRead, form-legal}
 use Rattle.write_exact.proofs.Texts.{Keeps, keeps-two, keeps-three, keeps-four, text-read}
@@ -109,7 +109,7 @@ module _ (s : List ℕ) where
     unfolding curvesText outlineOf gather
     a-curve p j e l w m =
         let d = curve-drawn l in
-        let line = curve ++ pairsBytes (d .drawn) ++ closing in
+        let line = curveWord ++ pairsBytes (d .drawn) ++ closing in
         record {
           curves = d .drawn ∷ m .curves;
           points = m .points;
@@ -151,7 +151,7 @@ module _ (s : List ℕ) where
       either true e again = line-made i (ltb-true _ _ e) n again late (formAt s i) refl (form-legal s i) (form-written s i) fine
 
   -- ---- the first line, which is the tolerance
-  not-refused : (o : Option Refusal) (T U : ℤ) (xs ys : List ℤ) (ps qs : List (ℤ × ℤ)) → unless o (means T xs ps) ≡ means U ys qs
+  not-refused : (o : Option Refusal) (T U : ℤ) (xs ys : List ℤ) (ps qs : List (ℤ × ℤ)) → faultOr o (means T xs ps) ≡ means U ys qs
       → (o ≡ none) × (T ≡ U) × (xs ≡ ys) × (ps ≡ qs)
   not-refused none T U xs ys ps qs e = (refl, cc, cc, cc)
   not-refused (some r) T U xs ys ps qs e = clash (cc)

@@ -11,9 +11,9 @@ use lib.ListN.{length, take, drop, take-append-drop, length-append}
 use lib.Seq.{drop-drop, length-take-le}
 use lib.IntN.{ℤ, pos, negℤ}
 use Rattle.text_numbers.specs.declared.numerals.Number.{Number}
-use Rattle.text_numbers.specs.declared.numerals.Number.the-variants.{Is, Nothing}
+use Rattle.text_numbers.specs.declared.numerals.Number.the-variants.{IsNumber, NoNumber}
 use Rattle.text_numbers.specs.declared.numerals.Natural.{Natural}
-use Rattle.text_numbers.specs.declared.numerals.Natural.the-variants.{Is as IsNatural, Nothing as NoNatural}
+use Rattle.text_numbers.specs.declared.numerals.Natural.the-variants.{IsNatural, NoNatural}
 use Rattle.text_numbers.specs.Numerals.{byte, isDigit, valueFrom, digitCount, naturalAt, plus, minus, numberAt}
 use Rattle.text_numbers.proofs.Places.{byte-first, byte-inside}
 use Rattle.text_numbers.proofs.Runs.{value-grows}
@@ -39,7 +39,8 @@ digits-enough (suc p) k n h = either (λ g. digits-enough p k (n / 10) (below (1
     below : (m : ℕ) → n < m * 10 → n / 10 < m
     below m l = omega arith
 
-    either : (10 ≤ n → digits (suc (p + k)) (n / 10) ≡ digits (suc p) (n / 10)) → (b : Bool) → ltb n 10 ≡ b → digits (suc (suc p + k)) n ≡ digits (suc (suc p)) n
+    either : (10 ≤ n → digits (suc (p + k)) (n / 10) ≡ digits (suc p) (n / 10)) → (b : Bool) → ltb n 10 ≡ b
+        → digits (suc (suc p + k)) n ≡ digits (suc (suc p)) n
     either again true e = one-digit (suc p + k) (suc p) n (ltb-true _ _ e)
     either again false e =
         let l = ltb-false _ _ e in
@@ -68,8 +69,11 @@ unfolding valueFrom digitCount
 read-digits [] p v l = ap (λ (m : ℕ). digits m v) (add-zero (suc p)) ∙ sym (append-nil (digits (suc p) v))
 read-digits (b ∷ bs) p v l = either (isDigit b) refl (read-digits bs (suc p) (10 * v + (b - 48)) (omega arith))
   where
-    either : (t : Bool) → isDigit b ≡ t → digits (suc (suc p) + digitCount bs) (valueFrom (10 * v + (b - 48)) bs) ≡ digits (suc (suc p)) (10 * v + (b - 48)) ++ take (digitCount bs) bs
-        → digits (suc p + cond t (suc (digitCount bs)) 0) (cond t (valueFrom (10 * v + (b - 48)) bs) v) ≡ digits (suc p) v ++ take (cond t (suc (digitCount bs)) 0) (b ∷ bs)
+    either : (t : Bool) → isDigit b ≡ t
+        → digits (suc (suc p) + digitCount bs) (valueFrom (10 * v + (b - 48)) bs) ≡ digits (suc (suc p)) (10 * v + (b - 48))
+        ++ take (digitCount bs) bs
+        → digits (suc p + cond t (suc (digitCount bs)) 0) (cond t (valueFrom (10 * v + (b - 48)) bs) v) ≡ digits (suc p) v
+        ++ take (cond t (suc (digitCount bs)) 0) (b ∷ bs)
     either false e again = ap (λ (m : ℕ). digits m v) (add-zero (suc p)) ∙ sym (append-nil (digits (suc p) v))
     either true e again =
         let r = digit-range b e in
@@ -111,7 +115,8 @@ alone b l h =
     let e : 48 + (b - 48) ≡ b = omega arith in
     simp (lt-ltb _ _ m) (ap (λ (c : ℕ). c ∷ []) e)
 
-natural-bytes : (b : ℕ) (bs : List ℕ) → 49 ≤ b → b ≤ 57 → valueFrom 0 (b ∷ bs) ≤ 2147483648 → take (digitCount (b ∷ bs)) (b ∷ bs) ≡ digits 10 (valueFrom 0 (b ∷ bs))
+natural-bytes : (b : ℕ) (bs : List ℕ) → 49 ≤ b → b ≤ 57 → valueFrom 0 (b ∷ bs) ≤ 2147483648
+    → take (digitCount (b ∷ bs)) (b ∷ bs) ≡ digits 10 (valueFrom 0 (b ∷ bs))
 natural-bytes b bs l h k =
     let f = first-digit b bs l h in
     let n = valueFrom (b - 48) bs in
@@ -120,7 +125,8 @@ natural-bytes b bs l h k =
     ∙ ap (λ (ds : List ℕ). ds ++ take (digitCount bs) bs) (sym (alone b l h))
     ∙ sym (read-digits bs 0 (b - 48) (omega arith))
     ∙ ap (λ (m : ℕ). digits m n) (suc-add 0 (digitCount bs) ∙ ap suc (zero-add (digitCount bs)))
-    ∙ digits-same (digitCount bs) 9 n (subst (λ (m : ℕ). n < 10 ^ m) (suc-add 0 (digitCount bs) ∙ ap suc (zero-add (digitCount bs))) (value-below bs 1 (b - 48) (omega arith))) (omega arith)
+    ∙ digits-same (digitCount bs) 9 n (subst (λ (m : ℕ). n < 10 ^ m) (suc-add 0 (digitCount bs) ∙ ap suc (zero-add (digitCount bs)))
+    (value-below bs 1 (b - 48) (omega arith))) (omega arith)
     ∙ ap (digits 10) (sym (f .0))
 
 count-inside : (bs : List ℕ) → digitCount bs ≤ length bs
@@ -149,22 +155,26 @@ natural-written : (s : List ℕ) (i n j : ℕ) → naturalAt s i ≡ IsNatural n
 unfolding naturalAt
 natural-written s i n j e =
     let bs = drop i s in
-    let f = found (leb 49 (byte s i) && leb (byte s i) 57 && leb (valueFrom 0 (drop i s)) 2147483648) (valueFrom 0 (drop i s)) (i + digitCount (drop i s)) n j e in
+    let f = found (leb 49 (byte s i) && leb (byte s i) 57 && leb (valueFrom 0 (drop i s)) 2147483648) (valueFrom 0 (drop i s))
+    (i + digitCount (drop i s)) n j e in
     let t = three-true (leb 49 (byte s i)) (leb (byte s i) 57) (leb (valueFrom 0 (drop i s)) 2147483648) (f .0) in
     let l = leb-true 49 (byte s i) (t .0) in
     let h = leb-true (byte s i) 57 (t .1) in
     let k = leb-true (valueFrom 0 (drop i s)) 2147483648 (t .2) in
     go (byte s i) (drop (i + 1) s) l h (byte-first s i (byte-inside s i (byte s i) (omega arith) refl)) k (f .1) (f .2)
   where
-    go : (b : ℕ) (bs : List ℕ) → 49 ≤ b → b ≤ 57 → drop i s ≡ b ∷ bs → valueFrom 0 (drop i s) ≤ 2147483648 → valueFrom 0 (drop i s) ≡ n → i + digitCount (drop i s) ≡ j
+    go : (b : ℕ) (bs : List ℕ) → 49 ≤ b → b ≤ 57 → drop i s ≡ b ∷ bs → valueFrom 0 (drop i s) ≤ 2147483648 → valueFrom 0 (drop i s) ≡ n
+        → i + digitCount (drop i s) ≡ j
         → Written s i j (digits 10 n) × (1 ≤ n)
     go b bs l h q k p r =
-        let front : take (digitCount (drop i s)) (drop i s) ≡ digits 10 n = rw q (natural-bytes b bs l h (rw q at k)) ∙ ap (digits 10) (rw q at p) in (
+        let front : take (digitCount (drop i s)) (drop i s) ≡ digits 10 n = rw q (natural-bytes b bs l h (rw q at k))
+        ∙ ap (digits 10) (rw q at p) in (
           record {
             bytes-there =
                 sym (take-append-drop (digitCount (drop i s)) (drop i s))
                 ∙ ap₂ (λ (xs ys : List ℕ). xs ++ ys) front (drop-drop (digitCount (drop i s)) i s ∙ ap (λ (m : ℕ). drop m s) r);
-            end-there = sym r ∙ ap (λ (m : ℕ). i + m) (sym (length-take-le (digitCount (drop i s)) (drop i s) (count-inside (drop i s))) ∙ ap length front);
+            end-there =
+                sym r ∙ ap (λ (m : ℕ). i + m) (sym (length-take-le (digitCount (drop i s)) (drop i s) (count-inside (drop i s))) ∙ ap length front);
           },
           subst (λ (m : ℕ). 1 ≤ m) (rw q at p) (value-grown b bs l h),
         )
@@ -193,35 +203,39 @@ pub zero-decimal : decimal (pos 0) ≡ 48 ∷ []
 unfolding decimal digits
 zero-decimal = refl
 
-pub number-written : (s : List ℕ) (i : ℕ) (z : ℤ) (j : ℕ) → numberAt s i ≡ Is z j → Written s i j (decimal z)
+pub number-written : (s : List ℕ) (i : ℕ) (z : ℤ) (j : ℕ) → numberAt s i ≡ IsNumber z j → Written s i j (decimal z)
 unfolding numberAt
 number-written s i z j e = either (eqb (byte s i) 48) refl (eqb (byte s i) 45) refl (naturalAt s (i + 1)) refl (naturalAt s i) refl e
   where
-    signed : (a : Natural) → naturalAt s (i + 1) ≡ a → byte s i ≡ 45 → minus a ≡ Is z j → Written s i j (decimal z)
+    signed : (a : Natural) → naturalAt s (i + 1) ≡ a → byte s i ≡ 45 → minus a ≡ IsNumber z j → Written s i j (decimal z)
     signed NoNatural f g h = clash (cc)
     signed (IsNatural n k) f g h =
         let w = natural-written s (i + 1) n k f in
         let y : negℤ (pos n) ≡ z = cc in
         let x : k ≡ j = cc in
         subst (λ (m : ℕ). Written s i m (decimal z)) x (subst (λ (v : ℤ). Written s i k (decimal v)) y
-        (subst (λ (xs : List ℕ). Written s i k xs) (sym (negative-decimal n (w .1))) (written-both s i (i + 1) k (45 ∷ []) (digits 10 n) (byte-written s i 45 (omega arith) g) (w .0))))
+        (subst (λ (xs : List ℕ). Written s i k xs) (sym (negative-decimal n (w .1)))
+        (written-both s i (i + 1) k (45 ∷ []) (digits 10 n) (byte-written s i 45 (omega arith) g) (w .0))))
 
-    plain : (a : Natural) → naturalAt s i ≡ a → plus a ≡ Is z j → Written s i j (decimal z)
+    plain : (a : Natural) → naturalAt s i ≡ a → plus a ≡ IsNumber z j → Written s i j (decimal z)
     plain NoNatural f h = clash (cc)
     plain (IsNatural n k) f h = within-range (leb n 2147483647) h
       where
-        within-range : (t : Bool) → _≡_ {A = Number} (cond t (Is (pos n) k) Nothing) (Is z j) → Written s i j (decimal z)
+        within-range : (t : Bool) → _≡_ {A = Number} (cond t (IsNumber (pos n) k) NoNumber) (IsNumber z j) → Written s i j (decimal z)
         within-range false q = clash (cc)
         within-range true q =
             let y : pos n ≡ z = cc in
             let x : k ≡ j = cc in
-            subst (λ (m : ℕ). Written s i m (decimal z)) x (subst (λ (v : ℤ). Written s i k (decimal v)) y (subst (λ (xs : List ℕ). Written s i k xs) (sym (positive-decimal n)) (natural-written s i n k f .0)))
+            subst (λ (m : ℕ). Written s i m (decimal z)) x (subst (λ (v : ℤ). Written s i k (decimal v)) y
+            (subst (λ (xs : List ℕ). Written s i k xs) (sym (positive-decimal n)) (natural-written s i n k f .0)))
 
-    either : (t : Bool) → eqb (byte s i) 48 ≡ t → (u : Bool) → eqb (byte s i) 45 ≡ u → (a : Natural) → naturalAt s (i + 1) ≡ a → (b : Natural) → naturalAt s i ≡ b
-        → cond t (Is (pos 0) (i + 1)) (cond u (minus a) (plus b)) ≡ Is z j → Written s i j (decimal z)
+    either : (t : Bool) → eqb (byte s i) 48 ≡ t → (u : Bool) → eqb (byte s i) 45 ≡ u → (a : Natural) → naturalAt s (i + 1) ≡ a → (b : Natural)
+        → naturalAt s i ≡ b
+        → cond t (IsNumber (pos 0) (i + 1)) (cond u (minus a) (plus b)) ≡ IsNumber z j → Written s i j (decimal z)
     either true f u g a p b q h =
         let y : pos 0 ≡ z = cc in
         let x : i + 1 ≡ j = cc in
-        subst (λ (m : ℕ). Written s i m (decimal z)) x (subst (λ (v : ℤ). Written s i (i + 1) (decimal v)) y (subst (Written s i (i + 1)) (sym zero-decimal) (byte-written s i 48 (omega arith) (eqb-true (byte s i) 48 f))))
+        subst (λ (m : ℕ). Written s i m (decimal z)) x (subst (λ (v : ℤ). Written s i (i + 1) (decimal v)) y
+        (subst (Written s i (i + 1)) (sym zero-decimal) (byte-written s i 48 (omega arith) (eqb-true (byte s i) 48 f))))
     either false f true g a p b q h = signed a p (eqb-true (byte s i) 45 g) h
     either false f false g a p b q h = plain b q h

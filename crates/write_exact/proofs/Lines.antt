@@ -10,17 +10,18 @@ use borrow.Author.Tests.{eq-eqb, ne-eqb}
 use lib.ListN.{length, drop, length-append}
 use lib.Seq.{drop-drop, drop-append-seam}
 use lib.IntN.{ℤ, pos}
-use Rattle.text_numbers.specs.declared.numerals.Number.the-variants.{Is}
+use Rattle.text_numbers.specs.declared.numerals.Number.the-variants.{IsNumber}
 use Rattle.text_numbers.specs.Numerals.{byte, isDigit, numberAt}
-use Rattle.text_forms.specs.declared.pairs.Pair.the-variants.{Is as IsPair, Nothing as NoPair}
+use Rattle.text_forms.specs.declared.pairs.Pair.the-variants.{IsPair, NoPair}
 use Rattle.text_forms.specs.Pairs.{startsWith, wordAt, numberThen, pairAt, spacedPairAt}
 use Rattle.text_forms.specs.declared.forms.Points.{Points}
 use Rattle.text_forms.specs.declared.forms.Form.{Form}
 use Rattle.text_forms.specs.declared.forms.Form.the-variants.{Tolerance, Curve, Point}
-use Rattle.text_forms.specs.Forms.{tolerance, curve, point, closing, points, toleranceAt, pointAt, curveEnd, curveFourth, curveThird, curveAt, formAt}
+use Rattle.text_forms.specs.Forms.{toleranceWord, curveWord, pointWord, closing, points, toleranceFormAt, pointFormAt, curveEnd, curveFourth}
+use Rattle.text_forms.specs.Forms.{curveThird, curveFormAt, formAt}
 use Rattle.write_numbers.specs.Decimals.{decimal}
 use Rattle.write_exact.specs.Written.{Written, pairBytes, toleranceLine, pointLine, curveLine, LineWritten}
-use Rattle.write_exact.specs.Texts.{In32, Legal, tolerance as LegalTolerance, two, three, four, point as LegalPoint}
+use Rattle.write_exact.specs.Texts.{In32, Legal, tolerance, two, three, four, point}
 use Rattle.write_exact.proofs.Written.{form-written}
 use Rattle.write_exact.proofs.Read.{byte-of, number-read}
 
@@ -48,14 +49,14 @@ word-read w s i j h = ap (startsWith w) (h .bytes-there) ∙ starts-itself w (dr
 
 -- ---- pairs
 then-read : (b : ℕ) (s : List ℕ) (i : ℕ) (z : ℤ) (j : ℕ) → isDigit b ≡ false → In32 z → Written s i j (decimal z ++ (b ∷ []))
-    → numberThen b s i ≡ Is z j
+    → numberThen b s i ≡ IsNumber z j
 unfolding numberThen
 then-read b s i z j d h w =
     let k = i + length (decimal z) in
     let last = back s i j (decimal z) (b ∷ []) w in
     let e : byte s k ≡ b = byte-of s k b (drop j s) (last .bytes-there) in
-    let n : numberAt s i ≡ Is z k = number-read s i z k h (front s i j (decimal z) (b ∷ []) w) (ap isDigit e ∙ d) in
-    rw (numberThen, n, eq-eqb (byte s k) b e) (ap (Is z) (sym (last .end-there)))
+    let n : numberAt s i ≡ IsNumber z k = number-read s i z k h (front s i j (decimal z) (b ∷ []) w) (ap isDigit e ∙ d) in
+    rw (numberThen, n, eq-eqb (byte s k) b e) (ap (IsNumber z) (sym (last .end-there)))
 
 pair-read : (s : List ℕ) (i : ℕ) (x y : ℤ) (j : ℕ) → In32 x → In32 y → Written s i j (pairBytes x y) → spacedPairAt s i ≡ IsPair x y j
 unfolding spacedPairAt pairAt pairBytes
@@ -65,8 +66,8 @@ pair-read s i x y j hx hy w =
     let inner = back s i j (32 ∷ []) (40 ∷ (first ++ second)) w in
     let numbers = back s (i + 1) j (40 ∷ []) (first ++ second) inner in
     let k = i + 1 + 1 + length first in
-    let ex : numberThen 32 s (i + 1 + 1) ≡ Is x k = then-read 32 s (i + 1 + 1) x k refl hx (front s (i + 1 + 1) j first second numbers) in
-    let ey : numberThen 41 s k ≡ Is y j = then-read 41 s k y j refl hy (back s (i + 1 + 1) j first second numbers) in
+    let ex : numberThen 32 s (i + 1 + 1) ≡ IsNumber x k = then-read 32 s (i + 1 + 1) x k refl hx (front s (i + 1 + 1) j first second numbers) in
+    let ey : numberThen 41 s k ≡ IsNumber y j = then-read 41 s k y j refl hy (back s (i + 1 + 1) j first second numbers) in
     simp (
       eq-eqb (byte s i) 32 (byte-of s i 32 (40 ∷ (first ++ second) ++ drop j s) (w .bytes-there)),
       eq-eqb (byte s (i + 1)) 40 (byte-of s (i + 1) 40 (first ++ second ++ drop j s) (inner .bytes-there)),
@@ -85,38 +86,38 @@ closed : (s : List ℕ) (i j : ℕ) → Written s i j closing → (wordAt closin
 closed s i j w = (word-read closing s i j w, sym (w .end-there))
 
 tolerance-read : (s : List ℕ) (i : ℕ) (T : ℤ) (j : ℕ) → In32 T → Written s i j (toleranceLine T) → formAt s i ≡ Tolerance T j
-unfolding toleranceLine formAt toleranceAt
+unfolding toleranceLine formAt toleranceFormAt
 tolerance-read s i T j h w =
-    let k = i + length (tolerance ++ decimal T) in
-    let head = front s i j (tolerance ++ decimal T) closing w in
-    let end = back s i j (tolerance ++ decimal T) closing w in
+    let k = i + length (toleranceWord ++ decimal T) in
+    let head = front s i j (toleranceWord ++ decimal T) closing w in
+    let end = back s i j (toleranceWord ++ decimal T) closing w in
     let e = closed s k j end in
     let d : byte s k ≡ 41 = byte-of s k 41 (10 ∷ drop j s) (end .bytes-there) in
-    let n : numberAt s (i + 11) ≡ Is T k = number-read s (i + 11) T k h (back s i k tolerance (decimal T) head) (ap isDigit d) in
-    simp (word-read tolerance s i (i + 11) (front s i k tolerance (decimal T) head)) (rw (toleranceAt, n, e .0) (ap (Tolerance T) (e .1)))
+    let n : numberAt s (i + 11) ≡ IsNumber T k = number-read s (i + 11) T k h (back s i k toleranceWord (decimal T) head) (ap isDigit d) in
+    simp (word-read toleranceWord s i (i + 11) (front s i k toleranceWord (decimal T) head)) (rw (toleranceFormAt, n, e .0) (ap (Tolerance T) (e .1)))
 
 -- the word of a line is that of no other form
-curve-word : (s : List ℕ) (i : ℕ) → Written s i (i + 6) curve → formAt s i ≡ curveAt s (i + 6)
+curve-word : (s : List ℕ) (i : ℕ) → Written s i (i + 6) curveWord → formAt s i ≡ curveFormAt s (i + 6)
 unfolding formAt startsWith
 curve-word s i w =
-    let other : wordAt tolerance s i ≡ false = ap (startsWith tolerance) (w .bytes-there) in
-    simp (other, word-read curve s i (i + 6) w)
+    let other : wordAt toleranceWord s i ≡ false = ap (startsWith toleranceWord) (w .bytes-there) in
+    simp (other, word-read curveWord s i (i + 6) w)
 
-point-word : (s : List ℕ) (i : ℕ) → Written s i (i + 6) point → formAt s i ≡ pointAt s (i + 6)
+point-word : (s : List ℕ) (i : ℕ) → Written s i (i + 6) pointWord → formAt s i ≡ pointFormAt s (i + 6)
 unfolding formAt startsWith
 point-word s i w =
-    let other : wordAt tolerance s i ≡ false = ap (startsWith tolerance) (w .bytes-there) in
-    let another : wordAt curve s i ≡ false = ap (startsWith curve) (w .bytes-there) in
-    simp (other, another, word-read point s i (i + 6) w)
+    let other : wordAt toleranceWord s i ≡ false = ap (startsWith toleranceWord) (w .bytes-there) in
+    let another : wordAt curveWord s i ≡ false = ap (startsWith curveWord) (w .bytes-there) in
+    simp (other, another, word-read pointWord s i (i + 6) w)
 
 point-read : (s : List ℕ) (i : ℕ) (x y : ℤ) (j : ℕ) → In32 x → In32 y → Written s i j (pointLine x y) → formAt s i ≡ Point x y j
-unfolding pointLine pointAt
+unfolding pointLine pointFormAt
 point-read s i x y j hx hy w =
-    let k = i + length (point ++ pairBytes x y) in
-    let head = front s i j (point ++ pairBytes x y) closing w in
-    let e = closed s k j (back s i j (point ++ pairBytes x y) closing w) in
-    let p = pair-read s (i + 6) x y k hx hy (back s i k point (pairBytes x y) head) in
-    point-word s i (front s i k point (pairBytes x y) head) ∙ rw (pointAt, p, e .0) (ap (Point x y) (e .1))
+    let k = i + length (pointWord ++ pairBytes x y) in
+    let head = front s i j (pointWord ++ pairBytes x y) closing w in
+    let e = closed s k j (back s i j (pointWord ++ pairBytes x y) closing w) in
+    let p = pair-read s (i + 6) x y k hx hy (back s i k pointWord (pairBytes x y) head) in
+    point-word s i (front s i k pointWord (pairBytes x y) head) ∙ rw (pointFormAt, p, e .0) (ap (Point x y) (e .1))
 
 -- ---- curve lines, from place `start` on
 module _ (s : List ℕ) (start : ℕ) where
@@ -134,20 +135,20 @@ module _ (s : List ℕ) (start : ℕ) where
 
   module _ (x0 y0 x1 y1 : ℤ) (hx0 : In32 x0) (hy0 : In32 y0) (hx1 : In32 x1) (hy1 : In32 y1) where
     abbrev first : List ℕ
-    first = curve ++ pairBytes x0 y0
+    first = curveWord ++ pairBytes x0 y0
 
     abbrev both : List ℕ
     both = first ++ pairBytes x1 y1
 
     -- two points, and what follows them
     pub past-two : (i : ℕ) → Written s start i both → formAt s start ≡ curveThird s i (points (pos 1) x0 y0 x1 y1 (pos 0) (pos 0) (pos 0) (pos 0))
-    unfolding curveAt
+    unfolding curveFormAt
     past-two i w =
         let k = start + length first in
         let head = front s start i first (pairBytes x1 y1) w in
-        let p = pair-read s (start + 6) x0 y0 k hx0 hy0 (back s start k curve (pairBytes x0 y0) head) in
+        let p = pair-read s (start + 6) x0 y0 k hx0 hy0 (back s start k curveWord (pairBytes x0 y0) head) in
         let q = pair-read s k x1 y1 i hx1 hy1 (back s start i first (pairBytes x1 y1) w) in
-        curve-word s start (front s start k curve (pairBytes x0 y0) head) ∙ rw (curveAt, p, q)
+        curve-word s start (front s start k curveWord (pairBytes x0 y0) head) ∙ rw (curveFormAt, p, q)
 
     module _ (x2 y2 : ℤ) (hx2 : In32 x2) (hy2 : In32 y2) where
       abbrev all-three : List ℕ
@@ -171,21 +172,21 @@ module _ (s : List ℕ) (start : ℕ) where
 -- ---- where the line of a legal form stands, this form is read
 pub form-read : (s : List ℕ) (i : ℕ) {f : Form} → Legal f → LineWritten s i f → formAt s i ≡ f
 unfolding curveLine
-form-read s i (LegalTolerance {T} {j} h) w = tolerance-read s i T j h w
-form-read s i (LegalPoint {x} {y} {j} hx hy) w = point-read s i x y j hx hy w
+form-read s i (tolerance {T} {j} h) w = tolerance-read s i T j h w
+form-read s i (point {x} {y} {j} hx hy) w = point-read s i x y j hx hy w
 form-read s i (two {x0} {y0} {x1} {y1} {j} h) w =
-    let all = curve ++ pairBytes x0 y0 ++ pairBytes x1 y1 in
+    let all = curveWord ++ pairBytes x0 y0 ++ pairBytes x1 y1 in
     let v = subst (λ (l : List ℕ). Written s i j (l ++ closing)) (append-nil (all ++ []) ∙ append-nil all) w in
     let k = i + length all in
     past-two s i x0 y0 x1 y1 (h .0) (h .1) (h .2 .0) (h .2 .1) k (front s i j all closing v) ∙ third-end s i _ k j (back s i j all closing v)
 form-read s i (three {x0} {y0} {x1} {y1} {x2} {y2} {j} h) w =
-    let all = curve ++ pairBytes x0 y0 ++ pairBytes x1 y1 ++ pairBytes x2 y2 in
+    let all = curveWord ++ pairBytes x0 y0 ++ pairBytes x1 y1 ++ pairBytes x2 y2 in
     let v = subst (λ (l : List ℕ). Written s i j (l ++ closing)) (append-nil all) w in
     let k = i + length all in
     past-three s i x0 y0 x1 y1 (h .0) (h .1) (h .2 .0) (h .2 .1) x2 y2 (h .2 .2 .0) (h .2 .2 .1) k (front s i j all closing v)
     ∙ fourth-end s i _ k j (back s i j all closing v)
 form-read s i (four {x0} {y0} {x1} {y1} {x2} {y2} {x3} {y3} {j} h) w =
-    let all = curve ++ pairBytes x0 y0 ++ pairBytes x1 y1 ++ pairBytes x2 y2 ++ pairBytes x3 y3 in
+    let all = curveWord ++ pairBytes x0 y0 ++ pairBytes x1 y1 ++ pairBytes x2 y2 ++ pairBytes x3 y3 in
     let k = i + length all in
     past-four s i x0 y0 x1 y1 (h .0) (h .1) (h .2 .0) (h .2 .1) x2 y2 (h .2 .2 .0) (h .2 .2 .1) x3 y3 (h .2 .2 .2 .0) (h .2 .2 .2 .1) k
     (front s i j all closing w)

@@ -1,4 +1,5 @@
--- What is written is read: where the bytes of a number stand and no digit follows, the number is read. With `number-written` this says exactly what is read as a number.
+-- What is written is read: where the bytes of a number stand and no digit follows, the number is read. With `number-written` this says exactly what
+-- is read as a number.
 use mathlib.Core.Path.{_≡_, refl, sym, ap, _∙_, subst}
 use mathlib.Core.Bool.{Bool, true, false}
 use mathlib.Core.List.{List, [], _∷_, _++_, append-assoc}
@@ -11,8 +12,8 @@ use lib.ListN.{length, drop, length-append}
 use lib.Seq.{getD-drop, drop-drop}
 use lib.IntN.{ℤ, pos, negsuc, negℤ}
 use lib.Signed.{mag}
-use Rattle.text_numbers.specs.declared.numerals.Number.the-variants.{Is}
-use Rattle.text_numbers.specs.declared.numerals.Natural.the-variants.{Is as IsNatural}
+use Rattle.text_numbers.specs.declared.numerals.Number.the-variants.{IsNumber}
+use Rattle.text_numbers.specs.declared.numerals.Natural.the-variants.{IsNatural}
 use Rattle.text_numbers.specs.Numerals.{byte, isDigit, valueFrom, digitCount, naturalAt, numberAt}
 use Rattle.write_numbers.specs.Digits.{digits}
 use Rattle.write_numbers.specs.Decimals.{decimal}
@@ -42,7 +43,10 @@ unfolding digits
 one-back p n ys h =
     let e : digits (suc p) n ≡ (48 + n) ∷ [] = simp (lt-ltb _ _ h) in
     let z : 10 * 0 + n ≡ n = omega arith in
-    subst (λ (ds : List ℕ). ReadBack n ds ys) (sym e) (record { value = value-digit n h ys 0 ∙ ap (λ (v : ℕ). valueFrom v ys) z; count = omega (arith, count-digit n h ys) })
+    subst (λ (ds : List ℕ). ReadBack n ds ys) (sym e) (record {
+      value = value-digit n h ys 0 ∙ ap (λ (v : ℕ). valueFrom v ys) z;
+      count = omega (arith, count-digit n h ys);
+    })
 
 more-back : (p n : ℕ) (ys : List ℕ) → 10 ≤ n → ReadBack (n / 10) (digits p (n / 10)) ((48 + n % 10) ∷ ys) → ReadBack n (digits (suc p) n) ys
 unfolding digits
@@ -52,8 +56,12 @@ more-back p n ys h r =
     let f : digits (suc p) n ≡ digits p (n / 10) ++ ((48 + n % 10) ∷ []) = simp (le-ltb _ _ h) in
     subst (λ (ds : List ℕ). ReadBack n ds ys) (sym f)
     (record {
-      value = ap (valueFrom 0) (append-assoc (digits p (n / 10)) ((48 + n % 10) ∷ []) ys) ∙ r .value ∙ value-digit (n % 10) l ys (n / 10) ∙ ap (λ (v : ℕ). valueFrom v ys) e;
-      count = ap digitCount (append-assoc (digits p (n / 10)) ((48 + n % 10) ∷ []) ys) ∙ r .count ∙ omega (arith, count-digit (n % 10) l ys, length-append (digits p (n / 10)) ((48 + n % 10) ∷ []));
+      value =
+          ap (valueFrom 0) (append-assoc (digits p (n / 10)) ((48 + n % 10) ∷ []) ys) ∙ r .value ∙ value-digit (n % 10) l ys (n / 10)
+          ∙ ap (λ (v : ℕ). valueFrom v ys) e;
+      count =
+          ap digitCount (append-assoc (digits p (n / 10)) ((48 + n % 10) ∷ []) ys) ∙ r .count
+          ∙ omega (arith, count-digit (n % 10) l ys, length-append (digits p (n / 10)) ((48 + n % 10) ∷ []));
     })
 
 digits-back : (p n : ℕ) (ys : List ℕ) → n < 10 ^ suc p → ReadBack n (digits (suc p) n) ys
@@ -63,7 +71,8 @@ digits-back (suc p) n ys h = either (ltb n 10) refl (λ l. digits-back p (n / 10
     below : (m : ℕ) → n < m * 10 → n / 10 < m
     below m l = omega arith
 
-    either : (b : Bool) → ltb n 10 ≡ b → (10 ≤ n → ReadBack (n / 10) (digits (suc p) (n / 10)) ((48 + n % 10) ∷ ys)) → ReadBack n (digits (suc (suc p)) n) ys
+    either : (b : Bool) → ltb n 10 ≡ b → (10 ≤ n → ReadBack (n / 10) (digits (suc p) (n / 10)) ((48 + n % 10) ∷ ys))
+        → ReadBack n (digits (suc (suc p)) n) ys
     either true e again = one-back (suc p) n ys (ltb-true _ _ e)
     either false e again = more-back (suc p) n ys (ltb-false _ _ e) (again (ltb-false _ _ e))
 
@@ -113,7 +122,8 @@ byte-of s i b bs e =
 byte-from : (s : List ℕ) (j : ℕ) → byte (drop j s) 0 ≡ byte s j
 byte-from s j = let z : j + 0 ≡ j = omega arith in getD-drop j s 0 0 ∙ ap (byte s) z
 
-natural-read : (s : List ℕ) (i n j : ℕ) → 1 ≤ n → n ≤ 2147483648 → Written s i j (digits 10 n) → isDigit (byte s j) ≡ false → naturalAt s i ≡ IsNatural n j
+natural-read : (s : List ℕ) (i n j : ℕ) → 1 ≤ n → n ≤ 2147483648 → Written s i j (digits 10 n) → isDigit (byte s j) ≡ false
+    → naturalAt s i ≡ IsNatural n j
 unfolding naturalAt
 natural-read s i n j l h w d =
     let r = digits-back 9 n (drop j s) (omega arith) in
@@ -125,26 +135,37 @@ natural-read s i n j l h w d =
     simp (v, c, b, le-leb 49 (a .first) (a .least), le-leb (a .first) 57 (a .most), le-leb n 2147483648 h)
 
 -- ---- a number, where its bytes stand and no digit follows
-zero-read : (s : List ℕ) (i j : ℕ) → Written s i j (48 ∷ []) → numberAt s i ≡ Is (pos 0) j
+zero-read : (s : List ℕ) (i j : ℕ) → Written s i j (48 ∷ []) → numberAt s i ≡ IsNumber (pos 0) j
 unfolding numberAt
-zero-read s i j w = simp (eq-eqb (byte s i) 48 (byte-of s i 48 (drop j s) (w .bytes-there))) (ap (Is (pos 0)) (sym (w .end-there)))
+zero-read s i j w = simp (eq-eqb (byte s i) 48 (byte-of s i 48 (drop j s) (w .bytes-there))) (ap (IsNumber (pos 0)) (sym (w .end-there)))
 
-plain-read : (s : List ℕ) (i n j : ℕ) → 1 ≤ n → n ≤ 2147483647 → Written s i j (digits 10 n) → isDigit (byte s j) ≡ false → numberAt s i ≡ Is (pos n) j
+plain-read : (s : List ℕ) (i n j : ℕ) → 1 ≤ n → n ≤ 2147483647 → Written s i j (digits 10 n) → isDigit (byte s j) ≡ false
+    → numberAt s i ≡ IsNumber (pos n) j
 unfolding numberAt
 plain-read s i n j l h w d =
     let a = digits-lead 9 n l (omega arith) in
     let b : byte s i ≡ a .first = byte-of s i (a .first) (a .rest ++ drop j s) (w .bytes-there ∙ ap (λ (ds : List ℕ). ds ++ drop j s) (a .is)) in
     let m = a .least in
-    simp (ne-eqb (byte s i) 48 (λ e. omega arith), ne-eqb (byte s i) 45 (λ e. omega arith), natural-read s i n j l (omega arith) w d, le-leb n 2147483647 h)
+    simp (
+      ne-eqb (byte s i) 48 (λ e. omega arith),
+      ne-eqb (byte s i) 45 (λ e. omega arith),
+      natural-read s i n j l (omega arith) w d,
+      le-leb n 2147483647 h,
+    )
 
-signed-read : (s : List ℕ) (i n j : ℕ) → 1 ≤ n → n ≤ 2147483648 → Written s i j (45 ∷ digits 10 n) → isDigit (byte s j) ≡ false → numberAt s i ≡ Is (negℤ (pos n)) j
+signed-read : (s : List ℕ) (i n j : ℕ) → 1 ≤ n → n ≤ 2147483648 → Written s i j (45 ∷ digits 10 n) → isDigit (byte s j) ≡ false
+    → numberAt s i ≡ IsNumber (negℤ (pos n)) j
 unfolding numberAt
 signed-read s i n j l h w d =
     let b : byte s i ≡ 45 = byte-of s i 45 (digits 10 n ++ drop j s) (w .bytes-there) in
-    let v : Written s (i + 1) j (digits 10 n) = record { bytes-there = sym (drop-drop 1 i s) ∙ ap (drop 1) (w .bytes-there); end-there = omega (arith, w .end-there) } in
+    let v : Written s (i + 1) j (digits 10 n) = record {
+      bytes-there = sym (drop-drop 1 i s) ∙ ap (drop 1) (w .bytes-there);
+      end-there = omega (arith, w .end-there);
+    } in
     simp (ne-eqb (byte s i) 48 (λ e. omega arith), eq-eqb (byte s i) 45 b, natural-read s (i + 1) n j l h v d)
 
-pub number-read : (s : List ℕ) (i : ℕ) (z : ℤ) (j : ℕ) → mag z < 2 ^ 31 → Written s i j (decimal z) → isDigit (byte s j) ≡ false → numberAt s i ≡ Is z j
+pub number-read : (s : List ℕ) (i : ℕ) (z : ℤ) (j : ℕ) → mag z < 2 ^ 31 → Written s i j (decimal z) → isDigit (byte s j) ≡ false
+    → numberAt s i ≡ IsNumber z j
 number-read s i (pos zero) j h w d = zero-read s i j (rw zero-decimal at w)
 number-read s i (pos (suc n)) j h w d = plain-read s i (suc n) j (omega arith) (omega arith) (rw (positive-decimal (suc n)) at w) d
 number-read s i (negsuc n) j h w d = signed-read s i (suc n) j (omega arith) (omega arith) (rw (negative-decimal (suc n) (omega arith)) at w) d

@@ -12,13 +12,13 @@ use lib.Seq.{drop-drop, drop-append-seam}
 use lib.IntN.{ℤ, pos}
 use Rattle.text_forms.specs.declared.forms.Points.{Points}
 use Rattle.text_forms.specs.declared.forms.Form.the-variants.{Tolerance, Curve, Point}
-use Rattle.text_forms.specs.Forms.{curve, closing, points}
+use Rattle.text_forms.specs.Forms.{curveWord, closing, points}
 use Rattle.text_lines.specs.Lines.{gather}
-use Rattle.text_lines.specs.Meaning.{numbersOf, curveNumbers, pointOf, faultFrom, means, unless, meaningOf, mostBytes, meaning}
+use Rattle.text_lines.specs.Meaning.{numbersOfCurve, curveNumbers, pointOf, faultFrom, means, faultOr, meaningOf, mostBytes, meaning}
 use Rattle.text_lines.proofs.Lines.{linesLeft, lines-over, lines-start, line-tolerance, line-curve, line-point}
 use Rattle.write_exact.specs.Written.{Written, toleranceLine, pointLine, curveLine}
-use Rattle.write_exact.specs.Texts.{In32, PointsIn32, TwoToFour, CurvesIn32, Legal, tolerance, two, three, four, point}
-use Rattle.write_exact.specs.Texts.{pairsBytes, curvesText, pointsText, textOf, coordinates, outlineOf}
+use Rattle.write_exact.specs.Texts.{In32, PointsIn32, TwoToFour, CurvesIn32, Legal, tolerance, two, three, four, point, pairsBytes, curvesText}
+use Rattle.write_exact.specs.Texts.{pointsText, textOf, pointNumbers, outlineOf}
 use Rattle.write_exact.proofs.Lines.{form-read}
 
 -- ---- a line that stands at place i of a text, and the bytes after it
@@ -59,20 +59,20 @@ points-rest (p ∷ ps) s i late n h e =
 
 -- ---- a curve of two to four points, as a line keeps it
 pub record Keeps (p : Points) (c : List (ℤ × ℤ)) : Type 0 where
-  pub line : curveLine p ≡ curve ++ pairsBytes c ++ closing
-  pub numbers : numbersOf p ≡ pos (length c - 1) ∷ coordinates c
+  pub line : curveLine p ≡ curveWord ++ pairsBytes c ++ closing
+  pub numbers : numbersOfCurve p ≡ pos (length c - 1) ∷ pointNumbers c
 
 module _ (a b : ℤ × ℤ) where
   pub keeps-two : Keeps (points (pos 1) (a .0) (a .1) (b .0) (b .1) (pos 0) (pos 0) (pos 0) (pos 0)) (a ∷ b ∷ [])
-  unfolding curveLine pairsBytes numbersOf coordinates
+  unfolding curveLine pairsBytes numbersOfCurve pointNumbers
   keeps-two = record { line = simp (append-assoc, append-nil); numbers = refl }
 
   pub keeps-three : (c : ℤ × ℤ) → Keeps (points (pos 2) (a .0) (a .1) (b .0) (b .1) (c .0) (c .1) (pos 0) (pos 0)) (a ∷ b ∷ c ∷ [])
-  unfolding curveLine pairsBytes numbersOf coordinates
+  unfolding curveLine pairsBytes numbersOfCurve pointNumbers
   keeps-three c = record { line = simp (append-assoc, append-nil); numbers = refl }
 
   pub keeps-four : (c d : ℤ × ℤ) → Keeps (points (pos 3) (a .0) (a .1) (b .0) (b .1) (c .0) (c .1) (d .0) (d .1)) (a ∷ b ∷ c ∷ d ∷ [])
-  unfolding curveLine pairsBytes numbersOf coordinates
+  unfolding curveLine pairsBytes numbersOfCurve pointNumbers
   keeps-four c d = record { line = simp (append-assoc, append-nil); numbers = refl }
 
 record Kept (c : List (ℤ × ℤ)) : Type 0 where
@@ -96,7 +96,7 @@ curves-rest [] ps s i n h k e = points-rest ps s i false n k e
 curves-rest (c ∷ cs) ps s i n h k e =
     let m = kept-curve c (h .0) in
     let p = m .kept in
-    let l = curve ++ pairsBytes c ++ closing in
+    let l = curveWord ++ pairsBytes c ++ closing in
     let j = i + length l in
     let f = e ∙ append-assoc l (curvesText cs) (pointsText ps) in
     let there = line-there s i l (curvesText cs ++ pointsText ps) f in
@@ -123,5 +123,5 @@ text-read T cs ps h k l short =
     let r = curves-rest cs ps s (0 + j) 2 k l (after-line s 0 (toleranceLine T) rest e) in
     simp (le-ltb mostBytes (length s) short)
     (ap meaningOf (lines-start s ∙ here)
-    ∙ ap (λ o. unless o (means T (gather curveNumbers (linesLeft s (0 + j))) (gather pointOf (linesLeft s (0 + j))))) (r .no-fault)
+    ∙ ap (λ o. faultOr o (means T (gather curveNumbers (linesLeft s (0 + j))) (gather pointOf (linesLeft s (0 + j))))) (r .no-fault)
     ∙ ap₂ (means T) (r .curves-there) (r .points-there))

@@ -10,7 +10,7 @@ use lib.IntN.{ℤ, pos}
 use lib.Signed.{mag}
 use Rattle.text_forms.specs.declared.forms.Form.{Form}
 use Rattle.text_forms.specs.declared.forms.Form.the-variants.{Tolerance, Curve, Point}
-use Rattle.text_forms.specs.Forms.{curve, closing, points}
+use Rattle.text_forms.specs.Forms.{curveWord, closing, points}
 use Rattle.text_lines.specs.Meaning.{mostBytes}
 use Rattle.write_exact.specs.Written.{pairBytes, toleranceLine, pointLine}
 
@@ -50,7 +50,7 @@ pairsBytes (p ∷ ps) = pairBytes (p .0) (p .1) ++ pairsBytes ps
 
 unfoldable pub curvesText : List (List (ℤ × ℤ)) → List ℕ
 curvesText [] = []
-curvesText (c ∷ cs) = curve ++ pairsBytes c ++ closing ++ curvesText cs
+curvesText (c ∷ cs) = curveWord ++ pairsBytes c ++ closing ++ curvesText cs
 
 unfoldable pub pointsText : List (ℤ × ℤ) → List ℕ
 pointsText [] = []
@@ -60,13 +60,13 @@ unfoldable pub textOf : ℤ → List (List (ℤ × ℤ)) → List (ℤ × ℤ) �
 textOf T cs ps = toleranceLine T ++ curvesText cs ++ pointsText ps
 
 -- ---- the outline of the curves: of each its degree, which is the number of its points less one, then x and y of each
-unfoldable pub coordinates : List (ℤ × ℤ) → List ℤ
-coordinates [] = []
-coordinates (p ∷ ps) = p .0 ∷ p .1 ∷ coordinates ps
+unfoldable pub pointNumbers : List (ℤ × ℤ) → List ℤ
+pointNumbers [] = []
+pointNumbers (p ∷ ps) = p .0 ∷ p .1 ∷ pointNumbers ps
 
 unfoldable pub outlineOf : List (List (ℤ × ℤ)) → List ℤ
 outlineOf [] = []
-outlineOf (c ∷ cs) = (pos (length c - 1) ∷ coordinates c) ++ outlineOf cs
+outlineOf (c ∷ cs) = (pos (length c - 1) ∷ pointNumbers c) ++ outlineOf cs
 
 -- ---- the text s is that of T, some curves and the points ps; `outline` is that of these curves
 pub record IsText (s : List ℕ) (T : ℤ) (outline : List ℤ) (ps : List (ℤ × ℤ)) : Type 0 where

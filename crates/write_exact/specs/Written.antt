@@ -11,7 +11,7 @@ use lib.Signed.{ltZ}
 use Rattle.text_forms.specs.declared.forms.Points.{Points}
 use Rattle.text_forms.specs.declared.forms.Form.{Form}
 use Rattle.text_forms.specs.declared.forms.Form.the-variants.{Tolerance, Curve, Point, NoForm}
-use Rattle.text_forms.specs.Forms.{tolerance, curve, point, closing}
+use Rattle.text_forms.specs.Forms.{toleranceWord, curveWord, pointWord, closing}
 use Rattle.write_numbers.specs.Decimals.{decimal}
 
 -- the bytes of a text s from place i up to place j
@@ -24,14 +24,14 @@ unfoldable pub pairBytes : ℤ → ℤ → List ℕ
 pairBytes x y = 32 ∷ 40 ∷ (decimal x ++ (32 ∷ []) ++ (decimal y ++ (41 ∷ [])))
 
 unfoldable pub toleranceLine : ℤ → List ℕ
-toleranceLine T = tolerance ++ decimal T ++ closing
+toleranceLine T = toleranceWord ++ decimal T ++ closing
 
 unfoldable pub pointLine : ℤ → ℤ → List ℕ
-pointLine x y = point ++ pairBytes x y ++ closing
+pointLine x y = pointWord ++ pairBytes x y ++ closing
 
 unfoldable pub curveLine : Points → List ℕ
 curveLine p =
-    curve ++ pairBytes (p .x0) (p .y0) ++ pairBytes (p .x1) (p .y1)
+    curveWord ++ pairBytes (p .x0) (p .y0) ++ pairBytes (p .x1) (p .y1)
     ++ cond (ltZ (p .degree) (pos 2)) [] (pairBytes (p .x2) (p .y2))
     ++ cond (ltZ (p .degree) (pos 3)) [] (pairBytes (p .x3) (p .y3))
     ++ closing

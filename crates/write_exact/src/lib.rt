@@ -1,1 +1,1 @@
-// Theorems on lines and texts: they are read exactly where the bytes stand that writing them gives. There is no code here.
+// Theorems and no code: numbers, lines and texts are read exactly where the bytes stand that writing them gives.

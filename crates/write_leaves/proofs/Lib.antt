@@ -1,5 +1,4 @@
--- Laws of the bytes of boxes. Each file opens with what it holds.
+-- Laws of the bytes of boxes and of the lines of leaf records. Each file opens with what it holds.
 pub mod Boxes
--- Laws of the lines of leaf records. Each file opens with what it holds.
 pub mod LeafLines
 pub mod Examples

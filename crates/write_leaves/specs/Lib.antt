@@ -1,4 +1,3 @@
--- What a reader must believe of the bytes of boxes.
+-- Leaf records as lines of the answer, and their boxes as bytes.
 pub mod Boxes
--- What a reader must believe of the lines of leaf records.
 pub mod Leaves

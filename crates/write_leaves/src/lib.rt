@@ -1,3 +1,3 @@
-// The leaf lines of the answer as bytes.
+// Leaf records as bytes: their boxes, and the leaf lines of the answer.
 pub mod box_bytes;
 pub mod leaf_lines;

@@ -17,7 +17,8 @@ unfolding onLine spacedNatural digits
 listing-on = refl
 
 -- "(refused 16 16385)", "(refused 11 0)", "(refused 7 256)"
-pub refused-size : refusedLine (TextTooLong 16385) ≡ 40 ∷ 114 ∷ 101 ∷ 102 ∷ 117 ∷ 115 ∷ 101 ∷ 100 ∷ 32 ∷ 49 ∷ 54 ∷ 32 ∷ 49 ∷ 54 ∷ 51 ∷ 56 ∷ 53 ∷ 41 ∷ 10 ∷ []
+pub refused-size : refusedLine (TextTooLong 16385) ≡ 40 ∷ 114 ∷ 101 ∷ 102 ∷ 117 ∷ 115 ∷ 101 ∷ 100 ∷ 32 ∷ 49 ∷ 54 ∷ 32 ∷ 49 ∷ 54 ∷ 51 ∷ 56 ∷ 53 ∷ 41
+    ∷ 10 ∷ []
 unfolding refusedLine spacedNatural digits
 refused-size = refl
 

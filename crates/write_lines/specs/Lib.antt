@@ -1,4 +1,4 @@
--- What a reader must believe of the answer's lines but for the leaves.
+-- The lines of the answer but for the leaves, and all lines of a band; and, inside, the room that these need.
 pub mod Answers
--- What a reader must believe of the lines of a band.
 pub mod BandLines
+pub mod Inside

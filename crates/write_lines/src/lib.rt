@@ -1,3 +1,3 @@
-// The other lines of the answer as bytes: done, on, off, refused; and the lines of a band.
+// The lines of the answer but for the leaves, as bytes: done, on, off, refused; and all lines of a band.
 pub mod band_lines;
 pub mod render;

@@ -1,8 +1,6 @@
--- Laws of lists that are written one part after the other.
+-- Laws of lists that are written part by part, and of digits, words and numbers that are written. Each file opens with what it holds.
 pub mod Appends
--- Laws of digits that are written. Each file opens with what it holds.
 pub mod DigitsLaws
--- Laws of numbers that are written. Each file opens with what it holds.
 pub mod Numbers
 pub mod Words
 pub mod Examples

@@ -1,6 +1,4 @@
--- What a reader must believe of a function that writes part of a list.
+-- What a function that writes part of a list leaves and returns; and digits and decimal numbers as bytes.
 pub mod Appends
--- What a reader must believe of digits that are written.
 pub mod Digits
--- What a reader must believe of numbers that are written.
 pub mod Decimals

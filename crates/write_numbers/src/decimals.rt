@@ -1,10 +1,10 @@
-// Words and decimal numbers put into a list of bytes, one after the other. Each function asks for the room that it may need, and returns the place after what
-// it has put.
+// Words and decimal numbers put into a list of bytes, one after the other. Each function asks for the room that it may
+// need, and returns the place after what it has put.
 ghost use mathlib.Core.Path.{_≡_};
 ghost use Prim.Native.Nat.{_+_, _≤_};
 ghost use lib.ListN.{length};
 ghost use lib.IntN.{natAbs};
-ghost use Rattle.write_numbers.specs.Appends.{Appended, Within};
+ghost use Rattle.write_numbers.specs.Appends.{Appended, PutWithin};
 ghost use Rattle.write_numbers.specs.Decimals.{decimal, spaced, spacedNatural};
 use crate::digits::put_byte;
 use crate::digits::put_digits;
@@ -12,7 +12,7 @@ use crate::digits::put_digits;
 // A space and a number.
 pub fn put_spaced(out: &mut [u8], at: usize, value: i32) -> usize
     requires { ⌜ at + 12 ≤ length (now out) ⌝ }
-    ensures { λ r. ⌜ Within (now (out .entry)) at 12 (spaced value) (now (out .exit)) r ⌝ }
+    ensures { λ r. ⌜ PutWithin (now (out .entry)) at 12 (spaced value) (now (out .exit)) r ⌝ }
 {
     let i = put_byte(out, at, b' ');
     put_number(out, i, value)
@@ -21,7 +21,7 @@ pub fn put_spaced(out: &mut [u8], at: usize, value: i32) -> usize
 // A number, with a minus before it where it is below zero.
 pub fn put_number(out: &mut [u8], at: usize, value: i32) -> usize
     requires { ⌜ at + 11 ≤ length (now out) ⌝ }
-    ensures { λ r. ⌜ Within (now (out .entry)) at 11 (decimal value) (now (out .exit)) r ⌝ }
+    ensures { λ r. ⌜ PutWithin (now (out .entry)) at 11 (decimal value) (now (out .exit)) r ⌝ }
 {
     let n = magnitude(value);
     if value < 0 {
@@ -35,7 +35,7 @@ pub fn put_number(out: &mut [u8], at: usize, value: i32) -> usize
 // A space and a natural.
 pub fn put_spaced_natural(out: &mut [u8], at: usize, n: u64) -> usize
     requires { ⌜ at + 21 ≤ length (now out) ⌝ }
-    ensures { λ r. ⌜ Within (now (out .entry)) at 21 (spacedNatural n) (now (out .exit)) r ⌝ }
+    ensures { λ r. ⌜ PutWithin (now (out .entry)) at 21 (spacedNatural n) (now (out .exit)) r ⌝ }
 {
     let i = put_byte(out, at, b' ');
     put_digits(out, i, n, 20)

@@ -14,11 +14,11 @@ const TOLERANCE: i32 = 188;
 /// A point in sixteenths of a stage unit.
 pub type Point = (i32, i32);
 
-/// The first records of 64 cubic curves, which have 1,004.
+/// The first records of 64 cubic curves, which have 1,152.
 pub fn leaves() -> Vec<i32> {
     let mut records = vec![0; 18 * 256 * 64];
     let report = contour_band::band(&cubics(), TOLERANCE, &mut records).expect("the outline is accepted");
-    assert_eq!(report.leaves, 1_004);
+    assert_eq!(report.leaves, 1_152);
     records.truncate(18 * LEAVES);
     records
 }

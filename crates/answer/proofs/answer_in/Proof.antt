@@ -1,60 +1,31 @@
 -- `answer::answer_in` meets its contract: a refusal, or the band's lines and then the points'.
 use mathlib.Core.Path.{sym}
-use native.Mathlib.Omega.{arith}
 use lib.Seq.{length-take-le}
 use borrow.Author.Needs.{needs}
-use Rattle.answer.proofs.Answers.{zeros-length, answer-refused, done-leaves, done-short, done-fine, answer-done}
+use Rattle.answer.proofs.Answers.{answer-refused, done-fits, done-inside, lines-room, points-room, done-fine, answer-done}
 use Rattle.answer.proofs.answer_in.Statement.{statement}
 use Rattle.answer.proofs.answer_in.Tie as tie
 
 put-band-requires : tie.Need-put-band-requires
-put-band-requires c κs =
-    let b = c .before .before .before .before .before .before .before .band-text in
-    let s = c .before .before .before .before .before .before .before .before .before .before .before .before in
-    let g = c .before .before .before .band2 .given in
-    let few = done-leaves (s .args .text .now) (s .args .records .now) (s .pre .1) (b .result) (b .ensures .0) _ _ _ (g .1) in
-    record { stand = omega (arith, few, b .kept .1 .1 .0, zeros-length (s .args .records .now) (s .pre .1)); room = omega (arith, few, s .pre .2) }
+put-band-requires c κs = search lines-room
 
 mul-put-points : tie.Need-mul-put-points
-mul-put-points c =
-    let b = c .before .before .before .before .before .before .before .before .before .before .band-text in
-    let s = c .before .before .before .before .before .before .before .before .before .before .before .before .before .before .before in
-    let g = c .before .before .before .before .before .before .band2 .given in
-    let few = done-leaves (s .args .text .now) (s .args .records .now) (s .pre .1) (b .result) (b .ensures .0) _ _ _ (g .1) in
-    omega (arith, few)
+mul-put-points c = search done-fits
 
 slice-reshare-prefix-put-points : tie.Need-slice-reshare-prefix-put-points
-slice-reshare-prefix-put-points c =
-    let b = c .before .before .before .before .before .before .before .before .before .before .band-text in
-    let s = c .before .before .before .before .before .before .before .before .before .before .before .before .before .before .before in
-    let g = c .before .before .before .before .before .before .band2 .given in
-    let few = done-leaves (s .args .text .now) (s .args .records .now) (s .pre .1) (b .result) (b .ensures .0) _ _ _ (g .1) in
-    omega (arith, few, b .kept .1 .1 .0, zeros-length (s .args .records .now) (s .pre .1))
+slice-reshare-prefix-put-points c = search done-inside
 
 slice-aggregate-put-points : tie.Need-slice-aggregate-put-points
 slice-aggregate-put-points c = sym (length-take-le _ _ (slice-reshare-prefix-put-points (c .before)))
 
 put-points-requires : tie.Need-put-points-requires
-put-points-requires c κs =
-    let b = c .before .before .before .before .before .before .before .before .before .before .before .before .band-text in
-    let s = c .before .before .before .before .before .before .before .before .before .before .before .before .before .before .before .before .before in
-    let g = c .before .before .before .before .before .before .before .before .band2 .given in
-    let few = done-leaves (s .args .text .now) (s .args .records .now) (s .pre .1) (b .result) (b .ensures .0) _ _ _ (g .1) in
-    let short = done-short (s .args .text .now) (s .args .records .now) (s .pre .1) (b .result) (b .ensures .0) _ _ _ (g .1) in
-    (omega (arith, few, short, c .before .before .before .before .put-band .ensures .small, c .before .before .before .before .put-band .kept .1 .1 .1 .1 .0, s .pre .2), done-fine (s .args .text .now) (s .args .records .now) (s .pre .1) (b .result) (b .ensures .0) _ _ _ (g .1) _ (b .ensures .1))
+put-points-requires c κs = (search points-room, search done-fine)
 
 returns : tie.Need-returns
-returns c =
-    let b = c .before .before .before .before .before .before .before .before .before .band-text in
-    let s = c .before .before .before .before .before .before .before .before .before .before .before .before .before .before in
-    answer-refused (s .args .text .now) (s .args .records .now) (s .pre .1) (b .result) (b .ensures .0) _ (c .before .before .before .before .before .band .given .1) _ _ _ (c .before .before .put-refused .ensures)
+returns c = search answer-refused
 
 returns-2 : tie.Need-returns-2
-returns-2 c =
-    let b = c .before .before .before .before .before .before .before .before .before .before .before .before .before .before .before .band-text in
-    let s = c .before .before .before .before .before .before .before .before .before .before .before .before .before .before .before .before .before .before .before .before in
-    let g = c .before .before .before .before .before .before .before .before .before .before .before .band2 .given in
-    answer-done (s .args .text .now) (s .args .records .now) (s .pre .1) (b .result) (b .ensures .0) _ _ _ (g .1) _ (b .ensures .1) _ _ _ _ _ (c .before .before .before .before .before .before .before .put-band .ensures) (c .before .before .put-points .ensures)
+returns-2 c = search answer-done
 
 pub answer-in-spec : {M : Type 1} → statement M
 answer-in-spec =

@@ -32,7 +32,10 @@ slice-set-from-records-4 c = simp length-set (omega arith)
 returns : tie.Need-returns
 returns c =
     let a = c .before .before .before .before .args in
-    four-sets (a .records .now) (a .at) (is! (search (box-sizes, c .before .before .before .before .pre .1) depth 40) tt) (is! (search (box-sizes, c .before .before .before .before .pre .1) depth 40) tt) (is! (search (box-sizes, c .before .before .before .before .pre .1) depth 40) tt) (is! (search (box-sizes, c .before .before .before .before .pre .1) depth 40) tt)
+    four-sets (a .records .now) (a .at) (is! (search (box-sizes, c .before .before .before .before .pre .1) depth 40) tt)
+    (is! (search (box-sizes, c .before .before .before .before .pre .1) depth 40) tt)
+    (is! (search (box-sizes, c .before .before .before .before .pre .1) depth 40) tt)
+    (is! (search (box-sizes, c .before .before .before .before .pre .1) depth 40) tt)
 
 pub put-box-spec : {M : Type 1} → statement M
 put-box-spec =

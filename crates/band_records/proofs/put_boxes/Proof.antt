@@ -7,23 +7,25 @@ use native.Mathlib.Omega.{arith}
 use lib.ListN.{length}
 use lib.IntN.{ℤ}
 use lib.Seq.{sets, length-sets}
+use Rattle.setting.specs.Setting.{standard, breakPoints}
 use Rattle.curve_nodes.specs.declared.Curve.{Curve}
-use Rattle.bound_node.specs.Boxes.{boxesOf, boxOf}
-use Rattle.bound_node.proofs.Boxes.{box-of}
+use Rattle.bound_node.specs.Inside.{boxesOf, boxIn}
+use Rattle.bound_node.proofs.Boxes.{box-in}
 use Rattle.band_records.specs.Records.{boxNumbers, boxesTo}
 use Rattle.band_records.proofs.Writing.{boxes-more}
 use Rattle.band_records.proofs.put_boxes.Statement.{statement}
 use Rattle.band_records.proofs.put_boxes.Tie as tie
 
 abbrev Inv-loop : tie.InvT-loop
-Inv-loop records₀ at depth boxes i₀ records i = (i ≤ 4) × ((k : ℕ) (c : Curve) → boxes ≡ boxesOf k c → records ≡ sets records₀ at (boxesTo i k c))
+Inv-loop records₀ at depth boxes i₀ records i =
+    (i ≤ breakPoints standard) × ((k : ℕ) (c : Curve) → boxes ≡ boxesOf standard k c → records ≡ sets records₀ at (boxesTo standard i k c))
 
 abbrev μ-loop : tie.MeasureT-loop
-μ-loop records₀ at depth boxes i₀ records i = 4 - i
+μ-loop records₀ at depth boxes i₀ records i = breakPoints standard - i
 
 -- stores keep the length
-kept : (l : List ℤ) (at i k : ℕ) (c : Curve) {l′ : List ℤ} → l′ ≡ sets l at (boxesTo i k c) → length l′ ≡ length l
-kept l at i k c e = ap length e ∙ length-sets l at (boxesTo i k c)
+kept : (l : List ℤ) (at i k : ℕ) (c : Curve) {l′ : List ℤ} → l′ ≡ sets l at (boxesTo standard i k c) → length l′ ≡ length l
+kept l at i k c e = ap length e ∙ length-sets l at (boxesTo standard i k c)
 
 boxes-of-requires : tie.Need-boxes-of-requires Inv-loop μ-loop
 boxes-of-requires c κs = let w = c .pre .1 in (w .sized, w .shallow)
@@ -42,7 +44,7 @@ put-box-requires c κs =
     let i = l .loop .i in
     let b = l .before .boxes-of .ensures .0 in
     let e = kept (a .records .now) (a .at) i (a .depth) (a .curve) (l .loop .inv .1 (a .depth) (a .curve) b) in
-    (omega arith, rw (c .at .ensures, b, box-of (a .depth) (a .curve) i (omega arith)) (s .pre .1 .boxes i (omega arith)))
+    (omega arith, rw (c .at .ensures, b, box-in standard (a .depth) (a .curve) i (omega arith)) (s .pre .1 .boxes i (omega arith)))
 
 loop-again : tie.Need-loop-again Inv-loop μ-loop
 loop-again c =
@@ -50,21 +52,23 @@ loop-again c =
     let a = l .before .before .args in
     let i = l .loop .i in (
       omega arith,
-      λ k d e. boxes-more (a .records .now) _ (a .at) i k d
+      λ k d e. boxes-more standard (a .records .now) _ (a .at) i k d
           (c .before .put-box .ensures ∙ ap (λ x. sets x (a .at + 4 * i) (boxNumbers (c .before .before .at .result))) (l .loop .inv .1 k d e))
-          (c .before .before .at .ensures ∙ ap (λ b. boxOf b i) e ∙ box-of k d i (omega arith)),
+          (c .before .before .at .ensures ∙ ap (λ b. boxIn b i) e ∙ box-in standard k d i (omega arith)),
     )
 
 same-length : tie.Need-same-length Inv-loop μ-loop
 same-length c =
     let a = c .before .before .before .args in
-    kept (a .records .now) (a .at) (c .before .loop .i) (a .depth) (a .curve) (c .before .loop .inv .1 (a .depth) (a .curve) (c .before .before .boxes-of .ensures .0))
+    kept (a .records .now) (a .at) (c .before .loop .i) (a .depth) (a .curve)
+    (c .before .loop .inv .1 (a .depth) (a .curve) (c .before .before .boxes-of .ensures .0))
 
 returns : tie.Need-returns Inv-loop μ-loop
 returns c =
     let a = c .before .before .before .args in
     let e : c .before .loop .i ≡ 4 = omega arith in
-    c .before .loop .inv .1 (a .depth) (a .curve) (c .before .before .boxes-of .ensures .0) ∙ ap (λ n. sets (a .records .now) (a .at) (boxesTo n (a .depth) (a .curve))) e
+    c .before .loop .inv .1 (a .depth) (a .curve) (c .before .before .boxes-of .ensures .0)
+    ∙ ap (λ n. sets (a .records .now) (a .at) (boxesTo standard n (a .depth) (a .curve))) e
 
 pub put-boxes-spec : {M : Type 1} → statement M
 put-boxes-spec =

@@ -6,6 +6,7 @@ use lib.ListN.{length, length-set}
 use lib.Seq.{sets, length-sets}
 use mir.Syntax.{w32}
 use mir.Facts.{toZ-pos}
+use Rattle.setting.specs.Setting.{standard, breakPoints}
 use Rattle.curve_nodes.specs.Nodes.{depth}
 use Rattle.band_records.specs.Records.{boxesTo, nodeNumbers}
 use Rattle.band_records.proofs.Writing.{head-sets}
@@ -27,18 +28,20 @@ put-boxes-requires c κs = (simp length-set (omega arith), rw (c .depth .ensures
 -- what the list holds: the two numbers and the boxes
 left : (c : lts.After-records (depth-reads.Asked, depth-reads.Learnt, put-boxes-reads.Asked, put-boxes-reads.Learnt) reads.Pre reads.Post)
     → let s = c .before .before .before .before in
-    c .before .put-boxes .last .0 ≡ sets (s .args .records .now) (s .args .at) (nodeNumbers (s .args .number) (s .args .node) (boxesTo 4 (depth (s .args .node)) (s .args .curve)))
+    c .before .put-boxes .last .0 ≡ sets (s .args .records .now) (s .args .at)
+    (nodeNumbers (s .args .number) (s .args .node) (boxesTo standard (breakPoints standard) (depth (s .args .node)) (s .args .curve)))
 left c =
     let s = c .before .before .before .before in
     let a = s .args in
-    head-sets (a .records .now) (a .at) (a .number) (a .node) (boxesTo 4 (depth (a .node)) (a .curve))
+    head-sets (a .records .now) (a .at) (a .number) (a .node) (boxesTo standard (breakPoints standard) (depth (a .node)) (a .curve))
     (toZ-pos w32 (s .pre .1)) (toZ-pos w32 (lt-trans (s .pre .2) (lit< tt)))
     (rw (← (c .before .before .depth .ensures)) (c .before .put-boxes .ensures))
 
 same-length : tie.Need-same-length
 same-length c =
     let a = c .before .before .before .before .args in
-    ap length (left c) ∙ length-sets (a .records .now) (a .at) (nodeNumbers (a .number) (a .node) (boxesTo 4 (depth (a .node)) (a .curve)))
+    ap length (left c) ∙ length-sets (a .records .now) (a .at)
+    (nodeNumbers (a .number) (a .node) (boxesTo standard (breakPoints standard) (depth (a .node)) (a .curve)))
 
 returns : tie.Need-returns
 returns c = left c

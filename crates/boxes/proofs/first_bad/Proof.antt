@@ -41,7 +41,8 @@ returns-3 c =
     (rw (toZ-ofZ (f .y-low), toZ-ofZ (f .y-high)) at e)
 
 y-low-fine : (c : tie.Else3)
-    → lowFine (c .before .before .before .before .before .before .args .y-low) (c .before .before .before .before .before .before .args .y-high) ≡ true
+    → lowFine (c .before .before .before .before .before .before .args .y-low) (c .before .before .before .before .before .before .args .y-high)
+    ≡ true
 y-low-fine c =
     let e = sym (c .before .low-fine2 .ensures) ∙ not-false (c .before .low-fine2 .result) (c .if3 .left) in
     let f = c .before .before .before .before .before .before .fits in

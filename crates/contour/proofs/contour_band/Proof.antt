@@ -2,7 +2,7 @@
 use mathlib.Core.Path.{_∙_, ap}
 use borrow.Author.Needs.{needs}
 use mir.Facts.{toZ-ofZ}
-use Rattle.contour.specs.CAnswers.{answerOf}
+use Rattle.contour.specs.Numbers.{bandAnswerOf}
 use Rattle.contour.proofs.contour_band.Statement.{statement}
 use Rattle.contour.proofs.contour_band.Tie as tie
 
@@ -18,7 +18,7 @@ same-length c = search needs
 returns : tie.Need-returns
 returns c =
     let r = rw (toZ-ofZ (c .before .before .before .before .fits .tolerance)) at (c .before .before .band .ensures) in
-    (c .in-numbers .ensures ∙ ap answerOf (r .0), r .1)
+    (c .in-numbers .ensures ∙ ap bandAnswerOf (r .0), r .1)
 
 pub contour-band-spec : {M : Type 1} → statement M
 contour-band-spec = tie.close (tie.spec band-requires in-numbers-requires same-length returns)

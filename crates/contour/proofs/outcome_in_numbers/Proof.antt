@@ -1,35 +1,29 @@
 -- The numbers of an outcome.
 use mathlib.Core.Path.{sym, _∙_, ap, ap₂}
 use borrow.Author.Needs.{needs}
-use Prim.Native.Nat.{ℕ}
-use Rattle.contour.specs.declared.c_answers.JudgingAnswer.{JudgingAnswer}
-use Rattle.contour.specs.declared.OutcomeAnswer.{OutcomeAnswer}
-use Rattle.contour.specs.Answers.{outcomeAnswerOf}
+use Rattle.contour.specs.Answers.{besideReport, outcomeAnswerOf}
 use Rattle.contour.proofs.outcome_in_numbers.Statement.{statement}
 use Rattle.contour.proofs.outcome_in_numbers.Tie as tie
 
--- the report beside the numbers of a judgement
-abbrev reported : ℕ → ℕ → ℕ → JudgingAnswer → OutcomeAnswer
-reported curves leaves nodes n = record {
-  refusal = n .refusal;
-  spot = n .spot;
-  curves = curves;
-  leaves = leaves;
-  nodes = nodes;
-  on = n .on;
-  leaf = n .leaf;
-  cover = n .cover;
-}
-
 returns : tie.Need-returns
 returns c =
-    ap₂ (λ n s. record { refusal = n; spot = s; curves = 0; leaves = 0; nodes = 0; on = 0; leaf = 0; cover = 0 }) (c .before .number .ensures) (c .spot .ensures)
+    ap₂ (λ n s. record {
+      refusal =
+          n;
+      spot = s;
+      curves = 0;
+      leaves = 0;
+      nodes = 0;
+      on = 0;
+      leaf = 0;
+      cover = 0;
+    }) (c .before .number .ensures) (c .spot .ensures)
     ∙ ap outcomeAnswerOf (sym (c .before .before .before .outcome .given .1))
 
 returns-2 : tie.Need-returns-2
 returns-2 c =
     let g = c .before .before .outcome2 .given in
-    ap (reported (g .0 .0) (g .0 .1 .0) (g .0 .1 .1 .0)) (c .judgement-in-numbers .ensures) ∙ ap outcomeAnswerOf (sym (g .1))
+    ap (besideReport (g .0 .0) (g .0 .1 .0) (g .0 .1 .1 .0)) (c .judgement-in-numbers .ensures) ∙ ap outcomeAnswerOf (sym (g .1))
 
 pub outcome-in-numbers-spec : {M : Type 1} → statement M
 outcome-in-numbers-spec =

@@ -10,6 +10,7 @@ use mir.Syntax.{w64}
 use mir.Val.{toZ}
 use mir.Facts.{toZ-pos}
 use Rattle.integers.proofs.Machine.{Held}
+use Rattle.curve_halves.proofs.Halving.{coordinate}
 
 abbrev pub held-power : (k : ℕ) → k ≤ 7 → Held (toZ w64 ((1 * 2 ^ k) % 2 ^ 32))
 held-power k h = record {
@@ -21,4 +22,4 @@ held-power k h = record {
   under = λ t. pow-mono {j = 7} h;
 }
 
-pub ruleset small-powers = (held-power)
+pub ruleset carried = (held-power, coordinate)

@@ -6,9 +6,6 @@ use Rattle.curve_nodes.proofs.Numbers.{trailing-below, after-shifted}
 use Rattle.curve_nodes.proofs.after.Statement.{statement}
 use Rattle.curve_nodes.proofs.after.Tie as tie
 
-add-next : tie.Need-add-next
-add-next c = search needs
-
 shr-result : tie.Need-shr-result
 shr-result c = trailing-below 32 (c .args .node + 1) (omega arith) (omega arith)
 
@@ -16,4 +13,4 @@ returns : tie.Need-returns
 returns c = after-shifted 32 (c .args .node) (omega arith)
 
 pub after-spec : {M : Type 1} → statement M
-after-spec = tie.close (tie.spec add-next shr-result returns)
+after-spec = tie.close (tie.spec (λ c. search needs) shr-result returns)

@@ -7,7 +7,8 @@ use native.Mathlib.Omega.{arith}
 use borrow.Author.Needs.{needs}
 use Rattle.curve_nodes.specs.declared.Curve.{Curve}
 use Rattle.curve_nodes.specs.Nodes.{halfOf, nodeCurve}
-use Rattle.curve_nodes.specs.Bounds.{Sized, Halvable}
+use Rattle.curve_nodes.specs.Inside.{Halvable}
+use Rattle.curve_nodes.specs.Bounds.{Sized}
 use Rattle.curve_nodes.proofs.Numbers.{depth-bit, next-bit, depth-under, node-one, node-half}
 use Rattle.curve_nodes.proofs.Sizes.{node-halvable}
 use Rattle.curve_nodes.proofs.node_curve.Statement.{statement}
@@ -50,13 +51,17 @@ loop-holds c =
     })
 
 left-requires : tie.Need-left-requires Inv-loop μ-loop
-left-requires c κs = reached-halvable (c .before .before .loop .inv) (c .before .before .before .before .pre .2) (c .before .before .before .before .pre .1)
+left-requires c κs =
+    let p = c .before .before .before .before .pre in
+    reached-halvable (c .before .before .loop .inv) (p .2) (p .1)
 
 loop-again : tie.Need-loop-again Inv-loop μ-loop
 loop-again c = rw (c .left .ensures) (reached-half (c .before .before .before .loop .inv) 0 (omega arith) (omega arith) (c .before .if1 .taken))
 
 right-requires : tie.Need-right-requires Inv-loop μ-loop
-right-requires c κs = reached-halvable (c .before .before .loop .inv) (c .before .before .before .before .pre .2) (c .before .before .before .before .pre .1)
+right-requires c κs =
+    let p = c .before .before .before .before .pre in
+    reached-halvable (c .before .before .loop .inv) (p .2) (p .1)
 
 loop-again-2 : tie.Need-loop-again-2 Inv-loop μ-loop
 loop-again-2 c = rw (c .right .ensures) (reached-half (c .before .before .before .loop .inv) 1 (omega arith) (omega arith) (omega arith))

@@ -1,5 +1,5 @@
 -- Banding, and then judging a point against the leaves that were written; before both, the range of the point.
-use mathlib.Core.Path.{_≡_, sym, _∙_}
+use mathlib.Core.Path.{_≡_, refl, sym, _∙_}
 use mathlib.Core.Bool.{true}
 use native.Mathlib.Omega.{arith}
 use Prim.Native.Nat.{_*_, _≤_}
@@ -9,7 +9,7 @@ use borrow.Author.Needs.{needs}
 use borrow.Author.Tests.{not-true, not-false}
 use mir.Facts.{toZ-ofZ}
 use Rattle.boxes.specs.Ranges.{inRange}
-use Rattle.boxes.specs.Records.{recordLength}
+use Rattle.setting.specs.Setting.{standard, recordLength}
 use Rattle.engine.proofs.Outcomes.{done-room, x-refused, y-refused, not-banded, banded-judged}
 use Rattle.engine.proofs.band_and_judge.Statement.{statement}
 use Rattle.engine.proofs.band_and_judge.Tie as tie
@@ -21,7 +21,7 @@ returns c =
     let a = s .args in
     let out = rw (toZ-ofZ (s .fits .x)) at (sym (t .before .in-range .ensures) ∙ not-true (t .before .in-range .result) (t .if1 .taken)) in
     let r = rw (toZ-ofZ (s .fits .tolerance)) at (c .before .refusal-or .ensures) in
-    x-refused 64 (a .tolerance) (a .outline .now) (a .records .now) (a .x) (a .y) out (r .0) (r .1)
+    x-refused standard (a .tolerance) (a .outline .now) (a .records .now) (a .x) (a .y) out (r .0) (r .1)
 
 -- past the test of x
 x-fine : (c : tie.Else1) → inRange (c .before .before .args .x) ≡ true
@@ -34,7 +34,7 @@ returns-2 c =
     let a = s .args in
     let out = rw (toZ-ofZ (s .fits .y)) at (sym (t .before .in-range2 .ensures) ∙ not-true (t .before .in-range2 .result) (t .if2 .taken)) in
     let r = rw (toZ-ofZ (s .fits .tolerance)) at (c .before .refusal-or2 .ensures) in
-    y-refused 64 (a .tolerance) (a .outline .now) (a .records .now) (a .x) (a .y) (x-fine (t .before .before)) out (r .0) (r .1)
+    y-refused standard (a .tolerance) (a .outline .now) (a .records .now) (a .x) (a .y) (x-fine (t .before .before)) out (r .0) (r .1)
 
 -- past the test of y
 y-fine : (c : tie.Else2) → inRange (c .before .before .before .before .args .y) ≡ true
@@ -43,13 +43,13 @@ y-fine c =
     rw (toZ-ofZ (s .fits .y)) at (sym (c .before .in-range2 .ensures) ∙ not-false (c .before .in-range2 .result) (c .if2 .left))
 
 -- the leaves have room in the lent list
-room : (c : tie.After-known-told2) → recordLength * c .before .banded2 .given .0 .1 .0
+room : (c : tie.After-known-told2) → recordLength standard * c .before .banded2 .given .0 .1 .0
     ≤ length (c .before .before .before .before .before .before .before .before .before .before .args .records .now)
 room c =
     let b = c .before .before .before .before in
     let s = b .before .before .before .before .before .before in
     let r = rw (toZ-ofZ (s .fits .tolerance)) at (b .band .ensures) in
-    done-room 64 (s .args .tolerance) (s .args .outline .now) (length (s .args .records .now)) (sym (r .0) ∙ c .before .banded2 .given .1)
+    done-room standard (s .args .tolerance) (s .args .outline .now) (length (s .args .records .now)) (sym (r .0) ∙ c .before .banded2 .given .1)
 
 mul-judge : tie.Need-mul-judge
 mul-judge c = omega (arith, room c, c .before .before .before .before .before .before .before .before .before .before .good .1 .1 .0 .0)
@@ -67,7 +67,7 @@ returns-3 c =
     let s = e .before .before .before .before in
     let a = s .args in
     let r = rw (toZ-ofZ (s .fits .tolerance)) at (b .band .ensures) in
-    not-banded 64 (a .tolerance) (a .outline .now) (a .records .now) (a .x) (a .y) (x-fine (e .before .before)) (y-fine e) (r .1)
+    not-banded standard (a .tolerance) (a .outline .now) (a .records .now) (a .x) (a .y) (x-fine (e .before .before)) (y-fine e) (r .1)
     (sym (r .0) ∙ c .before .banded .given .1)
 
 returns-4 : tie.Need-returns-4
@@ -78,7 +78,7 @@ returns-4 c =
     let a = s .args in
     let r = rw (toZ-ofZ (s .fits .tolerance)) at (b .band .ensures) in
     let j = rw (toZ-ofZ (s .fits .x), toZ-ofZ (s .fits .y)) at (c .judge .ensures) in
-    banded-judged 64 (a .tolerance) (a .outline .now) (a .records .now) (a .x) (a .y) (x-fine (e .before .before)) (y-fine e) (r .1)
+    banded-judged standard (a .tolerance) (a .outline .now) (a .records .now) (a .x) (a .y) (x-fine (e .before .before)) (y-fine e) (r .1) refl
     (sym (r .0) ∙ c .before .before .before .banded2 .given .1) (c .judge .result) j
 
 pub band-and-judge-spec : {M : Type 1} → statement M

@@ -9,6 +9,7 @@ use mir.Facts.{toZ-ofZ}
 use lib.ListN.{length}
 use lib.Seq.{length-take-le}
 use lib.IntN.{ℤ}
+use Rattle.setting.specs.Setting.{standard}
 use Rattle.refusals.specs.declared.Refusal.the-variants.{TooFewRecords}
 use Rattle.band.specs.declared.banding.Banded.the-variants.{Refused as NotBanded}
 use Rattle.band.specs.Banding.{banded}
@@ -31,25 +32,29 @@ unaltered : (c : tie.After-band) → c .band .last .1 .1 .0 ++ c .before .before
 unaltered c = none-in-front (c .band .last .1 .1 .0) (c .before .before .args .records .now) (c .band .kept .1 .1 .0)
 
 -- what banding says of it
-said : (c : tie.After-band) → banded 64 (c .before .before .args .tolerance) (c .before .before .args .ns .now) 0 ≡ c .band .result
+said : (c : tie.After-band) → banded standard (c .before .before .args .tolerance) (c .before .before .args .ns .now) 0 ≡ c .band .result
 said c = let r = rw (toZ-ofZ (c .before .before .fits .tolerance)) at (c .band .ensures) in sym (r .0)
 
 -- and that this is 8
 few : (c : tie.After-refusal) → let d = c .before .before .before .before .before .before in
-    banded 64 (d .before .before .args .tolerance) (d .before .before .args .ns .now) 0 ≡ NotBanded (TooFewRecords (c .refusal .given .0 .0))
+    banded standard (d .before .before .args .tolerance) (d .before .before .args .ns .now) 0 ≡ NotBanded (TooFewRecords (c .refusal .given .0 .0))
 few c = let b = c .before .before .before in said (b .before .before .before) ∙ b .banded .given .1 ∙ ap NotBanded (c .refusal .given .1)
 
 returns : tie.Need-returns
 returns c =
     let d = c .before .before .before .before .before .before .before .before in
-    let a = d .before .before .args in
-    (unaltered d, few-again 64 (a .tolerance) (a .ns .now) (length (a .records .now)) (a .point) (few (c .before .before)) (omega (arith, c .if1 .taken)))
+    let a = d .before .before .args in (
+      unaltered d,
+      few-again standard (a .tolerance) (a .ns .now) (length (a .records .now)) (a .point) (few (c .before .before)) (omega (arith, c .if1 .taken)),
+    )
 
 returns-2 : tie.Need-returns-2
 returns-2 c =
     let d = c .before .before .before .before .before .before .before .before in
-    let a = d .before .before .args in
-    (unaltered d, few-no-more 64 (a .tolerance) (a .ns .now) (length (a .records .now)) (a .point) (few (c .before .before)) (omega (arith, c .if1 .left)))
+    let a = d .before .before .args in (
+      unaltered d,
+      few-no-more standard (a .tolerance) (a .ns .now) (length (a .records .now)) (a .point) (few (c .before .before)) (omega (arith, c .if1 .left)),
+    )
 
 -- the places of the other refusals in their enum; 8 stands at place 7
 abbrev others : List ℕ
@@ -61,7 +66,7 @@ returns-3 c =
     let d = b .before .before .before in
     let a = d .before .before .args in
     let other : (l : ℕ) → TooFewRecords l ≡ b .banded .given .0 .0 → ⊥ = λ l e. miss others 7 tt (rw (sym e) at (c .match2 .keys2)) in
-    (unaltered d, other-again 64 (a .tolerance) (a .ns .now) (length (a .records .now)) (a .point) other (said d ∙ b .banded .given .1))
+    (unaltered d, other-again standard (a .tolerance) (a .ns .now) (length (a .records .now)) (a .point) other (said d ∙ b .banded .given .1))
 
 -- there is a leaf, for which there is no room
 returns-4 : tie.Need-returns-4
@@ -69,7 +74,7 @@ returns-4 c =
     let d = c .before .before .before in
     let a = d .before .before .args in
     let done = said d ∙ c .enum-told .given .1 in
-    absurd (omega (arith, done-some 64 (a .tolerance) (a .ns .now) [] done, done-room 64 (a .tolerance) (a .ns .now) 0 done))
+    absurd (omega (arith, done-some standard (a .tolerance) (a .ns .now) [] done, done-room standard (a .tolerance) (a .ns .now) 0 done))
 
 pub refusal-or-spec : {M : Type 1} → statement M
 refusal-or-spec =

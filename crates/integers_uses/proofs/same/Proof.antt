@@ -9,8 +9,5 @@ use Rattle.integers_uses.proofs.same.Tie as tie
 returns : tie.Need-returns
 returns c = toZ-ofZ (c .before .fits .a) ∙ equal (c .before .fits .a) (c .before .fits .b) (c .if1 .taken)
 
-returns-2 : tie.Need-returns-2
-returns-2 c = search needs
-
 pub same-spec : {M : Type 1} → statement M
-same-spec = tie.close (tie.spec returns returns-2)
+same-spec = tie.close (tie.spec returns (λ c. search needs))

@@ -23,17 +23,14 @@ square? k x = (leZ x (pos (k * k)) && leZ (pos (k * k)) x) && ltb (mag x) (2 ^ 6
 is-square : (k : ℕ) (x : ℤ) → T (square? k x) → toZ w64 (ofZ w64 x) ≡ pos (k * k)
 is-square k x t =
     let u = and-left (leZ x (pos (k * k)) && leZ (pos (k * k)) x) (ltb (mag x) (2 ^ 63)) t in
-    toZ-ofZ {w = w64} {z = x} (record { sfits = ltb→lt (mag x) (2 ^ 63) (and-right (leZ x (pos (k * k)) && leZ (pos (k * k)) x) (ltb (mag x) (2 ^ 63)) t) })
-    ∙ ≤ℤ-antisymm (leZ-yes (and-left (leZ x (pos (k * k))) (leZ (pos (k * k)) x) u)) (leZ-yes (and-right (leZ x (pos (k * k))) (leZ (pos (k * k)) x) u))
-
-mul-result : tie.Need-mul-result
-mul-result c = search needs
-
-array-copy-out-result : tie.Need-array-copy-out-result
-array-copy-out-result c = search needs
+    toZ-ofZ {w = w64} {z = x} (record {
+      sfits = ltb→lt (mag x) (2 ^ 63) (and-right (leZ x (pos (k * k)) && leZ (pos (k * k)) x) (ltb (mag x) (2 ^ 63)) t);
+    })
+    ∙ ≤ℤ-antisymm (leZ-yes (and-left (leZ x (pos (k * k))) (leZ (pos (k * k)) x) u))
+    (leZ-yes (and-right (leZ x (pos (k * k))) (leZ (pos (k * k)) x) u))
 
 returns : tie.Need-returns
 returns c = let n = c .before .args .n in is-square n (entry squares n) (at square? squares (pos 0) tt n (c .before .pre))
 
 pub square-spec : {M : Type 1} → statement M
-square-spec = tie.close (tie.spec mul-result array-copy-out-result returns)
+square-spec = tie.close (tie.spec (λ c. search needs) (λ c. search needs) returns)

@@ -19,12 +19,6 @@ ruleset known = (machine, count-n, count-k)
 cast-result : tie.Need-cast-result
 cast-result c = fits! (search (known, c .fits .a) depth 40) tt
 
-cast-result-2 : tie.Need-cast-result-2
-cast-result-2 c = search needs
-
-cast-result-3 : tie.Need-cast-result-3
-cast-result-3 c = search needs
-
 mul-result : tie.Need-mul-result
 mul-result c = fits! (search known depth 40) tt
 
@@ -35,4 +29,4 @@ returns : tie.Need-returns
 returns c = is! (search (known, c .fits .a) depth 40) tt
 
 pub widened-spec : {M : Type 1} → statement M
-widened-spec = tie.close (tie.spec cast-result cast-result-2 cast-result-3 mul-result add-result returns)
+widened-spec = tie.close (tie.spec cast-result (λ c. search needs) (λ c. search needs) mul-result add-result returns)

@@ -1,15 +1,12 @@
 -- `judge::judge_point` meets its contract: each return is check 11 of a coordinate, or what the search finds.
-use mathlib.Core.Path.{_≡_, sym, _∙_, ap}
+use mathlib.Core.Path.{_≡_, sym, _∙_}
 use mathlib.Core.Bool.{true}
-use mir.Syntax.{w32, w64}
-use mir.Val.{SFits}
-use mir.Facts.{toZ-ofZ, sfits-widen}
+use mir.Facts.{toZ-ofZ}
 use borrow.Author.Needs.{needs}
 use borrow.Author.Tests.{not-true, not-false}
-use lib.IntN.{ℤ}
-use Rattle.integers.proofs.Ranges.{stored}
-use Rattle.integers.proofs.Machine.{machine, fits! }
+use Rattle.setting.specs.Setting.{standard}
 use Rattle.boxes.specs.Ranges.{inRange}
+use Rattle.judge.proofs.Passing.{wide-fits, widened}
 use Rattle.judge.proofs.Holders.{range-size}
 use Rattle.judge.proofs.Answers.{x-bad, y-bad, none-bad, judged-refused, judged-found}
 use Rattle.judge.proofs.judge_point.Statement.{statement}
@@ -23,7 +20,7 @@ returns c =
     let s = c .before .before in
     let a = s .args in
     let f = rw (toZ-ofZ (s .fits .x)) at (sym (c .before .in-range .ensures) ∙ not-true (c .before .in-range .result) (c .if1 .taken)) in
-    judged-refused 64 (a .leaves .now) (a .x) (a .y) _ (x-bad 64 (a .leaves .now) (a .x) (a .y) (s .pre) f)
+    judged-refused standard (a .leaves .now) (a .x) (a .y) _ (x-bad standard (a .leaves .now) (a .x) (a .y) (s .pre) f)
 
 -- past the test of x
 x-fine : (c : tie.Else1) → inRange (c .before .before .args .x) ≡ true
@@ -38,21 +35,19 @@ returns-2 c =
     let s = d .before .before in
     let a = s .args in
     let f = rw (toZ-ofZ (s .fits .y)) at (sym (c .before .in-range2 .ensures) ∙ not-true (c .before .in-range2 .result) (c .if2 .taken)) in
-    judged-refused 64 (a .leaves .now) (a .x) (a .y) _ (y-bad 64 (a .leaves .now) (a .x) (a .y) (s .pre) (x-fine d) f)
+    judged-refused standard (a .leaves .now) (a .x) (a .y) _ (y-bad standard (a .leaves .now) (a .x) (a .y) (s .pre) (x-fine d) f)
 
 -- past the test of y
 y-fine : (c : tie.Else2) → inRange (c .before .before .before .before .args .y) ≡ true
-y-fine c = rw (toZ-ofZ (c .before .before .before .before .fits .y)) at (sym (c .before .in-range2 .ensures) ∙ not-false (c .before .in-range2 .result) (c .if2 .left))
-
--- a number of 32 bits, read as one of 64
-widened : {z : ℤ} → SFits w32 z → stored w64 (stored w32 z) ≡ z
-widened fits = ap (stored w64) (toZ-ofZ fits) ∙ toZ-ofZ (sfits-widen {w′ = w64} tt fits)
+y-fine c =
+    rw (toZ-ofZ (c .before .before .before .before .fits .y)) at
+    (sym (c .before .in-range2 .ensures) ∙ not-false (c .before .in-range2 .result) (c .if2 .left))
 
 cast-find : tie.Need-cast-find
-cast-find c = fits! (search (machine, c .before .before .before .before .fits .x) depth 40) tt
+cast-find c = wide-fits (c .before .before .before .before .fits .x)
 
 cast-find-2 : tie.Need-cast-find-2
-cast-find-2 c = fits! (search (machine, c .before .before .before .before .fits .y) depth 40) tt
+cast-find-2 c = wide-fits (c .before .before .before .before .fits .y)
 
 find-requires : tie.Need-find-requires
 find-requires c κs =
@@ -66,7 +61,8 @@ returns-3 c =
     let d = c .before .before .before in
     let s = d .before .before in
     let a = s .args in
-    judged-found 64 (a .leaves .now) (a .x) (a .y) (c .find .result) (none-bad 64 (a .leaves .now) (a .x) (a .y) (s .pre) (x-fine d) (y-fine (c .before)))
+    judged-found standard (a .leaves .now) (a .x) (a .y) (c .find .result)
+    (none-bad standard (a .leaves .now) (a .x) (a .y) (s .pre) (x-fine d) (y-fine (c .before)))
     (rw (widened (s .fits .x), widened (s .fits .y)) at (c .find .ensures))
 
 pub judge-point-spec : {M : Type 1} → statement M

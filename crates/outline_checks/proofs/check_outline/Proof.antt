@@ -1,5 +1,5 @@
--- `outline_checks::check_outline` meets its contract. The loop's invariant: with `count` curves read up to index `at`, the whole list's answer is what the rest
--- of it gives, counted on. The measure is what is left of the list.
+-- `outline_checks::check_outline` meets its contract. The loop's invariant: with `count` curves read up to index `at`, the whole list's answer is
+-- what the rest of it gives, counted on. The measure is what is left of the list.
 use mathlib.Core.Path.{_≡_, refl, sym, _∙_, ap}
 use mathlib.Core.List.{List, [], _∷_}
 use mathlib.Core.Option.{Option, none, some}
@@ -13,11 +13,12 @@ use Rattle.refusals.specs.declared.Refusal.{Refusal}
 use Rattle.refusals.specs.declared.Refusal.the-variants.{EmptyOutline, TooManyCurves}
 use Rattle.curve_nodes.specs.declared.Curve.{Curve}
 use Rattle.outline.specs.declared.Checked.{Checked}
-use Rattle.outline.specs.declared.Checked.the-variants.{Curves, Refused}
-use Rattle.outline.specs.declared.curve_faults.Fault.the-variants.{Is, Nothing}
+use Rattle.outline.specs.declared.Checked.the-variants.{Curves, Faulty}
+use Rattle.outline.specs.declared.curve_faults.Fault.the-variants.{Is, NoFault}
 use Rattle.outline.specs.Curves.{nextAt, curveAt}
-use Rattle.outline.specs.Faults.{faultAt, faultOf}
-use Rattle.outline.specs.Checks.{Outlined, curves, faulty, withCurve, outlineFrom, outlined, checkedOf}
+use Rattle.outline.specs.Faults.{faultAt}
+use Rattle.outline.specs.Inside.{faultOf, checkedOf}
+use Rattle.outline.specs.Checks.{Outlined, curves, faulty, withCurve, outlineFrom, outlined}
 use Rattle.integers.proofs.Clash.{clash}
 use Rattle.outline.proofs.Faultless.{faultless}
 use Rattle.outline.proofs.Steps.{outline-ended, outline-full, outline-faulty, outline-step}
@@ -27,7 +28,7 @@ use Rattle.outline_checks.proofs.check_outline.Tie as tie
 -- ---- counting on
 abbrev counted : ℕ → Outlined → Checked
 counted k (curves cs) = Curves (k + length cs)
-counted k (faulty r) = Refused r
+counted k (faulty r) = Faulty r
 
 counted-none : (o : Outlined) → checkedOf o ≡ counted 0 o
 counted-none (curves cs) = ap Curves (sym (zero-add (length cs)))
@@ -45,7 +46,7 @@ is-fault : (o : Option Refusal) (r : Refusal) → faultOf o ≡ Is r → o ≡ s
 is-fault none r e = clash (cc)
 is-fault (some q) r e = cc
 
-no-fault : (o : Option Refusal) → faultOf o ≡ Nothing → o ≡ none
+no-fault : (o : Option Refusal) → faultOf o ≡ NoFault → o ≡ none
 no-fault none e = refl
 no-fault (some q) e = clash (cc)
 
@@ -54,7 +55,7 @@ record Read (ns : List ℤ) (most at count : ℕ) : Type 0 where
   few : count ≤ most
   is : checkedOf (outlined most ns) ≡ counted count (outlineFrom (most - count) ns at)
 
-empty : (ns : List ℤ) (most : ℕ) → length ns ≡ 0 → Refused EmptyOutline ≡ checkedOf (outlined most ns)
+empty : (ns : List ℤ) (most : ℕ) → length ns ≡ 0 → Faulty EmptyOutline ≡ checkedOf (outlined most ns)
 unfolding outlined
 empty [] most e = refl
 empty (z ∷ ns) most e = absurd (omega arith)
@@ -65,7 +66,7 @@ begun [] most e = absurd (e refl)
 begun (z ∷ ns) most e = record { few = omega arith; is = rw sub-zero (counted-none (outlineFrom most (z ∷ ns) 0)) }
 
 module _ {ns : List ℤ} {most at count : ℕ} (r : Read ns most at count) where
-  too-many : count ≡ most → at < length ns → Refused (TooManyCurves at) ≡ checkedOf (outlined most ns)
+  too-many : count ≡ most → at < length ns → Faulty (TooManyCurves at) ≡ checkedOf (outlined most ns)
   too-many e h = let n : most - count ≡ 0 = omega arith in sym (r .is ∙ rw n (ap (counted count) (outline-full ns at h)))
 
   over : length ns ≤ at → Curves count ≡ checkedOf (outlined most ns)
@@ -75,7 +76,7 @@ module _ {ns : List ℤ} {most at count : ℕ} (r : Read ns most at count) where
     room : most - count ≡ suc (most - (count + 1))
     room = let m = r .few in omega arith
 
-    stopped : (f : Refusal) → at < length ns → faultAt ns at ≡ some f → Refused f ≡ checkedOf (outlined most ns)
+    stopped : (f : Refusal) → at < length ns → faultAt ns at ≡ some f → Faulty f ≡ checkedOf (outlined most ns)
     stopped f h e = sym (r .is ∙ rw room (ap (counted count) (outline-faulty ns at (most - (count + 1)) f h e)))
 
     gone-on : faultAt ns at ≡ none → Read ns most (nextAt ns at) (count + 1)

@@ -3,10 +3,6 @@ use borrow.Author.Needs.{needs}
 use Rattle.text_outline.proofs.Filling.{put-line, put-quadratic, put-cubic}
 use Rattle.text_outline.proofs.put_curve.Statement.{statement}
 use Rattle.text_outline.proofs.put_curve.Tie as tie
-use Rattle.text_outline.proofs.put_curve.Reads as reads
-use Rattle.text_outline.proofs.put_curve.Lts as lts
-use Rattle.text_outline.proofs.put_first.Reads as put-first-reads
-use Rattle.text_outline.proofs.put_pair.Reads as put-pair-reads
 
 returns : tie.Need-returns
 returns c = search put-line

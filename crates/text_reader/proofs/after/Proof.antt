@@ -20,9 +20,11 @@ use ghost.Atoms.{Atoms, sem}
 use contract.Lifetimes.{Lfts}
 use contract.Monad.{Fun, fact}
 use contract.Running.{givenOf, tables, tablesOf}
-use types.Kit.{Given, ‵, raw, _⊛_, some, later, _$_, _∵_, !, qed, by, move, drop, use1, split, join, pick, fsplit, fjoin, suffices, frame, await, done}
+use types.Kit.{Given, ‵, raw, _⊛_, some, later, _$_, _∵_, !, qed, by, move, drop, use1, split, join, pick, fsplit, fjoin, suffices, frame, await}
+use types.Kit.{done}
 use types.Part.{whole, sub, look-in, agg}
-use types.Run.{look, init, forget, stop, fld, from, load, of-opd, and-then, no-more, assigns, land, returns, enter, alloc1, alloc0, params1, pass1, pass0, free1, free0}
+use types.Run.{look, init, forget, stop, fld, from, load, of-opd, and-then, no-more, assigns, land, returns, enter, alloc1, alloc0, params1, pass1}
+use types.Run.{pass0, free1, free0}
 use sound.WpLaws.{FmC, fmOf, WpFn-mono}
 use denote.RattleType.{RattleType, owns}
 use denote.Laws.{Is, shows}
@@ -51,9 +53,9 @@ use Rattle.text_forms.proofs.forms.Form as S
 use Rattle.text_forms.proofs.forms.Form.Laws as S′
 use Rattle.text_reader.proofs.place_after as step
 use Rattle.text_reader.proofs.place_after.Symbol as step-def
-use Rattle.text_reader.proofs.place_after.Symbol.{name as #line_reader·place-after}
+use Rattle.text_reader.proofs.place_after.Symbol.{name as #text_reader·place-after}
 use Rattle.text_reader.proofs.place_after.Met as step-thm
-use Rattle.text_reader.proofs.after.Key.{name as #line_reader·after}
+use Rattle.text_reader.proofs.after.Key.{name as #text_reader·after}
 use Rattle.text_reader.proofs.after as after
 use Rattle.text_reader.proofs.after.Statement as stated
 use Rattle.text_reader.proofs.after.Code as code
@@ -135,7 +137,7 @@ module _ {M : Type 1} (𝓤 : URA M) (H : Heap 𝓤) (A : Atoms 𝓤) (W : Given
   typed wt n u is = subst (λ (x : Val). Holds (hasTy (T′.mir (named 0)) (with-number x)) × WT (with-number x)) (sym (ap only (is .0)))
       (tt, (wt .1 .0, (record { fits = is .1 }, tt)))
 
-  module _ (C : Calls 𝓤 H) (Λ : Loops 𝓤 H) (fm : FmC 𝓤 H (W .laws) C) (known : Triple 𝓤 (C #line_reader·place-after) (StepAt 𝓤 H A mem run)) where
+  module _ (C : Calls 𝓤 H) (Λ : Loops 𝓤 H) (fm : FmC 𝓤 H (W .laws) C) (known : Triple 𝓤 (C #text_reader·place-after) (StepAt 𝓤 H A mem run)) where
     walk : Holds (hasTy (T′.mir (named 0)) mach) × WT mach → ent 𝓤 Entry (WpFn 𝓤 H C Λ code.function (mach ∷ form-val f ∷ []) Post)
     walk wt =
         qed W ((‵ (flft κ q) ⊛ ‵ ftrue) ∷ ‵ (owns (B (κ, tt) ∷ S.the-row ∷ []) (d, (f, tt)) at) ∷ []) ∵ enter ! C Λ code.function
@@ -163,7 +165,7 @@ module _ {M : Type 1} (𝓤 : URA M) (H : Heap 𝓤) (A : Atoms 𝓤) (W : Given
         drop ! $ by ! (exits n u is e)))))))))))
 
 module _ {M : Type 1} (𝓤 : URA M) (H : Heap 𝓤) (A : Atoms 𝓤) (W : Given 𝓤 H A) (mem : Memory → SProp 𝓤) (run : Routine → Fun 𝓤) where
-  after-walks : (C : Calls 𝓤 H) (Λ : Loops 𝓤 H) → FmC 𝓤 H (W .laws) C → Triple 𝓤 (C #line_reader·place-after) (StepAt 𝓤 H A mem run)
+  after-walks : (C : Calls 𝓤 H) (Λ : Loops 𝓤 H) → FmC 𝓤 H (W .laws) C → Triple 𝓤 (C #text_reader·place-after) (StepAt 𝓤 H A mem run)
       → Walks 𝓤 H A after.ended stayed (WpFn 𝓤 H C Λ code.function) (after.clauses 𝓤 H A mem run)
   after-walks C Λ fm known = walked 𝓤 H A after.ended stayed (after.clauses 𝓤 H A mem run) (WpFn 𝓤 H C Λ code.function)
       (λ κs. (LL.vals (T.the-type (namedLft 1 0 tt κs)) (T′.the-laws (namedLft 1 0 tt κs)), (EL.vals S.the-type S′.the-laws, tt)))
@@ -172,7 +174,7 @@ module _ {M : Type 1} (𝓤 : URA M) (H : Heap 𝓤) (A : Atoms 𝓤) (W : Given
       (LL.lawful (T.the-type (namedLft 1 0 tt κs)) (T′.the-laws (namedLft 1 0 tt κs)) 𝓤 H A W .typed (a .0) _ (are .0) .0)))
 
 after-meets : {M : Type 1} (𝓤 : URA M) (H : Heap 𝓤) (A : Atoms 𝓤) (W : Given 𝓤 H A) (mem : Memory → SProp 𝓤) (run : Routine → Fun 𝓤) (𝓣 : Tables 𝓤 H)
-    → Triple 𝓤 (𝓣 .C #line_reader·place-after) (StepAt 𝓤 H A mem run)
+    → Triple 𝓤 (𝓣 .C #text_reader·place-after) (StepAt 𝓤 H A mem run)
     → Meets 𝓤 H A after.signature (WpFn 𝓤 H (𝓣 .C) (𝓣 .Λ) code.function) (after.spec 𝓤 H A mem run)
 after-meets 𝓤 H A W mem run 𝓣 known-step = walk-meets 𝓤 H A after.ended stayed W (
   goes-none 𝓤 H A W 1 B yes (λ κs x f. refl),
@@ -185,7 +187,7 @@ pub after-spec : {M : Type 1} → stated.statement M
 unfolding code.routine tablesOf
 after-spec 𝓤 H 𝓜 𝓖 𝓡 =
     entered 𝓤 H (tripleOf 𝓤 H (𝓖 .A) after.signature (after.spec 𝓤 H (𝓖 .A) (𝓜 .mem) (𝓡 .run)))
-    (tables 𝓤 H 𝓜 𝓡 code.env .C) (tables 𝓤 H 𝓜 𝓡 code.env .Λ) #line_reader·after code.function (code.unfolded 𝓤 H 𝓜 𝓡)
+    (tables 𝓤 H 𝓜 𝓡 code.env .C) (tables 𝓤 H 𝓜 𝓡 code.env .Λ) #text_reader·after code.function (code.unfolded 𝓤 H 𝓜 𝓡)
     (after-meets 𝓤 H (𝓖 .A) (givenOf 𝓤 H 𝓜 𝓖) (𝓜 .mem) (𝓡 .run) (tablesOf 𝓤 H 𝓜 (tables 𝓤 H 𝓜 𝓡 code.env))
-    (cited 𝓤 H (StepAt 𝓤 H (𝓖 .A) (𝓜 .mem) (𝓡 .run)) 𝓜 𝓡 code.env #line_reader·place-after step-def.routine code.calls-text-reader·place-after
+    (cited 𝓤 H (StepAt 𝓤 H (𝓖 .A) (𝓜 .mem) (𝓡 .run)) 𝓜 𝓡 code.env #text_reader·place-after step-def.routine code.calls-text-reader·place-after
     (step-thm.met 𝓤 H 𝓜 𝓖 𝓡)))

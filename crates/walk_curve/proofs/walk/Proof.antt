@@ -11,11 +11,12 @@ use mir.Syntax.{w64}
 use mir.Val.{toZ}
 use mir.Facts.{toZ-ofZ}
 use Rattle.integers.proofs.Ranges.{stored}
+use Rattle.setting.specs.Setting.{standard, deepest}
 use Rattle.curve_nodes.specs.declared.Curve.{Curve}
 use Rattle.curve_nodes.specs.Nodes.{after}
-use Rattle.walk_curve.specs.declared.Walked.the-variants.{Leaves, TooWide}
-use Rattle.walk_curve.specs.Parts.{PartOf}
-use Rattle.walk_curve.specs.Walked.{deepest, nodeMeets, endsOf, walkedOf}
+use Rattle.walk_curve.specs.declared.Walked.the-variants.{Leaves, WideNode}
+use Rattle.walk_curve.specs.Inside.{PartOf, walkedOf}
+use Rattle.walk_curve.specs.Walked.{nodeMeets, endsOf}
 use Rattle.walk_tree.proofs.Counting.{few-ends}
 use Rattle.walk_tree.proofs.Failing.{none-exactly, some-exactly}
 use Rattle.walk_tree.proofs.Walking.{Walking, walking-start, walking-half, walking-leaf, walking-failed, walking-done}
@@ -29,40 +30,40 @@ use Rattle.walk_curve.proofs.walk.Tie as tie
 record Counted (T : ℤ) (c : Curve) (node leaves : ℕ) : Type 0 where
   passed : List ℕ
   count : leaves ≡ length passed
-  walking : Walking (nodeMeets T c) deepest passed node
+  walking : Walking (nodeMeets standard T c) (deepest (c .degree)) passed node
 
 module _ {T : ℤ} {c : Curve} where
   counted-start : Counted T c 1 0
-  counted-start = record { passed = []; count = refl; walking = walking-start (nodeMeets T c) deepest }
+  counted-start = record { passed = []; count = refl; walking = walking-start (nodeMeets standard T c) (deepest (c .degree)) }
 
   module _ {node leaves : ℕ} (h : Counted T c node leaves) where
     counted-few : leaves < 256
-    counted-few = omega (arith, h .count, fewer-passed (h .walking), few-ends (nodeMeets T c) deepest 1)
+    counted-few = omega (arith, h .count, fewer-passed (h .walking), few-ends (nodeMeets standard T c) (deepest (c .degree)) 1)
 
-    counted-half : nodeMeets T c node ≡ false → node < 256 → Counted T c (2 * node) leaves
+    counted-half : nodeMeets standard T c node ≡ false → node < 256 → Counted T c (2 * node) leaves
     counted-half e l = record { passed = h .passed; count = h .count; walking = walking-half (h .walking) e l }
 
-    counted-leaf : nodeMeets T c node ≡ true → (after node ≡ 1 → ⊥) → Counted T c (after node) (leaves + 1)
+    counted-leaf : nodeMeets standard T c node ≡ true → (after node ≡ 1 → ⊥) → Counted T c (after node) (leaves + 1)
     counted-leaf e l = record {
       passed = h .passed ++ node ∷ [];
       count = ap (λ n. n + 1) (h .count) ∙ sym (length-append (h .passed) (node ∷ []));
       walking = walking-leaf (h .walking) e l;
     }
 
-    counted-done : nodeMeets T c node ≡ true → after node ≡ 1 → walkedOf T c ≡ Leaves (leaves + 1)
+    counted-done : nodeMeets standard T c node ≡ true → after node ≡ 1 → walkedOf standard T c ≡ Leaves (leaves + 1)
     unfolding walkedOf
-    counted-done e l = rw (none-exactly (nodeMeets T c) (endsOf T c) .1 (all-passed (h .walking) e l), walkedOf)
+    counted-done e l = rw (none-exactly (nodeMeets standard T c) (endsOf standard T c) .1 (all-passed (h .walking) e l), walkedOf)
         (ap Leaves (ap length (walking-done (h .walking) e l) ∙ length-append (h .passed) (node ∷ []) ∙ ap (λ n. n + 1) (sym (h .count))))
 
-    counted-failed : nodeMeets T c node ≡ false → 256 ≤ node → walkedOf T c ≡ TooWide node
+    counted-failed : nodeMeets standard T c node ≡ false → 256 ≤ node → walkedOf standard T c ≡ WideNode node
     unfolding walkedOf
-    counted-failed e l = rw (some-exactly (nodeMeets T c) (endsOf T c) node .1 (walking-failed (h .walking) e l), walkedOf)
+    counted-failed e l = rw (some-exactly (nodeMeets standard T c) (endsOf standard T c) node .1 (walking-failed (h .walking) e l), walkedOf)
 
 abbrev Inv-loop : tie.InvT-loop
 Inv-loop t part₀ leaves₀ part leaves = Counted (toZ w64 t) (part₀ .curve) (part .node) leaves × PartOf (part₀ .curve) part
 
 abbrev μ-loop : tie.MeasureT-loop
-μ-loop t part₀ leaves₀ part leaves = rank deepest (part .node)
+μ-loop t part₀ leaves₀ part leaves = rank (deepest (part₀ .curve .degree)) (part .node)
 
 loop-holds : tie.Need-loop-holds Inv-loop μ-loop
 loop-holds c = (counted-start, part-whole (c .pre))
@@ -75,10 +76,12 @@ meets-requires c κs = let p = c .before .before .loop .inv .1 in rw (c .depth .
 
 -- ---- a leaf
 passes : (c : tie.Then1 Inv-loop μ-loop)
-    → let l = c .before .before .before .before in nodeMeets (stored w64 (l .before .args .t)) (l .before .args .curve) (l .loop .part .node) ≡ true
+    → let l = c .before .before .before .before in nodeMeets standard (stored w64 (l .before .args .t)) (l .before .args .curve) (l .loop .part .node)
+    ≡ true
 passes c =
     let l = c .before .before .before .before in
-    part-meets (l .loop .inv .1) (stored w64 (l .before .args .t)) (c .before .before .depth .ensures) (c .before .meets .ensures) (c .if1 .taken)
+    part-meets (l .loop .inv .1) standard (stored w64 (l .before .args .t)) (c .before .before .depth .ensures) (c .before .meets .ensures)
+    (c .if1 .taken)
 
 add-leaves : tie.Need-add-leaves Inv-loop μ-loop
 add-leaves c = omega (arith, counted-few (c .before .before .before .before .loop .inv .0))
@@ -107,10 +110,12 @@ loop-again c =
 
 -- ---- a node that does not pass
 fails : (c : tie.Else1 Inv-loop μ-loop)
-    → let l = c .before .before .before .before in nodeMeets (stored w64 (l .before .args .t)) (l .before .args .curve) (l .loop .part .node) ≡ false
+    → let l = c .before .before .before .before in nodeMeets standard (stored w64 (l .before .args .t)) (l .before .args .curve) (l .loop .part .node)
+    ≡ false
 fails c =
     let l = c .before .before .before .before in
-    part-meets (l .loop .inv .1) (stored w64 (l .before .args .t)) (c .before .before .depth .ensures) (c .before .meets .ensures) (c .if1 .left)
+    part-meets (l .loop .inv .1) standard (stored w64 (l .before .args .t)) (c .before .before .depth .ensures) (c .before .meets .ensures)
+    (c .if1 .left)
 
 returns-2 : tie.Need-returns-2 Inv-loop μ-loop
 returns-2 c =

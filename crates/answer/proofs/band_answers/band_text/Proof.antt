@@ -3,11 +3,6 @@ use borrow.Author.Needs.{needs}
 use Rattle.answer.proofs.Bands.{kept-inside, kept-length, refused-band, refused-records, text-band, text-records}
 use Rattle.answer.proofs.band_answers.band_text.Statement.{statement}
 use Rattle.answer.proofs.band_answers.band_text.Tie as tie
-use Rattle.answer.proofs.band_answers.band_text.Reads as reads
-use Rattle.answer.proofs.band_answers.band_text.Lts as lts
-use Rattle.band.proofs.band.Reads as band-reads
-use Rattle.text_lines.proofs.text_checks.check_text.Reads as check-text-reads
-use Rattle.text_outline.proofs.keep_outline.Reads as keep-outline-reads
 
 slice-reshare-prefix-band : tie.Need-slice-reshare-prefix-band
 slice-reshare-prefix-band c = search kept-inside

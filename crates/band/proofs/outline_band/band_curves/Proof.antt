@@ -3,9 +3,10 @@ use mathlib.Core.Path.{_≡_, sym, _∙_}
 use native.Mathlib.Omega.{arith}
 use borrow.Author.Needs.{needs}
 use mir.Facts.{toZ-ofZ}
-use Rattle.band_passes.specs.declared.passes.Counted.the-variants.{Leaves}
+use Rattle.setting.specs.Setting.{standard}
+use Rattle.band_passes.specs.declared.passes.Counted.the-variants.{Total}
 use Rattle.band_passes.specs.Leaves.{curvesOf}
-use Rattle.band_passes.specs.Counted.{countedOf}
+use Rattle.band_passes.specs.Inside.{countedOf}
 use Rattle.outline.specs.Checks.{outlineFrom}
 use Rattle.band.proofs.Answers.{answer-too-wide, answer-few, answer-nodes, answer-too-few, answer-list, read-count, fillable, report-done}
 use Rattle.band.proofs.outline_band.band_curves.Statement.{statement}
@@ -14,7 +15,7 @@ use Rattle.band.proofs.outline_band.band_curves.Tie as tie
 -- what the first pass counted
 counted : (c : tie.After-known-told2) →
     let s = c .before .before .before .before in
-    Leaves (c .before .leaves .given .0 .0) ≡ countedOf (s .args .t) (curvesOf (outlineFrom (s .args .curves) (s .args .ns .now) 0))
+    Total (c .before .leaves .given .0 .0) ≡ countedOf standard (s .args .t) (curvesOf (outlineFrom (s .args .curves) (s .args .ns .now) 0))
 counted c =
     let s = c .before .before .before .before in
     rw (toZ-ofZ (s .fits .t)) at (sym (c .before .leaves .given .1) ∙ c .before .before .before .count .ensures)
@@ -23,28 +24,34 @@ mul-if1 : tie.Need-mul-if1
 mul-if1 c =
     let s = c .before .before .before .before in
     let r = s .pre in
-    omega (arith, answer-few (s .args .t) (curvesOf (outlineFrom (s .args .curves) (s .args .ns .now) 0)) (counted c) (omega (arith, read-count r, r .few)))
+    omega (
+      arith,
+      answer-few standard (s .args .t) (curvesOf (outlineFrom (s .args .curves) (s .args .ns .now) 0)) (counted c)
+          (omega (arith, read-count r, r .few)),
+    )
 
 returns : tie.Need-returns
 returns c =
-    let s = c .before .before .before .before .before in
-    (answer-too-few (s .args .t) (curvesOf (outlineFrom (s .args .curves) (s .args .ns .now) 0)) (counted (c .before)) (c .if1 .taken), search needs)
+    let s = c .before .before .before .before .before in (
+      answer-too-few standard (s .args .t) (curvesOf (outlineFrom (s .args .curves) (s .args .ns .now) 0)) (counted (c .before)) (c .if1 .taken),
+      search needs,
+    )
 
 write-all-requires : tie.Need-write-all-requires
 write-all-requires c κs =
     let s = c .before .before .before .before .before .before in
-    rw (toZ-ofZ (s .fits .t)) (fillable (s .pre) (s .args .t) (counted (c .before .before)) (c .before .if1 .left))
+    rw (toZ-ofZ (s .fits .t)) (fillable (s .pre) standard (s .args .t) (counted (c .before .before)) (c .before .if1 .left))
 
 sub-nodes : tie.Need-sub-nodes
 sub-nodes c =
     let s = c .before .before .before .before .before .before .before .before in
     let cs = curvesOf (outlineFrom (s .args .curves) (s .args .ns .now) 0) in
-    omega (arith, answer-nodes (s .args .t) cs (counted (c .before .before .before .before)), read-count (s .pre))
+    omega (arith, answer-nodes standard (s .args .t) cs (counted (c .before .before .before .before)), read-count (s .pre))
 
 returns-2 : tie.Need-returns-2
 returns-2 c =
     let s = c .before .before .before .before in (
-      answer-too-wide (s .args .t) (curvesOf (outlineFrom (s .args .curves) (s .args .ns .now) 0)) _
+      answer-too-wide standard (s .args .t) (curvesOf (outlineFrom (s .args .curves) (s .args .ns .now) 0)) _
           (rw (toZ-ofZ (s .fits .t)) at (sym (c .before .refusal .given .1) ∙ c .before .before .before .count .ensures)),
       search needs,
     )
@@ -54,9 +61,9 @@ returns-3 c =
     let s = c .before .before .before .before .before .before .before .before in
     let e = counted (c .before .before .before .before) in
     let h = c .before .before .before .if1 .left in (
-      report-done (s .pre) (s .args .t) e h,
+      report-done (s .pre) standard (s .args .t) e h,
       (rw (toZ-ofZ (s .fits .t)) at (c .before .write-all .ensures))
-          ∙ answer-list (s .args .t) (curvesOf (outlineFrom (s .args .curves) (s .args .ns .now) 0)) e (s .args .records .now) h,
+          ∙ answer-list standard (s .args .t) (curvesOf (outlineFrom (s .args .curves) (s .args .ns .now) 0)) e (s .args .records .now) h,
     )
 
 pub band-curves-spec : {M : Type 1} → statement M

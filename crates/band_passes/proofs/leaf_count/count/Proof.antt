@@ -1,5 +1,5 @@
--- `band_passes::leaf_count::count` meets its contract. The loop's invariant: with k curves done and so many leaves counted, the whole outline's answer is what the
--- rest of it gives, counted on. The measure is the number of curves left.
+-- `band_passes::leaf_count::count` meets its contract. The loop's invariant: with k curves done and so many leaves counted, the whole outline's
+-- answer is what the rest of it gives, counted on. The measure is the number of curves left.
 use mathlib.Core.Path.{_≡_, sym, _∙_, ap}
 use Prim.Native.Nat.{_-_}
 use native.Mathlib.Omega.{arith}
@@ -8,17 +8,18 @@ use mir.Syntax.{w64}
 use mir.Val.{toZ}
 use mir.Facts.{toZ-ofZ}
 use Rattle.integers.proofs.Ranges.{stored}
+use Rattle.setting.specs.Setting.{standard}
 use Rattle.outline.specs.Curves.{curveAt}
 use Rattle.outline.proofs.Faultless.{faultless}
-use Rattle.walk_curve.specs.declared.Walked.the-variants.{Leaves as WalkLeaves}
-use Rattle.walk_curve.specs.Walked.{walkedOf}
+use Rattle.walk_curve.specs.declared.Walked.the-variants.{Leaves}
+use Rattle.walk_curve.specs.Inside.{walkedOf}
 use Rattle.band_passes.proofs.Outlines.{rest-next}
 use Rattle.band_passes.proofs.CountPasses.{Passed, passed-start, passed-wide, passed-few, passed-more, passed-done}
 use Rattle.band_passes.proofs.leaf_count.count.Statement.{statement}
 use Rattle.band_passes.proofs.leaf_count.count.Tie as tie
 
 abbrev Inv-loop : tie.InvT-loop
-Inv-loop ns t curves leaves₀ at₀ k₀ leaves at k = Passed (toZ w64 t) ns curves k at leaves
+Inv-loop ns t curves leaves₀ at₀ k₀ leaves at k = Passed standard (toZ w64 t) ns curves k at leaves
 
 abbrev μ-loop : tie.MeasureT-loop
 μ-loop ns t curves leaves₀ at₀ k₀ leaves at k = curves - k
@@ -43,25 +44,30 @@ returns c =
     let s = t .before .before .before .before in
     rw (toZ-ofZ (s .fits .t)) at
     (passed-wide (t .before .before .before .loop .inv) (t .before .before .loop-test .taken) (c .before .node .given .0 .0)
-    (sym (c .before .node .given .1) ∙ t .walk .ensures ∙ ap (walkedOf _) (t .before .curve-at .ensures)))
+    (sym (c .before .node .given .1) ∙ t .walk .ensures ∙ ap (walkedOf standard _) (t .before .curve-at .ensures)))
 
 -- what the walk of the curve at hand gave
 leaves-walked : (c : tie.After-known-told2 Inv-loop μ-loop) →
     let l = c .before .before .before .before .before .before in
-    WalkLeaves (c .before .n .given .0 .0) ≡ walkedOf (stored w64 (l .before .args .t)) (curveAt (l .before .args .ns .now) (l .loop .at))
+    Leaves (c .before .n .given .0 .0) ≡ walkedOf standard (stored w64 (l .before .args .t)) (curveAt (l .before .args .ns .now) (l .loop .at))
 leaves-walked c =
     let t = c .before .before .before in
-    sym (c .before .n .given .1) ∙ t .walk .ensures ∙ ap (walkedOf _) (t .before .curve-at .ensures)
+    sym (c .before .n .given .1) ∙ t .walk .ensures ∙ ap (walkedOf standard _) (t .before .curve-at .ensures)
 
 add-leaves : tie.Need-add-leaves Inv-loop μ-loop
 add-leaves c =
     let l = c .before .before .before .before .before .before in
-    omega (arith, passed-few (l .loop .inv) (c .before .before .before .before .before .loop-test .taken) (c .before .n .given .0 .0) (leaves-walked c), l .before .pre .few)
+    omega (
+      arith,
+      passed-few (l .loop .inv) (c .before .before .before .before .before .loop-test .taken) (c .before .n .given .0 .0) (leaves-walked c),
+      l .before .pre .few,
+    )
 
 next-at-requires : tie.Need-next-at-requires Inv-loop μ-loop
 next-at-requires c κs =
     let l = c .before .before .before .before .before .before in
-    faultless (l .before .args .ns .now) (l .loop .at) (rest-next (l .loop .inv .rest) (l .loop .inv .ahead) (c .before .before .before .before .before .loop-test .taken) .no-fault) .degree
+    faultless (l .before .args .ns .now) (l .loop .at)
+    (rest-next (l .loop .inv .rest) (l .loop .inv .ahead) (c .before .before .before .before .before .loop-test .taken) .no-fault) .degree
 
 add-k : tie.Need-add-k Inv-loop μ-loop
 add-k c = omega (arith, c .before .before .before .before .before .before .before .before .pre .few)
@@ -70,7 +76,8 @@ loop-again : tie.Need-loop-again Inv-loop μ-loop
 loop-again c =
     let l = c .before .before .before .before .before .before .before in
     rw (c .next-at .ensures)
-    (passed-more (l .loop .inv) (c .before .before .before .before .before .before .loop-test .taken) (c .before .before .n .given .0 .0) (leaves-walked (c .before)))
+    (passed-more (l .loop .inv) (c .before .before .before .before .before .before .loop-test .taken) (c .before .before .n .given .0 .0)
+    (leaves-walked (c .before)))
 
 returns-2 : tie.Need-returns-2 Inv-loop μ-loop
 returns-2 c = rw (toZ-ofZ (c .before .before .fits .t)) at (passed-done (c .before .loop .inv) (c .loop-test .left))

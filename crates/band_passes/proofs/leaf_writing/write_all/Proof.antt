@@ -5,6 +5,7 @@ use native.Mathlib.Omega.{arith}
 use mir.Syntax.{w64}
 use mir.Val.{toZ}
 use mir.Facts.{toZ-ofZ}
+use Rattle.setting.specs.Setting.{standard}
 use Rattle.outline.proofs.Faultless.{faultless}
 use Rattle.band_passes.proofs.Outlines.{rest-next}
 use Rattle.band_passes.proofs.Filling.{Filled, filled-start, filled-length, filled-ready, filled-room, filled-on, filled-done}
@@ -12,7 +13,7 @@ use Rattle.band_passes.proofs.leaf_writing.write_all.Statement.{stateme
 use Rattle.band_passes.proofs.leaf_writing.write_all.Tie as tie
 
 abbrev Inv-loop : tie.InvT-loop
-Inv-loop records₀ ns t curves at₀ place₀ k₀ records at place k = Filled (toZ w64 t) ns curves records₀ k at place records
+Inv-loop records₀ ns t curves at₀ place₀ k₀ records at place k = Filled standard (toZ w64 t) ns curves records₀ k at place records
 
 abbrev μ-loop : tie.MeasureT-loop
 μ-loop records₀ ns t curves at₀ place₀ k₀ records at place k = curves - k
@@ -37,7 +38,8 @@ next-at-requires : tie.Need-next-at-requires Inv-loop μ-loop
 next-at-requires c κs =
     let l = c .before .before .before .before .before in
     let f = l .loop .inv in
-    faultless (l .before .args .ns .now) (l .loop .at) (rest-next (f .rest) (f .ahead) (c .before .before .before .before .loop-test .taken) .no-fault) .degree
+    faultless (l .before .args .ns .now) (l .loop .at)
+    (rest-next (f .rest) (f .ahead) (c .before .before .before .before .loop-test .taken) .no-fault) .degree
 
 add-k : tie.Need-add-k Inv-loop μ-loop
 add-k c = omega (arith, c .before .before .before .before .before .before .before .pre .readable .few)
@@ -46,7 +48,9 @@ loop-again : tie.Need-loop-again Inv-loop μ-loop
 loop-again c =
     let l = c .before .before .before .before .before .before in
     let w = c .before .before .write-curve .ensures in
-    rw (c .next-at .ensures) (filled-on (l .loop .inv) (c .before .before .before .before .before .loop-test .taken) (c .before .before .before .curve-at .ensures) (w .0) (w .1))
+    rw (c .next-at .ensures)
+    (filled-on (l .loop .inv) (c .before .before .before .before .before .loop-test .taken) (c .before .before .before .curve-at .ensures) (w .0)
+    (w .1))
 
 same-length : tie.Need-same-length Inv-loop μ-loop
 same-length c = filled-length (c .before .loop .inv)

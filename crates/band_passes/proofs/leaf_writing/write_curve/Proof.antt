@@ -10,33 +10,35 @@ use mir.Facts.{toZ-ofZ}
 use lib.ListN.{length}
 use lib.Seq.{sets, length-sets}
 use Rattle.integers.proofs.Ranges.{stored}
-use Rattle.band_passes.specs.Writing.{Ready}
-use Rattle.walk_curve.specs.Parts.{PartOf}
-use Rattle.walk_curve.specs.Walked.{deepest, nodeMeets}
+use Rattle.setting.specs.Setting.{standard, recordLength, deepest}
+use Rattle.band_passes.specs.Inside.{Ready}
+use Rattle.walk_curve.specs.Inside.{PartOf}
+use Rattle.walk_curve.specs.Walked.{nodeMeets}
 use Rattle.walk_curve.proofs.Parts.{part-whole, part-sized, part-shallow, part-meets, part-left}
 use Rattle.band_records.specs.Records.{recordOf}
 use Rattle.walk_tree.proofs.Rank.{rank}
 use Rattle.walk_tree.proofs.Walking.{walking-halvable, half-falls, leaf-falls}
 use Rattle.walk_tree.proofs.Failing.{none-passing}
-use Rattle.band_passes.proofs.Recording.{Recorded, recorded-start, recorded-length, recorded-room, recorded-half, recorded-leaf, recorded-done, writable-node, put}
+use Rattle.band_passes.proofs.Recording.{Recorded, recorded-start, recorded-length, recorded-room, recorded-half}
+use Rattle.band_passes.proofs.Recording.{recorded-leaf, recorded-done, writable-node, put}
 use Rattle.band_passes.proofs.leaf_writing.write_curve.Statement.{statement}
 use Rattle.band_passes.proofs.leaf_writing.write_curve.Tie as tie
 
 abbrev Inv-loop : tie.InvT-loop
 Inv-loop records₀ at number t part₀ place₀ records part place =
-    Recorded (toZ w64 t) (part₀ .curve) number records₀ at (part .node) place records × PartOf (part₀ .curve) part
+    Recorded standard (toZ w64 t) (part₀ .curve) number records₀ at (part .node) place records × PartOf (part₀ .curve) part
 
 abbrev μ-loop : tie.MeasureT-loop
-μ-loop records₀ at number t part₀ place₀ records part place = rank deepest (part .node)
+μ-loop records₀ at number t part₀ place₀ records part place = rank (deepest (part₀ .curve .degree)) (part .node)
 
 loop-holds : tie.Need-loop-holds Inv-loop μ-loop
 loop-holds c = (recorded-start, part-whole (c .pre .0 .sized))
 
 -- the contract's own, at the tolerance as it is stored
-ready : (c : tie.Start Inv-loop μ-loop) → Ready (stored w64 (c .args .t)) (c .args .curve)
+ready : (c : tie.Start Inv-loop μ-loop) → Ready standard (stored w64 (c .args .t)) (c .args .curve)
 ready c = rw (toZ-ofZ (c .fits .t)) (c .pre .0)
 
-room : (c : tie.At-loop Inv-loop μ-loop) → c .loop .place + 18 ≤ length (c .loop .records)
+room : (c : tie.At-loop Inv-loop μ-loop) → c .loop .place + recordLength standard ≤ length (c .loop .records)
 room c = recorded-room (c .loop .inv .0) (rw (toZ-ofZ (c .before .fits .t)) (c .before .pre .2))
 
 depth-requires : tie.Need-depth-requires Inv-loop μ-loop
@@ -47,10 +49,12 @@ meets-requires c κs = let p = c .before .before .loop .inv .1 in rw (c .depth .
 
 -- ---- a leaf
 passes : (c : tie.Then1 Inv-loop μ-loop)
-    → let l = c .before .before .before .before in nodeMeets (stored w64 (l .before .args .t)) (l .before .args .curve) (l .loop .part .node) ≡ true
+    → let l = c .before .before .before .before in nodeMeets standard (stored w64 (l .before .args .t)) (l .before .args .curve) (l .loop .part .node)
+    ≡ true
 passes c =
     let l = c .before .before .before .before in
-    part-meets (l .loop .inv .1) (stored w64 (l .before .args .t)) (c .before .before .depth .ensures) (c .before .meets .ensures) (c .if1 .taken)
+    part-meets (l .loop .inv .1) standard (stored w64 (l .before .args .t)) (c .before .before .depth .ensures) (c .before .meets .ensures)
+    (c .if1 .taken)
 
 put-record-requires : tie.Need-put-record-requires Inv-loop μ-loop
 put-record-requires c κs =
@@ -68,17 +72,17 @@ after-requires c κs = (_, c .before .before .before .before .before .before .be
 written : (c : tie.After-put-record Inv-loop μ-loop)
     → let l = c .before .before .before .before .before .before in
     let a = l .before .args in
-    c .put-record .last .0 ≡ sets (l .loop .records) (l .loop .place) (recordOf (a .number) (a .curve) (l .loop .part .node))
+    c .put-record .last .0 ≡ sets (l .loop .records) (l .loop .place) (recordOf standard (a .number) (a .curve) (l .loop .part .node))
 written c =
     let l = c .before .before .before .before .before .before in
     let a = l .before .args in
-    put (l .loop .records) (l .loop .place) (a .number) (a .curve) (l .loop .part .node) (l .loop .inv .1 .is) (c .put-record .ensures)
+    put standard (l .loop .records) (l .loop .place) (a .number) (a .curve) (l .loop .part .node) (l .loop .inv .1 .is) (c .put-record .ensures)
 
 same-length : tie.Need-same-length Inv-loop μ-loop
 same-length c =
     let l = c .before .before .before .before .before .before .before .before .before .before in
     ap length (written (c .before .before .before .before))
-    ∙ length-sets (l .loop .records) (l .loop .place) (recordOf (l .before .args .number) (l .before .args .curve) (l .loop .part .node))
+    ∙ length-sets (l .loop .records) (l .loop .place) (recordOf standard (l .before .args .number) (l .before .args .curve) (l .loop .part .node))
     ∙ recorded-length (l .loop .inv .0)
 
 returns : tie.Need-returns Inv-loop μ-loop
@@ -105,10 +109,12 @@ loop-again c =
 
 -- ---- a node that does not pass
 fails : (c : tie.Else1 Inv-loop μ-loop)
-    → let l = c .before .before .before .before in nodeMeets (stored w64 (l .before .args .t)) (l .before .args .curve) (l .loop .part .node) ≡ false
+    → let l = c .before .before .before .before in nodeMeets standard (stored w64 (l .before .args .t)) (l .before .args .curve) (l .loop .part .node)
+    ≡ false
 fails c =
     let l = c .before .before .before .before in
-    part-meets (l .loop .inv .1) (stored w64 (l .before .args .t)) (c .before .before .depth .ensures) (c .before .meets .ensures) (c .if1 .left)
+    part-meets (l .loop .inv .1) standard (stored w64 (l .before .args .t)) (c .before .before .depth .ensures) (c .before .meets .ensures)
+    (c .if1 .left)
 
 -- it has halves
 halved : (c : tie.Else1 Inv-loop μ-loop) → c .before .before .before .before .loop .part .node < 256

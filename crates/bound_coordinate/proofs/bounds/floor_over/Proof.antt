@@ -3,19 +3,13 @@ use Prim.Native.Nat.{_^_}
 use lib.Dec.{lit<}
 use lib.Pow.{pow-pos}
 use Rattle.integers.proofs.Machine.{fits!, is! }
-use Rattle.bound_coordinate.proofs.Coordinates.{bounded, raised-holds}
+use Rattle.bound_coordinate.proofs.Coordinates.{bounded, raised-computed}
 use borrow.Author.Needs.{needs}
 use Rattle.bound_coordinate.proofs.bounds.floor_over.Statement.{statement}
 use Rattle.bound_coordinate.proofs.bounds.floor_over.Tie as tie
 
 mul-raised : tie.Need-mul-raised
 mul-raised c = fits! (search bounded depth 40) tt
-
-cast-raised : tie.Need-cast-raised
-cast-raised c = search needs
-
-shr-raised : tie.Need-shr-raised
-shr-raised c = search needs
 
 add-raised : tie.Need-add-raised
 add-raised c = fits! (search (c .pre .0, bounded) depth 40) tt
@@ -29,7 +23,9 @@ sub-result c = fits! (search (c .pre .0, bounded) depth 40) tt
 returns : tie.Need-returns
 returns c =
     let a = c .args in
-    raised-holds (2 ^ 51) (a .n) (c .pre .0 .size) (2 ^ a .shift) (pow-pos (a .shift)) (is! (search (c .pre .0, bounded) depth 40) tt)
+    raised-computed (2 ^ 51) (a .n) (c .pre .0 .size) (2 ^ a .shift) (pow-pos (a .shift)) (is! (search (c .pre .0, bounded) depth 40) tt)
 
 pub floor-over-spec : {M : Type 1} → statement M
-floor-over-spec = tie.close (tie.spec mul-raised cast-raised shr-raised add-raised div-result sub-result returns)
+floor-over-spec =
+    tie.close
+    (tie.spec mul-raised (λ c. search needs) (λ c. search needs) add-raised div-result sub-result returns)

@@ -4,27 +4,21 @@ use Prim.Native.Nat.{_^_, _*_}
 use lib.IntN.{pos, _*ℤ_}
 use mir.Facts.{toZ-ofZ}
 use Rattle.integers.specs.Rounding.{floor}
-use Rattle.bound_coordinate.specs.Terms.{Holds, numerator}
-use Rattle.bound_coordinate.proofs.Coordinates.{holds-as, stored-is, restored}
+use Rattle.bound_coordinate.specs.Inside.{Computed, numerator}
+use Rattle.bound_coordinate.proofs.Coordinates.{computed-as, stored-is, restored}
 use borrow.Author.Needs.{needs}
 use Rattle.bound_coordinate.proofs.bounds.low.Statement.{statement}
 use Rattle.bound_coordinate.proofs.bounds.low.Tie as tie
 
-numerator-requires : tie.Need-numerator-requires
-numerator-requires c κs = search needs
-
-floor-over-requires : tie.Need-floor-over-requires
-floor-over-requires c κs = search needs
-
 -- the numerator, of the numbers as they were handed over
 whole : (c : tie.After-numerator) → let a = c .before .args in
-    Holds (2 ^ 51 * 1875) (numerator (a .i) (a .first) (a .last) (a .sum)) (c .numerator .result)
+    Computed (2 ^ 51 * 1875) (numerator (a .i) (a .first) (a .last) (a .sum)) (c .numerator .result)
 whole c = let f = c .before .fits in rw (toZ-ofZ (f .first), toZ-ofZ (f .last), toZ-ofZ (f .sum)) at (c .numerator .ensures)
 
 returns : tie.Need-returns
 returns c =
     let a = c .before .before .args in
-    restored (holds-as (ap (λ n. floor n (pos 1875 *ℤ pos (2 ^ a .shift))) (stored-is (whole (c .before)) tt)) (c .floor-over .ensures)) tt
+    restored (computed-as (ap (λ n. floor n (pos 1875 *ℤ pos (2 ^ a .shift))) (stored-is (whole (c .before)) tt)) (c .floor-over .ensures)) tt
 
 pub low-spec : {M : Type 1} → statement M
-low-spec = tie.close (tie.spec numerator-requires floor-over-requires returns)
+low-spec = tie.close (tie.spec (λ c κs. search needs) (λ c κs. search needs) returns)

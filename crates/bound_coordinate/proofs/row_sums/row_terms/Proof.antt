@@ -4,15 +4,9 @@ use lib.IntN.{_*ℤ_}
 use mir.Facts.{toZ-ofZ}
 use borrow.Author.Needs.{needs}
 use Rattle.integers.specs.Entry.{entry}
-use Rattle.bound_coordinate.proofs.Coordinates.{four-as, term-negative, term-other}
+use Rattle.bound_coordinate.proofs.Coordinates.{all-as, term-negative, term-other}
 use Rattle.bound_coordinate.proofs.row_sums.row_terms.Statement.{statement}
 use Rattle.bound_coordinate.proofs.row_sums.row_terms.Tie as tie
-
-row-times-requires : tie.Need-row-times-requires
-row-times-requires c κs = search needs
-
-row-times-requires-2 : tie.Need-row-times-requires-2
-row-times-requires-2 c κs = search needs
 
 returns : tie.Need-returns
 returns c =
@@ -20,7 +14,7 @@ returns c =
     let a = s .args in
     let e = toZ-ofZ (s .fits .difference) in
     let t = rw e at (c .before .if1 .taken) in
-    four-as tt (λ i h. ap (λ d. entry (a .low) i *ℤ d) e ∙ term-negative (a .high) (a .low) i (a .difference) t) (c .row-times .ensures)
+    all-as tt (λ i h. ap (λ d. entry (a .low) i *ℤ d) e ∙ term-negative (a .high) (a .low) i (a .difference) t) (c .row-times .ensures)
 
 returns-2 : tie.Need-returns-2
 returns-2 c =
@@ -28,7 +22,7 @@ returns-2 c =
     let a = s .args in
     let e = toZ-ofZ (s .fits .difference) in
     let t = rw e at (c .before .if1 .left) in
-    four-as tt (λ i h. ap (λ d. entry (a .high) i *ℤ d) e ∙ term-other (a .high) (a .low) i (a .difference) t) (c .row-times2 .ensures)
+    all-as tt (λ i h. ap (λ d. entry (a .high) i *ℤ d) e ∙ term-other (a .high) (a .low) i (a .difference) t) (c .row-times2 .ensures)
 
 pub row-terms-spec : {M : Type 1} → statement M
-row-terms-spec = tie.close (tie.spec row-times-requires row-times-requires-2 returns returns-2)
+row-terms-spec = tie.close (tie.spec (λ c κs. search needs) (λ c κs. search needs) returns returns-2)

@@ -2,6 +2,7 @@
 use mathlib.Core.Path.{refl, sym, _∙_}
 use lib.Dec.{lit<, lit≤}
 use mir.Facts.{toZ-ofZ}
+use Rattle.setting.specs.Setting.{standard}
 use Rattle.bound_coordinate.proofs.Coordinates.{bounded, small! }
 use borrow.Author.Needs.{needs}
 use borrow.Author.Tests.{not-true, not-false}
@@ -46,7 +47,7 @@ returns c =
     let a = s .args in
     let tested = c .before .is-narrow in
     let no = not-true (tested .result) (c .if1 .taken) in
-    sym (wide-fails (a .t) (a .depth) (a .curve) _ (lit≤ tt) (box-tested (a .depth) (a .curve) (b .boxes-of .ensures .0) _ (lit< tt)
+    sym (wide-fails standard (a .t) (a .depth) (a .curve) _ (lit≤ tt) (box-tested (a .depth) (a .curve) (b .boxes-of .ensures .0) _ (lit< tt)
     (c .before .before .at .ensures) (a .t) (toZ-ofZ (s .fits .t)) (tested .ensures) no))
 
 returns-2 : tie.Need-returns-2
@@ -56,7 +57,7 @@ returns-2 c =
     let a = s .args in
     let tested = c .before .is-narrow2 in
     let no = not-true (tested .result) (c .if2 .taken) in
-    sym (wide-fails (a .t) (a .depth) (a .curve) _ (lit≤ tt) (box-tested (a .depth) (a .curve) (b .boxes-of .ensures .0) _ (lit< tt)
+    sym (wide-fails standard (a .t) (a .depth) (a .curve) _ (lit≤ tt) (box-tested (a .depth) (a .curve) (b .boxes-of .ensures .0) _ (lit< tt)
     (c .before .before .at2 .ensures) (a .t) (toZ-ofZ (s .fits .t)) (tested .ensures) no))
 
 returns-3 : tie.Need-returns-3
@@ -66,7 +67,7 @@ returns-3 c =
     let a = s .args in
     let tested = c .before .is-narrow3 in
     let no = not-true (tested .result) (c .if3 .taken) in
-    sym (wide-fails (a .t) (a .depth) (a .curve) _ (lit≤ tt) (box-tested (a .depth) (a .curve) (b .boxes-of .ensures .0) _ (lit< tt)
+    sym (wide-fails standard (a .t) (a .depth) (a .curve) _ (lit≤ tt) (box-tested (a .depth) (a .curve) (b .boxes-of .ensures .0) _ (lit< tt)
     (c .before .before .at3 .ensures) (a .t) (toZ-ofZ (s .fits .t)) (tested .ensures) no))
 
 returns-4 : tie.Need-returns-4

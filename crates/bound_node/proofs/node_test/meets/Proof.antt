@@ -3,11 +3,12 @@ use mathlib.Core.Path.{sym, _∙_, ap}
 use Prim.Native.Nat.{_^_}
 use native.Mathlib.Omega.{arith}
 use mir.Facts.{toZ-ofZ}
+use Rattle.setting.specs.Setting.{standard}
 use Rattle.integers.proofs.Ranges.{lt-yes}
 use Rattle.integers.proofs.Machine.{fits!, flag! }
 use Rattle.bound_node.specs.Boxes.{meets}
-use Rattle.bound_node.proofs.Boxes.{readable-x, readable-y}
-use Rattle.bound_coordinate.specs.Terms.{Small}
+use Rattle.bound_node.proofs.Boxes.{boundable-x, boundable-y}
+use Rattle.bound_coordinate.specs.Inside.{Small}
 use Rattle.bound_coordinate.proofs.Coordinates.{bounded, small! }
 use Rattle.bound_node.proofs.Apart.{Known, known, close-meets, far-fails, below-meets, above-meets, tolerance-small}
 use borrow.Author.Needs.{needs}
@@ -42,10 +43,10 @@ mul-square : tie.Need-mul-square
 mul-square c = fits! (search (small c, bounded) depth 40) tt
 
 spread-requires : tie.Need-spread-requires
-spread-requires c κs = let p = c .before .before .before .before .pre in (readable-x (p .0) (p .1), p .1)
+spread-requires c κs = let p = c .before .before .before .before .pre in (boundable-x (p .0) (p .1), p .1)
 
 spread-requires-2 : tie.Need-spread-requires-2
-spread-requires-2 c κs = let p = c .before .before .before .before .before .pre in (readable-y (p .0) (p .1), p .1)
+spread-requires-2 c κs = let p = c .before .before .before .before .before .pre in (boundable-y (p .0) (p .1), p .1)
 
 add-is-longer : tie.Need-add-is-longer
 add-is-longer c = fits! (search (spreads (c .before .before .before .before) .x1, bounded) depth 40) tt
@@ -80,7 +81,7 @@ boxes-meet-requires c κs =
 returns-4 : tie.Need-returns-4
 returns-4 c =
     let s = c .before .before .before .before .before .before .before .before .before .before .before .before .before .before .before in
-    c .boxes-meet .ensures ∙ ap (λ t. meets t (s .args .depth) (s .args .curve)) (toZ-ofZ (s .fits .t))
+    c .boxes-meet .ensures ∙ ap (λ t. meets standard t (s .args .depth) (s .args .curve)) (toZ-ofZ (s .fits .t))
 
 add-is-longer-3 : tie.Need-add-is-longer-3
 add-is-longer-3 c = fits! (search (spreads (c .before .before .before .before .before .before) .x2, bounded) depth 40) tt
@@ -116,7 +117,7 @@ returns-6 : tie.Need-returns-6
 returns-6 c =
     let no = c .before .before .before in
     let s = no .before .before .before .before .before .before .before .before .before .before .before .before .before .before in
-    c .boxes-meet2 .ensures ∙ ap (λ t. meets t (s .args .depth) (s .args .curve)) (toZ-ofZ (s .fits .t))
+    c .boxes-meet2 .ensures ∙ ap (λ t. meets standard t (s .args .depth) (s .args .curve)) (toZ-ofZ (s .fits .t))
 
 returns-7 : tie.Need-returns-7
 returns-7 c =

@@ -1,17 +1,17 @@
 -- The numbers of an answer.
 use mathlib.Core.Path.{sym, _∙_, ap, ap₂}
 use borrow.Author.Needs.{needs}
-use Rattle.contour.specs.CAnswers.{answerOf}
+use Rattle.contour.specs.Numbers.{bandAnswerOf}
 use Rattle.contour.proofs.c_answers.in_numbers.Statement.{statement}
 use Rattle.contour.proofs.c_answers.in_numbers.Tie as tie
 
 returns : tie.Need-returns
-returns c = ap answerOf (sym (c .before .banded .given .1))
+returns c = ap bandAnswerOf (sym (c .before .banded .given .1))
 
 returns-2 : tie.Need-returns-2
 returns-2 c =
     ap₂ (λ n s. record { refusal = n; spot = s; curves = 0; leaves = 0; nodes = 0 }) (c .before .number .ensures) (c .spot .ensures)
-    ∙ ap answerOf (sym (c .before .before .before .banded2 .given .1))
+    ∙ ap bandAnswerOf (sym (c .before .before .before .banded2 .given .1))
 
 pub in-numbers-spec : {M : Type 1} → statement M
 in-numbers-spec =

@@ -1,7 +1,7 @@
 -- The numbers of a judgement.
 use mathlib.Core.Path.{sym, _∙_, ap, ap₂}
 use borrow.Author.Needs.{needs}
-use Rattle.contour.specs.CAnswers.{judgingAnswerOf}
+use Rattle.contour.specs.Numbers.{judgingAnswerOf}
 use Rattle.contour.proofs.c_answers.judgement_in_numbers.Statement.{statement}
 use Rattle.contour.proofs.c_answers.judgement_in_numbers.Tie as tie
 

@@ -10,7 +10,8 @@ returns c =
     let a = t .before .before .before .before .before .args in
     let p = t .before .before .before .struct-told .given in
     let q = t .before .struct-told2 .given in
-    same-by-y (a .p) (a .q) (number-fits (a .p .x) (p .0 .1)) (number-fits (a .q .x) (q .0 .1)) (number-fits (a .p .y) (p .1 .0 .1)) (number-fits (a .q .y) (q .1 .0 .1)) (t .if1 .taken)
+    same-by-y (a .p) (a .q) (number-fits (a .p .x) (p .0 .1)) (number-fits (a .q .x) (q .0 .1)) (number-fits (a .p .y) (p .1 .0 .1))
+    (number-fits (a .q .y) (q .1 .0 .1)) (t .if1 .taken)
 
 returns-2 : tie.Need-returns-2
 returns-2 c =

@@ -8,31 +8,45 @@ use Rattle.draw.proofs.path_points.path_point.Tie as tie
 
 returns : tie.Need-returns
 unfolding pathPoint
-returns c = point-is _ _ 1 (number-fits _ (c .struct-told .given .1 .0 .1 .1 .1 .0 .1)) (number-fits _ (c .struct-told .given .0 .1 .1 .0 .1)) (c .before .match .keys1) refl
+returns c =
+    point-is _ _ 1 (number-fits _ (c .struct-told .given .1 .0 .1 .1 .1 .0 .1)) (number-fits _ (c .struct-told .given .0 .1 .1 .0 .1))
+    (c .before .match .keys1) refl
 
 returns-2 : tie.Need-returns-2
 unfolding pathPoint
-returns-2 c = point-is _ _ 2 (number-fits _ (c .struct-told2 .given .0 .1 .1 .1 .0 .1)) (number-fits _ (c .struct-told2 .given .1 .1 .0 .1 .1 .0 .1)) (c .before .match .keys2) refl
+returns-2 c =
+    point-is _ _ 2 (number-fits _ (c .struct-told2 .given .0 .1 .1 .1 .0 .1)) (number-fits _ (c .struct-told2 .given .1 .1 .0 .1 .1 .0 .1))
+    (c .before .match .keys2) refl
 
 returns-3 : tie.Need-returns-3
 unfolding pathPoint
-returns-3 c = point-is _ _ 3 (number-fits _ (c .struct-told3 .given .0 .1 .1 .1 .0 .1)) (number-fits _ (c .struct-told3 .given .1 .1 .0 .1 .1 .1 .0 .1)) (c .before .match .keys3) refl
+returns-3 c =
+    point-is _ _ 3 (number-fits _ (c .struct-told3 .given .0 .1 .1 .1 .0 .1)) (number-fits _ (c .struct-told3 .given .1 .1 .0 .1 .1 .1 .0 .1))
+    (c .before .match .keys3) refl
 
 returns-4 : tie.Need-returns-4
 unfolding pathPoint
-returns-4 c = point-is _ _ 4 (number-fits _ (c .struct-told4 .given .1 .1 .0 .1 .1 .1 .0 .1)) (number-fits _ (c .struct-told4 .given .0 .1 .1 .1 .0 .1)) (c .before .match .keys4) refl
+returns-4 c =
+    point-is _ _ 4 (number-fits _ (c .struct-told4 .given .1 .1 .0 .1 .1 .1 .0 .1)) (number-fits _ (c .struct-told4 .given .0 .1 .1 .1 .0 .1))
+    (c .before .match .keys4) refl
 
 returns-5 : tie.Need-returns-5
 unfolding pathPoint
-returns-5 c = point-is _ _ 5 (number-fits _ (c .struct-told5 .given .1 .1 .0 .1 .1 .0 .1)) (number-fits _ (c .struct-told5 .given .0 .1 .1 .1 .0 .1)) (c .before .match .keys5) refl
+returns-5 c =
+    point-is _ _ 5 (number-fits _ (c .struct-told5 .given .1 .1 .0 .1 .1 .0 .1)) (number-fits _ (c .struct-told5 .given .0 .1 .1 .1 .0 .1))
+    (c .before .match .keys5) refl
 
 returns-6 : tie.Need-returns-6
 unfolding pathPoint
-returns-6 c = point-is _ _ 6 (number-fits _ (c .struct-told6 .given .0 .1 .1 .0 .1)) (number-fits _ (c .struct-told6 .given .1 .0 .1 .1 .1 .0 .1)) (c .before .match .keys6) refl
+returns-6 c =
+    point-is _ _ 6 (number-fits _ (c .struct-told6 .given .0 .1 .1 .0 .1)) (number-fits _ (c .struct-told6 .given .1 .0 .1 .1 .1 .0 .1))
+    (c .before .match .keys6) refl
 
 returns-7 : tie.Need-returns-7
 unfolding pathPoint
-returns-7 c = point-is _ _ 7 (number-fits _ (c .struct-told7 .given .0 .1 .1 .0 .1)) (number-fits _ (c .struct-told7 .given .1 .0 .1 .1 .0 .1)) (c .before .match .keys7) refl
+returns-7 c =
+    point-is _ _ 7 (number-fits _ (c .struct-told7 .given .0 .1 .1 .0 .1)) (number-fits _ (c .struct-told7 .given .1 .0 .1 .1 .0 .1))
+    (c .before .match .keys7) refl
 
 returns-8 : tie.Need-returns-8
 returns-8 c =

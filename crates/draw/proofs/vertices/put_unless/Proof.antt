@@ -10,7 +10,10 @@ is-same-requires : tie.Need-is-same-requires
 is-same-requires c κs = search needs
 
 returns : tie.Need-returns
-returns c = let a = c .before .before .args in unless-same (a .p) (a .q) (a .list .now) (2 * a .count) (a .count) (sym (c .before .is-same .ensures) ∙ c .if1 .taken)
+returns c =
+    let a = c .before .before .args in
+    unless-same (a .p) (a .q) (a .list .now) (2 * a .count) (a .count)
+    (sym (c .before .is-same .ensures) ∙ c .if1 .taken)
 
 put-point-requires : tie.Need-put-point-requires
 put-point-requires c κs = search needs
@@ -25,7 +28,8 @@ returns-2 : tie.Need-returns-2
 returns-2 c =
     let l = c .before .before .before in
     let a = l .before .before .args in
-    unless-new (a .p) (a .q) (a .list .now) (2 * a .count) (a .count) (sym (l .before .is-same .ensures) ∙ l .if1 .left) (c .before .put-point .ensures)
+    unless-new (a .p) (a .q) (a .list .now) (2 * a .count) (a .count) (sym (l .before .is-same .ensures) ∙ l .if1 .left)
+    (c .before .put-point .ensures)
 
 pub put-unless-spec : {M : Type 1} → statement M
 put-unless-spec =

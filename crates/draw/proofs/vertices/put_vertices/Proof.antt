@@ -13,8 +13,9 @@ returns c =
     let p = c .before in
     let v = p .before .before .before .before in
     let s = v .before .before .before .before in
-    let e = vertices-are (s .args .first) (s .args .second) (v .before .before .before .across .ensures) (v .before .before .across2 .ensures) (v .before .upright .ensures) (v .upright2 .ensures)
-    (p .before .before .ends-of .ensures) (p .before .ends-of2 .ensures) in
+    let e = vertices-are (s .args .first) (s .args .second) (v .before .before .before .across .ensures) (v .before .before .across2 .ensures)
+    (v .before .upright .ensures) (v .upright2 .ensures)
+    (p .before .before .ends-of-spans .ensures) (p .before .ends-of-spans2 .ensures) in
     (p .put-path .ensures .0 ∙ ap length e, p .put-path .ensures .1 ∙ ap (λ ps. sets (s .args .list .now) 0 (numbers ps)) e)
 
 pub put-vertices-spec : {M : Type 1} → statement M

@@ -22,7 +22,8 @@ above-all-requires c κs = search needs
 returns-2 : tie.Need-returns-2
 returns-2 c =
     let s = c .before .before .before in
-    rw (rw (toZ-ofZ (s .fits .z)) at (sym (c .before .before .below-all .ensures) ∙ c .before .if1 .left)) (rw (toZ-ofZ (s .fits .z)) at (c .above-all .ensures))
+    rw (rw (toZ-ofZ (s .fits .z)) at (sym (c .before .before .below-all .ensures) ∙ c .before .if1 .left))
+    (rw (toZ-ofZ (s .fits .z)) at (c .above-all .ensures))
 
 pub beyond-spec : {M : Type 1} → statement M
 beyond-spec = tie.close (tie.spec below-all-requires returns add-above-all above-all-requires returns-2)

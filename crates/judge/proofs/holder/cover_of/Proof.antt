@@ -2,6 +2,7 @@
 use mathlib.Core.Path.{sym, _∙_}
 use mir.Facts.{toZ-ofZ}
 use borrow.Author.Needs.{needs}
+use Rattle.setting.specs.Setting.{standard}
 use Rattle.judge.proofs.Apart.{beyond-x, beyond-y}
 use Rattle.judge.proofs.holder.cover_of.Statement.{statement}
 use Rattle.judge.proofs.holder.cover_of.Tie as tie
@@ -15,7 +16,8 @@ beyond-requires c κs = let h = c .pre .0 .inside in search needs
 returns : tie.Need-returns
 returns c =
     let s = c .before .before in
-    beyond-x (s .args .leaves .now) (s .args .x) (s .args .y) (s .args .at) (rw (toZ-ofZ (s .fits .x)) at (sym (c .before .beyond .ensures) ∙ c .if1 .taken))
+    beyond-x standard (s .args .leaves .now) (s .args .x) (s .args .y) (s .args .at)
+    (rw (toZ-ofZ (s .fits .x)) at (sym (c .before .beyond .ensures) ∙ c .if1 .taken))
 
 add-beyond-2 : tie.Need-add-beyond-2
 add-beyond-2 c = let h = c .before .before .pre .0 .inside in search needs
@@ -26,7 +28,8 @@ beyond-requires-2 c κs = let h = c .before .before .pre .0 .inside in search ne
 returns-2 : tie.Need-returns-2
 returns-2 c =
     let s = c .before .before .before .before in
-    beyond-y (s .args .leaves .now) (s .args .x) (s .args .y) (s .args .at) (rw (toZ-ofZ (s .fits .y)) at (sym (c .before .beyond2 .ensures) ∙ c .if2 .taken))
+    beyond-y standard (s .args .leaves .now) (s .args .x) (s .args .y) (s .args .at)
+    (rw (toZ-ofZ (s .fits .y)) at (sym (c .before .beyond2 .ensures) ∙ c .if2 .taken))
 
 first-cover-requires : tie.Need-first-cover-requires
 first-cover-requires c κs =

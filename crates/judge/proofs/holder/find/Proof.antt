@@ -6,29 +6,33 @@ use lib.ListN.{length}
 use mir.Syntax.{w64}
 use mir.Val.{toZ}
 use mir.Facts.{toZ-ofZ}
+use Rattle.setting.specs.Setting.{standard}
 use Rattle.judge.proofs.Holders.{record-passed, Searched, searched-none, begins-whole, searched-more, found-on, found-off}
 use Rattle.judge.proofs.holder.find.Statement.{statement}
 use Rattle.judge.proofs.holder.find.Tie as tie
 
 abbrev Inv-loop : tie.InvT-loop
-Inv-loop leaves x y at₀ leaf₀ at leaf = Searched leaves (toZ w64 x) (toZ w64 y) at leaf
+Inv-loop leaves x y at₀ leaf₀ at leaf = Searched standard leaves (toZ w64 x) (toZ w64 y) at leaf
 
 abbrev μ-loop : tie.MeasureT-loop
 μ-loop leaves x y at₀ leaf₀ at leaf = length leaves - at
 
 loop-holds : tie.Need-loop-holds Inv-loop μ-loop
-loop-holds c = searched-none (c .args .leaves .now) _ _
+loop-holds c = searched-none standard (c .args .leaves .now) _ _
 
 cover-of-requires : tie.Need-cover-of-requires Inv-loop μ-loop
 cover-of-requires c κs =
-    let s = c .before .before in
-    (record-passed (s .pre .0) (c .before .loop .at) (begins-whole (c .before .loop .inv)) (c .loop-test .taken), rw (toZ-ofZ (s .fits .x), toZ-ofZ (s .fits .y)) (s .pre .1))
+    let s = c .before .before in (
+      record-passed (s .pre .0) (c .before .loop .at) (begins-whole (c .before .loop .inv)) (c .loop-test .taken),
+      rw (toZ-ofZ (s .fits .x), toZ-ofZ (s .fits .y)) (s .pre .1),
+    )
 
 returns : tie.Need-returns Inv-loop μ-loop
 returns c =
     let l = c .before .before .before in
     let s = l .before in
-    let f = found-on (l .loop .inv) (c .before .cover-of .result) (c .before .before .loop-test .taken) (c .before .cover-of .ensures) (c .if1 .taken) in
+    let f = found-on (l .loop .inv) (c .before .cover-of .result) (c .before .before .loop-test .taken) (c .before .cover-of .ensures)
+    (c .if1 .taken) in
     rw (toZ-ofZ (s .fits .x), toZ-ofZ (s .fits .y)) at f
 
 add-at : tie.Need-add-at Inv-loop μ-loop

@@ -8,8 +8,11 @@ use Rattle.judge_cover.proofs.cover_test.cut_sides.Tie as tie
 cut-requires : tie.Need-cut-requires
 cut-requires c κs =
     let s = c .before .before .before .before in
-    let p = s .pre .1 in
-    (s .pre .0, rw (kept (s .args .sides .«low_first») (p .low-first)) (p .low-first), rw (kept (s .args .sides .«low_second») (p .low-second)) (p .low-second))
+    let p = s .pre .1 in (
+      s .pre .0,
+      rw (kept (s .args .sides .«low_first») (p .low-first)) (p .low-first),
+      rw (kept (s .args .sides .«low_second») (p .low-second)) (p .low-second),
+    )
 
 cut-requires-2 : tie.Need-cut-requires-2
 cut-requires-2 c κs =

@@ -1,4 +1,5 @@
--- `judge_cover::cover_test::held_by` meets its contract: the whole range, cut by the sides of x and then of y, has weights left where its ends are in order.
+-- `judge_cover::cover_test::held_by` meets its contract: the whole range, cut by the sides of x and then of y, has weights left where its ends are in
+-- order.
 use mathlib.Core.Path.{_∙_, ap}
 use Rattle.judge_cover.specs.Deciding.{ordered, cutSides, whole}
 use Rattle.judge_cover.proofs.Sizes.{sides-small, whole-small}

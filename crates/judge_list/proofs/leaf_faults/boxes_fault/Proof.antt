@@ -7,14 +7,15 @@ use native.Mathlib.Omega.{arith}
 use borrow.Author.Needs.{needs}
 use lib.IntN.{ℤ}
 use Rattle.integers.specs.First.{firstBad}
+use Rattle.setting.specs.Setting.{standard, breakPoints}
 use Rattle.boxes.specs.Ranges.{boxFault, placeOr}
-use Rattle.judge_list.specs.Parts.{boxesFaultAt}
+use Rattle.judge_list.specs.Inside.{boxesFaultAt}
 use Rattle.judge_list.proofs.Numbers.{box-fine, box-bad, boxes-fine}
 use Rattle.judge_list.proofs.leaf_faults.boxes_fault.Statement.{statement}
 use Rattle.judge_list.proofs.leaf_faults.boxes_fault.Tie as tie
 
 record Passed (ns : List ℤ) (at i : ℕ) : Type 0 where
-  few : i ≤ 4
+  few : i ≤ breakPoints standard
   fine : boxesFaultAt ns at (4 * i) ≡ none
 
 begun : (ns : List ℤ) (at : ℕ) → Passed ns at 0
@@ -25,7 +26,7 @@ abbrev Inv-loop : tie.InvT-loop
 Inv-loop leaves at i₀ i = Passed leaves at i
 
 abbrev μ-loop : tie.MeasureT-loop
-μ-loop leaves at i₀ i = 4 - i
+μ-loop leaves at i₀ i = breakPoints standard - i
 
 loop-holds : tie.Need-loop-holds Inv-loop μ-loop
 loop-holds c = begun (c .args .leaves .now) (c .args .at)
@@ -35,7 +36,8 @@ returns c =
     let l = c .before .before .before .before in
     let a = l .before .args in
     let e = c .before .fault .ensures ∙ ap (λ b. placeOr 4 (boxFault b)) (c .before .before .box-in .ensures) in
-    rw e (box-bad (a .leaves .now) (a .at) (l .loop .i) (l .loop .inv .fine) (c .before .before .before .loop-test .taken) (rw e at (c .if1 .taken)))
+    rw e (box-bad (a .leaves .now) (a .at) (l .loop .i) (l .loop .inv .fine) (breakPoints standard) (c .before .before .before .loop-test .taken)
+    (rw e at (c .if1 .taken)))
 
 loop-again : tie.Need-loop-again Inv-loop μ-loop
 loop-again c =
@@ -50,8 +52,8 @@ returns-2 c =
     let l = c .before in
     let few = l .loop .inv .few in
     let h = c .loop-test .left in
-    let n : 4 * l .loop .i ≡ 16 = omega arith in
-    boxes-fine (l .before .args .leaves .now) (l .before .args .at) (rw n at (l .loop .inv .fine))
+    let n : 4 * l .loop .i ≡ 4 * breakPoints standard = omega arith in
+    boxes-fine (l .before .args .leaves .now) (l .before .args .at) (4 * breakPoints standard) (rw n at (l .loop .inv .fine))
 
 pub boxes-fault-spec : {M : Type 1} → statement M
 boxes-fault-spec =

@@ -1,15 +1,16 @@
 -- `judge_list::leaf_faults::record_fault` meets its contract: the curve, the node, and then the boxes.
 use mathlib.Core.Path.{_≡_, _∙_, ap}
 use mathlib.Core.Bool.{true}
-use Prim.Native.Nat.{_+_}
+use Prim.Native.Nat.{_+_, _*_}
 use native.Mathlib.Nat.{add-zero}
 use native.Mathlib.Omega.{arith}
 use borrow.Author.Needs.{needs}
 use lib.IntN.{pos}
 use Rattle.integers.specs.Entry.{entry}
 use Rattle.integers.proofs.Between.{element-fits, found-below, found-above, found-within}
+use Rattle.setting.specs.Setting.{standard, breakPoints, greatestNode}
 use Rattle.boxes.proofs.Faults.{place-most}
-use Rattle.judge_list.specs.Parts.{boxFineAt, fineAt}
+use Rattle.judge_list.specs.Inside.{boxFineAt, fineAt}
 use Rattle.judge_list.proofs.Numbers.{curve-negative, curve-past, curve-fine, curve-bad, node-bad, boxes-next}
 use Rattle.judge_list.proofs.leaf_faults.record_fault.Statement.{statement}
 use Rattle.judge_list.proofs.leaf_faults.record_fault.Tie as tie
@@ -18,38 +19,43 @@ returns : tie.Need-returns
 returns c =
     let a = c .before .before .args in
     let ns = a .leaves .now in
-    curve-bad 64 ns (a .at) (rw add-zero (curve-negative 64 (entry ns (a .at + 1)) (element-fits ns (a .at) (c .before .curve .given)) (c .if1 .taken)))
+    curve-bad standard ns (a .at)
+    (rw add-zero (curve-negative (standard .most) (entry ns (a .at + 1)) (element-fits ns (a .at) (c .before .curve .given)) (c .if1 .taken)))
 
 returns-2 : tie.Need-returns-2
 returns-2 c =
     let a = c .before .before .before .args in
     let ns = a .leaves .now in
-    curve-bad 64 ns (a .at) (rw add-zero (curve-past 64 (entry ns (a .at + 1)) (element-fits ns (a .at) (c .before .before .curve .given)) (c .if2 .taken)))
+    curve-bad standard ns (a .at)
+    (rw add-zero (curve-past (standard .most) (entry ns (a .at + 1)) (element-fits ns (a .at) (c .before .before .curve .given)) (c .if2 .taken)))
 
-curve-passed : (c : tie.Else2) → fineAt 64 (c .before .before .before .args .leaves .now) (c .before .before .before .args .at) 0 ≡ true
+curve-passed : (c : tie.Else2) → fineAt (standard .most) (c .before .before .before .args .leaves .now) (c .before .before .before .args .at) 0 ≡ true
 curve-passed c =
     let a = c .before .before .before .args in
     let ns = a .leaves .now in
-    rw add-zero (curve-fine 64 (entry ns (a .at + 1)) (element-fits ns (a .at) (c .before .before .curve .given)) (c .before .if1 .left) (c .if2 .left))
+    rw add-zero (curve-fine (standard .most) (entry ns (a .at + 1)) (element-fits ns (a .at) (c .before .before .curve .given)) (c .before .if1 .left)
+    (c .if2 .left))
 
 returns-3 : tie.Need-returns-3
 returns-3 c =
     let e = c .before .before in
     let a = e .before .before .before .args in
     let ns = a .leaves .now in
-    node-bad 64 ns (a .at) (curve-passed e) (found-below (element-fits ns (a .at + 1) (c .before .node .given)) (pos 1) (pos 511) (c .if3 .taken))
+    node-bad standard ns (a .at) (curve-passed e)
+    (found-below (element-fits ns (a .at + 1) (c .before .node .given)) (pos 1) (pos greatestNode) (c .if3 .taken))
 
 returns-4 : tie.Need-returns-4
 returns-4 c =
     let e = c .before .before .before in
     let a = e .before .before .before .args in
     let ns = a .leaves .now in
-    node-bad 64 ns (a .at) (curve-passed e) (found-above (element-fits ns (a .at + 1) (c .before .before .node .given)) (pos 1) (pos 511) (c .if4 .taken))
+    node-bad standard ns (a .at) (curve-passed e)
+    (found-above (element-fits ns (a .at + 1) (c .before .before .node .given)) (pos 1) (pos greatestNode) (c .if4 .taken))
 
 add-result : tie.Need-add-result
 add-result c =
     let a = c .before .before .before .before .before .before .before .args in
-    let m = place-most (boxFineAt (a .leaves .now) (a .at + 2)) 16 in
+    let m = place-most (boxFineAt (a .leaves .now) (a .at + 2)) (4 * breakPoints standard) in
     omega (arith, c .boxes-fault .ensures)
 
 returns-5 : tie.Need-returns-5
@@ -58,8 +64,9 @@ returns-5 c =
     let a = e .before .before .before .args in
     let ns = a .leaves .now in
     ap (λ n. 2 + n) (c .boxes-fault .ensures)
-    ∙ boxes-next 64 ns (a .at) (curve-passed e)
-    (found-within (element-fits ns (a .at + 1) (c .before .before .before .node .given)) (pos 1) (pos 511) (c .before .before .if3 .left) (c .before .if4 .left))
+    ∙ boxes-next standard ns (a .at) (curve-passed e)
+    (found-within (element-fits ns (a .at + 1) (c .before .before .before .node .given)) (pos 1) (pos greatestNode) (c .before .before .if3 .left)
+    (c .before .if4 .left))
 
 pub record-fault-spec : {M : Type 1} → statement M
 record-fault-spec =

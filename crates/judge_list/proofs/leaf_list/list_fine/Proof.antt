@@ -5,46 +5,39 @@ use native.Mathlib.Omega.{arith}
 use borrow.Author.Needs.{needs}
 use borrow.Author.Tests.{not-true, not-false}
 use lib.ListN.{length}
-use Rattle.judge_list.proofs.Numbers.{record-left, record-fine, record-unfine, ReadTo, read-none, read-more, list-bad, list-fine}
+use Rattle.setting.specs.Setting.{standard}
+use Rattle.judge_list.proofs.Numbers.{record-fine, record-unfine, ReadTo, read-none, Turn, turn-at, read-more, list-bad, list-fine}
 use Rattle.judge_list.proofs.leaf_list.list_fine.Statement.{statement}
 use Rattle.judge_list.proofs.leaf_list.list_fine.Tie as tie
 
 abbrev Inv-loop : tie.InvT-loop
-Inv-loop leaves at₀ at = ReadTo 64 leaves at
+Inv-loop leaves at₀ at = ReadTo standard leaves at
 
 abbrev μ-loop : tie.MeasureT-loop
 μ-loop leaves at₀ at = length leaves - at
 
-loop-holds : tie.Need-loop-holds Inv-loop μ-loop
-loop-holds c = read-none 64 (c .args .leaves .now)
-
-record-fine-requires : tie.Need-record-fine-requires Inv-loop μ-loop
-record-fine-requires c κs = record-left (c .before .loop .inv .whole) (c .before .before .pre) (c .loop-test .taken)
+turn : (c : tie.In-loop Inv-loop μ-loop) → Turn standard (c .before .before .args .leaves .now) (c .before .loop .at)
+turn c = turn-at standard (c .before .before .args .leaves .now) (c .before .loop .inv) (c .before .before .pre) (c .loop-test .taken)
 
 returns : tie.Need-returns Inv-loop μ-loop
 returns c =
     let l = c .before .before .before in
     let ns = l .before .args .leaves .now in
-    let h = record-left (l .loop .inv .whole) (l .before .pre) (c .before .before .loop-test .taken) in
-    list-bad 64 ns (l .loop .at) (l .loop .inv) h (record-unfine 64 ns (l .loop .at) (sym (c .before .record-fine .ensures) ∙ not-true (c .before .record-fine .result) (c .if1 .taken)))
-
-add-at : tie.Need-add-at Inv-loop μ-loop
-add-at c =
-    let l = c .before .before .before in
-    let h = record-left (l .loop .inv .whole) (l .before .pre) (c .before .before .loop-test .taken) in
-    search needs
+    let e = sym (c .before .record-fine .ensures) ∙ not-true (c .before .record-fine .result) (c .if1 .taken) in
+    list-bad standard ns (l .loop .at) (turn (c .before .before)) (record-unfine standard ns (l .loop .at) e)
 
 loop-again : tie.Need-loop-again Inv-loop μ-loop
 loop-again c =
     let l = c .before .before .before in
     let ns = l .before .args .leaves .now in
-    let h = record-left (l .loop .inv .whole) (l .before .pre) (c .before .before .loop-test .taken) in
-    read-more 64 ns (l .loop .at) (l .loop .inv) h (record-fine 64 ns (l .loop .at) (sym (c .before .record-fine .ensures) ∙ not-false (c .before .record-fine .result) (c .if1 .left)))
+    let e = sym (c .before .record-fine .ensures) ∙ not-false (c .before .record-fine .result) (c .if1 .left) in
+    read-more standard ns (l .loop .at) (turn (c .before .before)) (record-fine standard ns (l .loop .at) e)
 
 returns-2 : tie.Need-returns-2 Inv-loop μ-loop
-returns-2 c = list-fine 64 (c .before .before .args .leaves .now) (c .before .loop .at) (c .before .loop .inv) (c .loop-test .left)
+returns-2 c = list-fine standard (c .before .before .args .leaves .now) (c .before .loop .at) (c .before .loop .inv) (c .loop-test .left)
 
 pub list-fine-spec : {M : Type 1} → statement M
 list-fine-spec =
     tie.close
-    (tie.spec Inv-loop μ-loop loop-holds record-fine-requires returns add-at (λ c. omega arith) loop-again returns-2)
+    (tie.spec Inv-loop μ-loop (λ c. read-none standard (c .args .leaves .now)) (λ c κs. turn c .more) returns
+    (λ c. let h = turn (c .before .before) .more in search needs) (λ c. omega arith) loop-again returns-2)

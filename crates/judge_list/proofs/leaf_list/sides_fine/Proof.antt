@@ -7,20 +7,21 @@ use native.Mathlib.Omega.{arith}
 use borrow.Author.Needs.{needs}
 use lib.IntN.{ℤ}
 use mir.Facts.{toZ-ofZ}
+use Rattle.setting.specs.Setting.{standard, breakPoints}
 use Rattle.integers.proofs.Between.{element-fits}
-use Rattle.judge_list.specs.Parts.{sidesFine}
+use Rattle.judge_list.specs.Inside.{sidesFine}
 use Rattle.judge_list.proofs.leaf_list.sides_fine.Statement.{statement}
 use Rattle.judge_list.proofs.leaf_list.sides_fine.Tie as tie
 
 record Passed (ns : List ℤ) (at : ℕ) (fine : Bool) (i : ℕ) : Type 0 where
-  few : i ≤ 8
+  few : i ≤ 2 * breakPoints standard
   is : fine ≡ sidesFine ns at i
 
 abbrev Inv-loop : tie.InvT-loop
 Inv-loop leaves at fine₀ i₀ fine i = Passed leaves at fine i
 
 abbrev μ-loop : tie.MeasureT-loop
-μ-loop leaves at fine₀ i₀ fine i = 8 - i
+μ-loop leaves at fine₀ i₀ fine i = 2 * breakPoints standard - i
 
 loop-holds : tie.Need-loop-holds Inv-loop μ-loop
 loop-holds c = record { few = omega arith; is = refl }
@@ -42,7 +43,7 @@ returns : tie.Need-returns Inv-loop μ-loop
 returns c =
     let few = c .before .loop .inv .few in
     let h = c .loop-test .left in
-    let n : c .before .loop .i ≡ 8 = omega arith in
+    let n : c .before .loop .i ≡ 2 * breakPoints standard = omega arith in
     rw n at (c .before .loop .inv .is)
 
 pub sides-fine-spec : {M : Type 1} → statement M

@@ -1,4 +1,5 @@
--- `outline::curve_values::curve_at` meets its contract: without a fault all coordinates are inside the list, x from `at + 1` on and y from `at + 2` on.
+-- `outline::curve_values::curve_at` meets its contract: without a fault all coordinates are inside the list, x from `at + 1` on and y from `at + 2`
+-- on.
 use Prim.Native.Nat.{_+_, _≤_}
 use native.Mathlib.Omega.{arith}
 use lib.ListN.{length}
@@ -16,8 +17,13 @@ degree-at-requires c κs = whole c .degree
 
 -- the degree as the code has it, and where the curve ends
 room : (c : tie.After-degree-at)
-    → (1 ≤ c .degree-at .result) × (c .degree-at .result ≤ 3) × (c .before .args .at + 1 + coordinates (c .degree-at .result) ≤ length (c .before .args .ns .now))
-room c = rw (c .degree-at .ensures) (degree-least (c .before .args .ns .now) (c .before .args .at) (whole (c .before) .degree), degree-most (c .before .args .ns .now) (c .before .args .at) (whole (c .before) .degree), whole (c .before) .ends)
+    → (1 ≤ c .degree-at .result) × (c .degree-at .result ≤ 3) ×
+    (c .before .args .at + 1 + coordinates (c .degree-at .result) ≤ length (c .before .args .ns .now))
+room c = rw (c .degree-at .ensures) (
+  degree-least (c .before .args .ns .now) (c .before .args .at) (whole (c .before) .degree),
+  degree-most (c .before .args .ns .now) (c .before .args .at) (whole (c .before) .degree),
+  whole (c .before) .ends,
+)
 
 add-values-at : tie.Need-add-values-at
 add-values-at c = omega (arith, room c)

@@ -31,8 +31,16 @@ module _ (ns : List ℤ) (from d : ℕ) (a : SFits w32 (entry ns from)) (b : SFi
     two : d ≡ 2 → read ns from ∷ read ns (from + 2) ∷ read ns (from + 4) ∷ pos 0 ∷ [] ≡ values ns d from
     two e = rw (e, add-zero from, widened (entry ns from) a, widened (entry ns (from + 2)) b, widened (entry ns (from + 4)) u)
 
-    three : SFits w32 (entry ns (from + 6)) → d ≡ 3 → read ns from ∷ read ns (from + 2) ∷ read ns (from + 4) ∷ read ns (from + 6) ∷ [] ≡ values ns d from
-    three v e = rw (e, add-zero from, widened (entry ns from) a, widened (entry ns (from + 2)) b, widened (entry ns (from + 4)) u, widened (entry ns (from + 6)) v)
+    three : SFits w32 (entry ns (from + 6)) → d ≡ 3
+        → read ns from ∷ read ns (from + 2) ∷ read ns (from + 4) ∷ read ns (from + 6) ∷ [] ≡ values ns d from
+    three v e = rw (
+      e,
+      add-zero from,
+      widened (entry ns from) a,
+      widened (entry ns (from + 2)) b,
+      widened (entry ns (from + 4)) u,
+      widened (entry ns (from + 6)) v,
+    )
 
 -- the elements that are read fit
 fits-0 : (c : tie.After-c0) → SFits w32 (entry (c .before .args .ns .now) (c .before .args .from))
@@ -45,8 +53,10 @@ fits-2 : (c : tie.After-c2) → SFits w32 (entry (c .before .before .before .bef
 fits-2 c = element-fits (c .before .before .before .before .args .ns .now) (c .before .before .before .before .args .from + 4) (c .c2 .given)
 
 fits-3 : (c : tie.After-c3)
-    → SFits w32 (entry (c .before .before .before .before .before .before .args .ns .now) (c .before .before .before .before .before .before .args .from + 6))
-fits-3 c = element-fits (c .before .before .before .before .before .before .args .ns .now) (c .before .before .before .before .before .before .args .from + 6) (c .c3 .given)
+    → SFits w32 (entry (c .before .before .before .before .before .before .args .ns .now)
+    (c .before .before .before .before .before .before .args .from + 6))
+fits-3 c = element-fits (c .before .before .before .before .before .before .args .ns .now)
+    (c .before .before .before .before .before .before .args .from + 6) (c .c3 .given)
 
 cast-c0 : tie.Need-cast-c0
 cast-c0 c = fits! (search (machine, fits-0 c) depth 40) tt
@@ -65,7 +75,8 @@ cast-c2 c = fits! (search (machine, fits-2 c) depth 40) tt
 returns-2 : tie.Need-returns-2
 returns-2 c =
     let s = c .before .before .before .before .before .args in
-    two (s .ns .now) (s .from) (s .degree) (fits-0 (c .before .before .before .before)) (fits-1 (c .before .before .before)) (fits-2 (c .before)) (omega arith)
+    two (s .ns .now) (s .from) (s .degree) (fits-0 (c .before .before .before .before)) (fits-1 (c .before .before .before)) (fits-2 (c .before))
+    (omega arith)
 
 cast-c3 : tie.Need-cast-c3
 cast-c3 c = fits! (search (machine, fits-3 c) depth 40) tt
@@ -73,7 +84,8 @@ cast-c3 c = fits! (search (machine, fits-3 c) depth 40) tt
 returns-3 : tie.Need-returns-3
 returns-3 c =
     let s = c .before .before .before .before .before .before .args in
-    three (s .ns .now) (s .from) (s .degree) (fits-0 (c .before .before .before .before .before)) (fits-1 (c .before .before .before .before)) (fits-2 (c .before .before)) (fits-3 c) (omega arith)
+    three (s .ns .now) (s .from) (s .degree) (fits-0 (c .before .before .before .before .before)) (fits-1 (c .before .before .before .before))
+    (fits-2 (c .before .before)) (fits-3 c) (omega arith)
 
 pub values-at-spec : {M : Type 1} → statement M
 values-at-spec =

@@ -7,8 +7,9 @@ use lib.IntN.{ℤ, pos}
 use borrow.Author.Needs.{needs}
 use Rattle.integers.specs.Entry.{entry}
 use Rattle.integers.specs.Between.{between}
-use Rattle.outline.specs.declared.curve_faults.Found.the-variants.{Nothing}
-use Rattle.outline.specs.Faults.{meetsBefore, faultAt, faultOf}
+use Rattle.outline.specs.declared.curve_faults.Found.the-variants.{Nowhere}
+use Rattle.outline.specs.Faults.{meetsBefore, faultAt}
+use Rattle.outline.specs.Inside.{faultOf}
 use Rattle.integers.proofs.Between.{element-fits, found-below, found-above, found-within}
 use Rattle.outline.proofs.Faultless.{fault-degree, fault-cut-short, fault-last, lastFault}
 use Rattle.outline_checks.proofs.curve_checks.fault_at.Statement.{statement}
@@ -27,7 +28,8 @@ returns-2 c =
     sym (ap faultOf (fault-degree ns at (found-above (element-fits ns at (c .before .before .d .given)) (pos 1) (pos 3) (c .if2 .taken))))
 
 -- past the first check
-degree-fine : (c : tie.Else2) → between (pos 1) (pos 3) (entry (c .before .before .before .args .ns .now) (c .before .before .before .args .at)) ≡ true
+degree-fine : (c : tie.Else2)
+    → between (pos 1) (pos 3) (entry (c .before .before .before .args .ns .now) (c .before .before .before .args .at)) ≡ true
 degree-fine c =
     let ns = c .before .before .before .args .ns .now in
     let at = c .before .before .before .args .at in
@@ -59,7 +61,7 @@ last-check c =
 -- past the third: whether the curve meets the one before
 meeting : (c : tie.After-meets-before) (b : Bool) → c .meets-before .result ≡ b
     → faultOf (faultAt (numbers (c .before .before .before)) (place (c .before .before .before)))
-    ≡ lastFault (place (c .before .before .before)) b Nothing
+    ≡ lastFault (place (c .before .before .before)) b Nowhere
 meeting c b e =
     let found = c .before .before .before in
     last-check found ∙ ap₂ (lastFault (place found)) (sym (c .meets-before .ensures) ∙ e) (c .before .enum-told .given .1)

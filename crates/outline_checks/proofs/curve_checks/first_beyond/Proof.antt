@@ -1,12 +1,13 @@
--- `outline_checks::curve_checks::first_beyond` meets its contract. The loop's invariant: the search from `from` on comes to the search from `i` on. The measure
--- is what is left up to `end`.
+-- `outline_checks::curve_checks::first_beyond` meets its contract. The loop's invariant: the search from `from` on comes to the search from `i` on.
+-- The measure is what is left up to `end`.
 use mathlib.Core.Path.{_≡_, refl, sym, _∙_, ap}
 use mathlib.Core.Bool.{Bool}
 use mathlib.Core.List.{List}
 use Prim.Native.Nat.{ℕ, _-_}
 use native.Mathlib.Omega.{arith}
 use lib.IntN.{ℤ, pos, negℤ}
-use Rattle.outline.specs.Faults.{coordinateFine, firstBeyond, foundOf}
+use Rattle.outline.specs.Faults.{coordinateFine, firstBeyond}
+use Rattle.outline.specs.Inside.{foundOf}
 use Rattle.integers.specs.Entry.{entry}
 use Rattle.integers.proofs.Between.{element-fits, found-below, found-above, found-within}
 use Rattle.integers.proofs.First.{bad-ended, bad-here, bad-on}
@@ -41,13 +42,15 @@ returns : tie.Need-returns Inv-loop μ-loop
 returns c =
     let l = c .before .before .before in
     let out = found-below (element-fits (l .before .args .ns .now) (l .loop .i) (c .before .z .given)) least most (c .if1 .taken) in
-    sym (ap foundOf (l .loop .inv ∙ bad-here (fine-at (l .before .args .ns .now)) (l .before .args .end) (l .loop .i) (c .before .before .loop-test .taken) out))
+    sym (ap foundOf (l .loop .inv ∙ bad-here (fine-at (l .before .args .ns .now)) (l .before .args .end) (l .loop .i)
+    (c .before .before .loop-test .taken) out))
 
 returns-2 : tie.Need-returns-2 Inv-loop μ-loop
 returns-2 c =
     let l = c .before .before .before .before in
     let out = found-above (element-fits (l .before .args .ns .now) (l .loop .i) (c .before .before .z .given)) least most (c .if2 .taken) in
-    sym (ap foundOf (l .loop .inv ∙ bad-here (fine-at (l .before .args .ns .now)) (l .before .args .end) (l .loop .i) (c .before .before .before .loop-test .taken) out))
+    sym (ap foundOf (l .loop .inv ∙ bad-here (fine-at (l .before .args .ns .now)) (l .before .args .end) (l .loop .i)
+    (c .before .before .before .loop-test .taken) out))
 
 add-i : tie.Need-add-i Inv-loop μ-loop
 add-i c = omega arith
@@ -58,7 +61,8 @@ loop-less c = omega arith
 loop-again : tie.Need-loop-again Inv-loop μ-loop
 loop-again c =
     let l = c .before .before .before .before in
-    let fine = found-within (element-fits (l .before .args .ns .now) (l .loop .i) (c .before .before .z .given)) least most (c .before .if1 .left) (c .if2 .left) in
+    let fine = found-within (element-fits (l .before .args .ns .now) (l .loop .i) (c .before .before .z .given)) least most (c .before .if1 .left)
+    (c .if2 .left) in
     l .loop .inv ∙ bad-on (fine-at (l .before .args .ns .now)) (l .before .args .end) (l .loop .i) (c .before .before .before .loop-test .taken) fine
 
 returns-3 : tie.Need-returns-3 Inv-loop μ-loop
@@ -67,4 +71,5 @@ returns-3 c =
     sym (ap foundOf (l .loop .inv ∙ bad-ended (fine-at (l .before .args .ns .now)) (l .before .args .end) (l .loop .i) (c .loop-test .left)))
 
 pub first-beyond-spec : {M : Type 1} → statement M
-first-beyond-spec = tie.close (tie.spec Inv-loop μ-loop loop-holds mul-z shared-slice-copy-out-z returns returns-2 add-i loop-less loop-again returns-3)
+first-beyond-spec =
+    tie.close (tie.spec Inv-loop μ-loop loop-holds mul-z shared-slice-copy-out-z returns returns-2 add-i loop-less loop-again returns-3)

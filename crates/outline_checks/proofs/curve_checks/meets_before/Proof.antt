@@ -1,5 +1,5 @@
--- `outline_checks::curve_checks::meets_before` meets its contract: with no two numbers before the degree there is no curve before it; else x decides, or y where x is
--- equal.
+-- `outline_checks::curve_checks::meets_before` meets its contract: with no two numbers before the degree there is no curve before it; else x decides,
+-- or y where x is equal.
 use mathlib.Core.Path.{_∙_}
 use Prim.Native.Nat.{_+_, _-_}
 use borrow.Author.Needs.{needs}

@@ -4,15 +4,6 @@ use Rattle.text_forms.proofs.FormWords.{closing-fits}
 use Rattle.text_forms.proofs.Lines.{curve-line, curve-not-closed}
 use Rattle.text_forms.proofs.curve_forms.curve_end.Statement.{statement}
 use Rattle.text_forms.proofs.curve_forms.curve_end.Tie as tie
-use Rattle.text_forms.proofs.curve_forms.curve_end.Reads as reads
-use Rattle.text_forms.proofs.curve_forms.curve_end.Lts as lts
-use Rattle.text_forms.proofs.pairs.word_at.Reads as word-at-reads
-
-slice-aggregate-word-at : tie.Need-slice-aggregate-word-at
-slice-aggregate-word-at c = search needs
-
-word-at-requires : tie.Need-word-at-requires
-word-at-requires c κs = search needs
 
 add-t9 : tie.Need-add-t9
 add-t9 c = search closing-fits
@@ -24,5 +15,4 @@ returns-2 : tie.Need-returns-2
 returns-2 c = search curve-not-closed
 
 pub curve-end-spec : {M : Type 1} → statement M
-curve-end-spec =
-    tie.close (tie.spec slice-aggregate-word-at word-at-requires add-t9 returns returns-2)
+curve-end-spec = tie.close (tie.spec (λ c. search needs) (λ c κs. search needs) add-t9 returns returns-2)

@@ -3,10 +3,6 @@ use borrow.Author.Needs.{needs}
 use Rattle.text_forms.proofs.Lines.{curve-of-three, curve-of-four}
 use Rattle.text_forms.proofs.curve_forms.curve_fourth.Statement.{statement}
 use Rattle.text_forms.proofs.curve_forms.curve_fourth.Tie as tie
-use Rattle.text_forms.proofs.curve_forms.curve_fourth.Reads as reads
-use Rattle.text_forms.proofs.curve_forms.curve_fourth.Lts as lts
-use Rattle.text_forms.proofs.curve_forms.curve_end.Reads as curve-end-reads
-use Rattle.text_forms.proofs.pairs.spaced_pair_at.Reads as spaced-pair-at-reads
 
 returns : tie.Need-returns
 returns c = search curve-of-three

@@ -3,11 +3,6 @@ use borrow.Author.Needs.{needs}
 use Rattle.text_forms.proofs.Lines.{curve-of-two, curve-past-two}
 use Rattle.text_forms.proofs.curve_forms.curve_third.Statement.{statement}
 use Rattle.text_forms.proofs.curve_forms.curve_third.Tie as tie
-use Rattle.text_forms.proofs.curve_forms.curve_third.Reads as reads
-use Rattle.text_forms.proofs.curve_forms.curve_third.Lts as lts
-use Rattle.text_forms.proofs.curve_forms.curve_end.Reads as curve-end-reads
-use Rattle.text_forms.proofs.curve_forms.curve_fourth.Reads as curve-fourth-reads
-use Rattle.text_forms.proofs.pairs.spaced_pair_at.Reads as spaced-pair-at-reads
 
 returns : tie.Need-returns
 returns c = search curve-of-two

@@ -3,10 +3,6 @@ use borrow.Author.Needs.{needs}
 use Rattle.text_forms.proofs.PairLaws.{then-no-number, then-other-byte, then-number}
 use Rattle.text_forms.proofs.pairs.number_then.Statement.{statement}
 use Rattle.text_forms.proofs.pairs.number_then.Tie as tie
-use Rattle.text_forms.proofs.pairs.number_then.Reads as reads
-use Rattle.text_forms.proofs.pairs.number_then.Lts as lts
-use Rattle.text_numbers.proofs.digit_runs.byte_at.Reads as byte-at-reads
-use Rattle.text_numbers.proofs.number_reading.number_at.Reads as number-at-reads
 
 returns : tie.Need-returns
 returns c = search then-no-number

@@ -3,10 +3,6 @@ use borrow.Author.Needs.{needs}
 use Rattle.text_forms.proofs.PairLaws.{pair-not-opened, pair-no-first, pair-no-second, pair-both}
 use Rattle.text_forms.proofs.pairs.pair_at.Statement.{statement}
 use Rattle.text_forms.proofs.pairs.pair_at.Tie as tie
-use Rattle.text_forms.proofs.pairs.pair_at.Reads as reads
-use Rattle.text_forms.proofs.pairs.pair_at.Lts as lts
-use Rattle.text_forms.proofs.pairs.number_then.Reads as number-then-reads
-use Rattle.text_numbers.proofs.digit_runs.byte_at.Reads as byte-at-reads
 
 returns : tie.Need-returns
 returns c = search pair-not-opened

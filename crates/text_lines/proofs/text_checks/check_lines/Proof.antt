@@ -3,10 +3,6 @@ use borrow.Author.Needs.{needs}
 use Rattle.text_lines.proofs.Faults.{lines-none, first-no-form, rest-refused, rest-fine, first-curve, first-point}
 use Rattle.text_lines.proofs.text_checks.check_lines.Statement.{statement}
 use Rattle.text_lines.proofs.text_checks.check_lines.Tie as tie
-use Rattle.text_lines.proofs.text_checks.check_lines.Reads as reads
-use Rattle.text_lines.proofs.text_checks.check_lines.Lts as lts
-use Rattle.text_reader.proofs.line_from.Reads as line-from-reads
-use Rattle.text_lines.proofs.line_checks.check_rest.Reads as check-rest-reads
 
 returns : tie.Need-returns
 returns c = search lines-none

@@ -3,18 +3,12 @@ use borrow.Author.Needs.{needs}
 use Rattle.text_lines.proofs.Faults.{text-too-long, text-lines}
 use Rattle.text_lines.proofs.text_checks.check_text.Statement.{statement}
 use Rattle.text_lines.proofs.text_checks.check_text.Tie as tie
-use Rattle.text_lines.proofs.text_checks.check_text.Reads as reads
-use Rattle.text_lines.proofs.text_checks.check_text.Lts as lts
-use Rattle.text_lines.proofs.text_checks.check_lines.Reads as check-lines-reads
 
 returns : tie.Need-returns
 returns c = search text-too-long
-
-check-lines-requires : tie.Need-check-lines-requires
-check-lines-requires c κs = search needs
 
 returns-2 : tie.Need-returns-2
 returns-2 c = search text-lines
 
 pub check-text-spec : {M : Type 1} → statement M
-check-text-spec = tie.close (tie.spec returns check-lines-requires returns-2)
+check-text-spec = tie.close (tie.spec returns (λ c κs. search needs) returns-2)

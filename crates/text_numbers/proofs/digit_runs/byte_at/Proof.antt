@@ -6,9 +6,6 @@ use borrow.Author.Needs.{needs}
 use Rattle.text_numbers.proofs.digit_runs.byte_at.Statement.{statement}
 use Rattle.text_numbers.proofs.digit_runs.byte_at.Tie as tie
 
-shared-slice-read-result : tie.Need-shared-slice-read-result
-shared-slice-read-result c = search needs
-
 returns : tie.Need-returns
 returns c = (refl, omega (arith, c .shared-slice-known .given (c .before .before .args .i)))
 
@@ -16,4 +13,4 @@ returns-2 : tie.Need-returns-2
 returns-2 c = (sym (List·getD-eq-default (c .before .args .text .now) 0 (c .if1 .left)), omega arith)
 
 pub byte-at-spec : {M : Type 1} → statement M
-byte-at-spec = tie.close (tie.spec shared-slice-read-result returns returns-2)
+byte-at-spec = tie.close (tie.spec (λ c. search needs) returns returns-2)

@@ -32,9 +32,6 @@ module _ (v : ℕ) (h : v ≤ 2147483648) where
   negated : stored w32 (stored w64 (pos 0 -ℤ toZ w64 v)) ≡ negℤ (pos v)
   negated = ap (stored w32) difference ∙ read-again w32 (negℤ (pos v)) (small v h)
 
-cast-wide : tie.Need-cast-wide
-cast-wide c = search needs
-
 sub-result : tie.Need-sub-result
 sub-result c = less (c .args .value) (c .pre)
 
@@ -45,4 +42,4 @@ returns : tie.Need-returns
 returns c = negated (c .args .value) (c .pre)
 
 pub negative-spec : {M : Type 1} → statement M
-negative-spec = tie.close (tie.spec cast-wide sub-result cast-result returns)
+negative-spec = tie.close (tie.spec (λ c. search needs) sub-result cast-result returns)

@@ -2,12 +2,12 @@
 use Prim.Native.Nat.{_-_}
 use borrow.Author.Needs.{needs}
 use Rattle.write_leaves.specs.Boxes.{boxesBytes}
-use Rattle.write_leaves.proofs.Boxes.{Putting, boxes-start, boxes-more, boxes-all}
+use Rattle.write_leaves.proofs.Boxes.{PutSoFar, boxes-start, boxes-more, boxes-all}
 use Rattle.write_leaves.proofs.box_bytes.put_boxes.Statement.{statement}
 use Rattle.write_leaves.proofs.box_bytes.put_boxes.Tie as tie
 
 abbrev Inv-loop : tie.InvT-loop
-Inv-loop ns k out₀ from at₀ i₀ out at i = Putting 50 (boxesBytes ns k) 4 out₀ «from» out at i
+Inv-loop ns k out₀ from at₀ i₀ out at i = PutSoFar 50 (boxesBytes ns k) 4 out₀ «from» out at i
 
 abbrev μ-loop : tie.MeasureT-loop
 μ-loop ns k out₀ from at₀ i₀ out at i = 4 - i

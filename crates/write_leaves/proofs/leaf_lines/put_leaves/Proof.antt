@@ -2,13 +2,13 @@
 use Prim.Native.Nat.{_-_}
 use borrow.Author.Needs.{needs}
 use Rattle.write_leaves.specs.Leaves.{leafLines}
-use Rattle.write_leaves.proofs.Boxes.{Putting}
+use Rattle.write_leaves.proofs.Boxes.{PutSoFar}
 use Rattle.write_leaves.proofs.LeafLines.{leaves-start, leaves-more, leaves-all}
 use Rattle.write_leaves.proofs.leaf_lines.put_leaves.Statement.{statement}
 use Rattle.write_leaves.proofs.leaf_lines.put_leaves.Tie as tie
 
 abbrev Inv-loop : tie.InvT-loop
-Inv-loop records n out₀ from at₀ k₀ out at k = Putting 231 (leafLines records) n out₀ «from» out at k
+Inv-loop records n out₀ from at₀ k₀ out at k = PutSoFar 231 (leafLines records) n out₀ «from» out at k
 
 abbrev μ-loop : tie.MeasureT-loop
 μ-loop records n out₀ from at₀ k₀ out at k = n - k

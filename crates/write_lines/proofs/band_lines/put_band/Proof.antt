@@ -11,11 +11,8 @@ put-leaves-requires c κs = (c .before .before .pre .stand, omega (arith, c .bef
 put-done-requires : tie.Need-put-done-requires
 put-done-requires c κs = search room-done
 
-same-length : tie.Need-same-length
-same-length c = search needs
-
 returns : tie.Need-returns
 returns c = search done-lines
 
 pub put-band-spec : {M : Type 1} → statement M
-put-band-spec = tie.close (tie.spec put-leaves-requires put-done-requires same-length returns)
+put-band-spec = tie.close (tie.spec put-leaves-requires put-done-requires (λ c. search needs) returns)

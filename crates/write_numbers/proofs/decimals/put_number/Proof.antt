@@ -3,8 +3,6 @@ use Rattle.write_numbers.proofs.Numbers.{number-plus, number-minus}
 use borrow.Author.Needs.{needs}
 use Rattle.write_numbers.proofs.decimals.put_number.Statement.{statement}
 use Rattle.write_numbers.proofs.decimals.put_number.Tie as tie
-use Rattle.write_numbers.proofs.decimals.put_number.Reads as reads
-use Rattle.write_numbers.proofs.decimals.put_number.Lts as lts
 
 returns : tie.Need-returns
 returns c = search number-minus

@@ -5,8 +5,6 @@ use Rattle.write_numbers.proofs.Words.{Copying, copying-start, copying-
 use lib.ListN.{length}
 use Rattle.write_numbers.proofs.decimals.put_word.Statement.{statement}
 use Rattle.write_numbers.proofs.decimals.put_word.Tie as tie
-use Rattle.write_numbers.proofs.decimals.put_word.Reads as reads
-use Rattle.write_numbers.proofs.decimals.put_word.Lts as lts
 
 abbrev Inv-loop : tie.InvT-loop
 Inv-loop out₀ at word j₀ out j = Copying out₀ word at out j

@@ -1,12 +1,12 @@
 -- The box at a break point, from the lists of lows and highs.
 use borrow.Author.Needs.{needs}
-use Rattle.bound_node.specs.Boxes.{boxOf}
+use Rattle.bound_node.specs.Inside.{boxIn}
 use Rattle.bound_coordinate.proofs.Coordinates.{each-stored}
 use Rattle.bound_node.proofs.node_boxes.NodeBoxes.at.Statement.{statement}
 use Rattle.bound_node.proofs.node_boxes.NodeBoxes.at.Tie as tie
 
 returns : tie.Need-returns
-unfolding boxOf
+unfolding boxIn
 returns c =
     let s = c .before .before .before .before in
     let p = s .pre .0 in

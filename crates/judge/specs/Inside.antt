@@ -1,0 +1,51 @@
+-- For contracts of private functions: how the code searches a leaf list that has passed its checks for the first cover
+-- that holds a point. Places are counted from the index `at` where a record begins.
+use mathlib.Core.Bool.{Bool, true, not, _&&_, _||_}
+use mathlib.Core.List.{List}
+use mathlib.Core.Option.{Option, none}
+use mathlib.Core.Path.{_≡_}
+use Prim.Native.Nat.{ℕ, zero, suc, _+_, _*_, _≤_}
+use lib.ListN.{length}
+use lib.IntN.{ℤ, natAbs}
+use lib.Signed.{ltZ}
+use Rattle.integers.specs.Entry.{entry}
+use Rattle.integers.specs.First.{firstBad}
+use Rattle.setting.specs.Setting.{Setting, breakPoints, covers, recordLength}
+use Rattle.boxes.specs.Ranges.{farthest}
+use Rattle.boxes.specs.Records.{boxAtIndex}
+use Rattle.judge_list.specs.Inside.{recordFaultAt}
+use Rattle.judge_cover.specs.Deciding.{held}
+
+-- a point that passes check 11
+pub record InRange (x y : ℤ) : Type 0 where
+  pub in-x : natAbs x ≤ farthest
+  pub in-y : natAbs y ≤ farthest
+
+-- a record that begins at index `at` and has passed the checks
+pub record RecordAt (σ : Setting) (ns : List ℤ) (at : ℕ) : Type 0 where
+  pub inside : at + recordLength σ ≤ length ns
+  pub fine : recordFaultAt σ ns at ≡ none
+
+-- ---- the covers of a record: whether cover i holds the point, and the first that does
+abbrev pub heldAt : List ℤ → (x y : ℤ) → (at i : ℕ) → Bool
+heldAt ns x y at i = held (boxAtIndex ns (at + (2 + 4 * i))) (boxAtIndex ns (at + (2 + 4 * suc i))) x y
+
+unfoldable pub holderAt : Setting → List ℤ → (x y : ℤ) → ℕ → Option ℕ
+holderAt σ ns x y at = firstBad (λ i. not (heldAt ns x y at i)) (covers σ) 0
+
+-- ---- the quick look at a record: a coordinate beyond all its boxes on one side
+-- each of the first n numbers that stand four apart, from index `at` on, passes a test: the lows of a record's boxes in
+-- one coordinate, or the highs
+abbrev pub allPass : (ℤ → Bool) → List ℤ → (at n : ℕ) → Bool
+allPass test ns at zero = true
+allPass test ns at (suc n) = allPass test ns at n && test (entry ns (at + 4 * n))
+
+abbrev pub belowAll : Setting → ℤ → List ℤ → ℕ → Bool
+belowAll σ z ns at = allPass (λ low. ltZ z low) ns at (breakPoints σ)
+
+abbrev pub aboveAll : Setting → ℤ → List ℤ → ℕ → Bool
+aboveAll σ z ns at = allPass (λ high. ltZ high z) ns at (breakPoints σ)
+
+-- the first low of the coordinate stands at index `at`
+abbrev pub beyond : Setting → ℤ → List ℤ → ℕ → Bool
+beyond σ z ns at = belowAll σ z ns at || aboveAll σ z ns (at + 1)

@@ -1,0 +1,42 @@
+-- What the operations leave open, in one record, and the sizes that follow from it (document 01). Definitions take a
+-- setting; an operation's contract says which.
+use Prim.Native.Nat.{ℕ, suc, _+_, _*_, _≤_}
+
+pub record Setting : Type 0 where
+  -- the most curves that an outline may have
+  pub most : ℕ
+  -- how many pieces a leaf has, so that its break points are 0 to this number
+  pub pieces : ℕ
+
+-- document 01's
+abbrev pub standard : Setting
+standard = record { most = 64; pieces = 3 }
+
+-- the numbers of pieces that there are rows for
+pub record HasRows (m : ℕ) : Type 0 where
+  pub least : 1 ≤ m
+  pub most : m ≤ 8
+
+-- how many break points a leaf has
+abbrev pub breakPoints : Setting → ℕ
+breakPoints σ = suc (σ .pieces)
+
+-- how many covers a leaf has: one between each two neighbouring break points
+abbrev pub covers : Setting → ℕ
+covers σ = σ .pieces
+
+-- how many numbers a record has: curve, node, and four for the box at each break point
+abbrev pub recordLength : Setting → ℕ
+recordLength σ = 2 + 4 * breakPoints σ
+
+-- how many control values of a coordinate are kept, whatever the degree
+abbrev pub controlValues : ℕ
+controlValues = 4
+
+-- the greatest depth of a node of a curve of degree d
+abbrev pub deepest : ℕ → ℕ
+deepest d = 8
+
+-- the greatest number of a node: the last one at the greatest depth of any degree, 8, is 2^9 − 1
+abbrev pub greatestNode : ℕ
+greatestNode = 511
