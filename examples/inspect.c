@@ -16,12 +16,15 @@
 #include <stdlib.h>
 #include <string.h>
 
+/* How many straight pieces a leaf has, 1 to 8. */
+#define M 3
+
 /* A curve takes at most 9 numbers. There is room for one curve more than the engine takes, so that it can refuse it. */
 static int32_t outline[9 * (CONTOUR_BAND_CURVES_MAX + 1)];
 static size_t outline_length;
 
 /* No curve has more than 256 leaves. */
-static int32_t records[CONTOUR_BAND_CURVES_MAX * 256 * CONTOUR_BAND_RECORD];
+static int32_t records[CONTOUR_BAND_CURVES_MAX * 256 * CONTOUR_BAND_RECORD(M)];
 
 /* Prints what is wrong with a line of a file, and ends. */
 static void stop(const char *file, int line, const char *what) {
@@ -105,10 +108,10 @@ static int32_t read_outline(const char *file) {
     return tolerance;
 }
 
-/* Prints a record: curve, node and four boxes. */
+/* Prints a record: curve, node and M + 1 boxes. */
 static void print_leaf(const int32_t *record) {
     printf("curve %d node %d", (int)record[0], (int)record[1]);
-    for (const int32_t *box = record + 2; box < record + CONTOUR_BAND_RECORD; box += 4) {
+    for (const int32_t *box = record + 2; box < record + CONTOUR_BAND_RECORD(M); box += 4) {
         printf(" (%d %d %d %d)", (int)box[0], (int)box[1], (int)box[2], (int)box[3]);
     }
     printf("\n");
@@ -124,7 +127,7 @@ static void judge_points(const char *file, size_t records_length) {
         if (!ends(after(point(after(line, "(point"), &x, &y), ")"))) {
             stop(file, points + 1, "(point (x y)) is expected");
         }
-        const struct contour_band_judgement judgement = contour_judge(records, records_length, x, y);
+        const struct contour_band_judgement judgement = contour_judge(records, records_length, M, x, y);
         printf("(%d %d) ", (int)x, (int)y);
         if (judgement.refusal != CONTOUR_BAND_ACCEPTED) {
             refused++;
@@ -148,7 +151,7 @@ int main(int count, char **arguments) {
     }
     const int32_t tolerance = read_outline(arguments[1]);
     const struct contour_band_answer answer =
-        contour_band(outline, outline_length, tolerance, records, sizeof records / sizeof *records);
+        contour_band(outline, outline_length, tolerance, M, records, sizeof records / sizeof *records);
     if (answer.refusal != CONTOUR_BAND_ACCEPTED) {
         fprintf(stderr, "%s: refused %u %llu\n", arguments[1], (unsigned)answer.refusal, (unsigned long long)answer.spot);
         return EXIT_FAILURE;
@@ -156,9 +159,9 @@ int main(int count, char **arguments) {
     printf("tolerance %d: curves %llu, leaves %llu, nodes %llu\n", (int)tolerance, (unsigned long long)answer.curves,
            (unsigned long long)answer.leaves, (unsigned long long)answer.nodes);
     for (uint64_t leaf = 0; leaf < answer.leaves; leaf++) {
-        print_leaf(records + CONTOUR_BAND_RECORD * leaf);
+        print_leaf(records + CONTOUR_BAND_RECORD(M) * leaf);
     }
     /* Points are judged against the records written, not against the rest of the list. */
-    judge_points(arguments[2], CONTOUR_BAND_RECORD * (size_t)answer.leaves);
+    judge_points(arguments[2], CONTOUR_BAND_RECORD(M) * (size_t)answer.leaves);
     return EXIT_SUCCESS;
 }

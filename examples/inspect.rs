@@ -6,9 +6,12 @@
 //! `(point (240 363))` for each point. Tolerance and points are in sixteenths of a stage unit. These are the
 //! forms of document 01's text program, read less strictly: leading zeros pass, and a last line without end.
 
-use contour_band::{band, judge, leaves, Judgement, RECORD};
+use contour_band::{band, judge, leaves, record_length, Judgement};
 use std::process::ExitCode;
 use std::{env, fs};
+
+/// How many straight pieces a leaf has, 1 to 8.
+const M: u32 = 3;
 
 /// x and y of a point.
 type Point = [i32; 2];
@@ -33,17 +36,17 @@ fn inspect(outline_file: &str, points_file: &str) -> Result<(), String> {
     let points = read_points(points_file)?;
 
     // No outline has more than 64 curves, and no curve more than 256 leaves.
-    let mut records = vec![0; 64 * 256 * RECORD];
+    let mut records = vec![0; 64 * 256 * record_length(M)];
     let report =
-        band(&outline, tolerance, &mut records).map_err(|refusal| format!("{outline_file}: {refusal}"))?;
+        band(&outline, tolerance, M, &mut records).map_err(|refusal| format!("{outline_file}: {refusal}"))?;
     // Points are judged against the records written, not against the rest of the list.
-    records.truncate(RECORD * report.leaves as usize);
+    records.truncate(record_length(M) * report.leaves as usize);
 
     println!(
         "tolerance {tolerance}: curves {}, leaves {}, nodes {}",
         report.curves, report.leaves, report.nodes
     );
-    for leaf in leaves(&records) {
+    for leaf in leaves(&records, M) {
         print!("curve {} node {}", leaf.curve, leaf.node);
         for b in leaf.boxes {
             print!(" ({} {} {} {})", b.x.low, b.x.high, b.y.low, b.y.high);
@@ -53,7 +56,7 @@ fn inspect(outline_file: &str, points_file: &str) -> Result<(), String> {
 
     let (mut on, mut off, mut refused) = (0, 0, 0);
     for &[x, y] in &points {
-        match judge(&records, x, y) {
+        match judge(&records, M, x, y) {
             Ok(Judgement::On { leaf, cover }) => {
                 on += 1;
                 println!("({x} {y}) on, record {leaf} cover {cover}");

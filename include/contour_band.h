@@ -12,14 +12,15 @@
  *     #include <stdio.h>
  *
  *     int main(void) {
+ *         enum { M = 3 }; // the pieces of a leaf
  *         const int32_t outline[] = {3, 0, 0, 10, 30, 20, 30, 30, 0};
- *         int32_t records[256 * CONTOUR_BAND_RECORD];
- *         struct contour_band_answer band = contour_band(outline, 9, 44, records, 256 * CONTOUR_BAND_RECORD);
+ *         int32_t records[256 * CONTOUR_BAND_RECORD(M)];
+ *         struct contour_band_answer band = contour_band(outline, 9, 44, M, records, 256 * CONTOUR_BAND_RECORD(M));
  *         if (band.refusal != CONTOUR_BAND_ACCEPTED) {
  *             return 1;
  *         }
  *         // Only the records written are judged against.
- *         struct contour_band_judgement point = contour_judge(records, CONTOUR_BAND_RECORD * band.leaves, 240, 363);
+ *         struct contour_band_judgement point = contour_judge(records, CONTOUR_BAND_RECORD(M) * band.leaves, M, 240, 363);
  *         // The first cover of the first leaf: its boxes 0 and 1.
  *         const struct contour_band_box first = {records[2], records[3], records[4], records[5]};
  *         const struct contour_band_box second = {records[6], records[7], records[8], records[9]};
@@ -47,10 +48,13 @@
 extern "C" {
 #endif
 
-/* How many numbers one leaf record has. */
-#define CONTOUR_BAND_RECORD 18
+/* How many numbers a leaf record of m pieces has: the curve, the node, and four of a box at each of m + 1 break points. */
+#define CONTOUR_BAND_RECORD(m) (6 + 4 * (m))
 
-/* The ranges of document 01. A tolerance is in sixteenths of a stage unit, a coordinate in stage units. */
+/* The ranges of documents 01 and 02. A tolerance is in sixteenths of a stage unit, a coordinate in stage units, m a number of
+ * pieces. */
+#define CONTOUR_BAND_PIECES_MIN 1
+#define CONTOUR_BAND_PIECES_MAX 8
 #define CONTOUR_BAND_TOLERANCE_MIN 2
 #define CONTOUR_BAND_TOLERANCE_MAX 1048576
 #define CONTOUR_BAND_COORDINATE_MIN (-1048576)
@@ -63,11 +67,12 @@ extern "C" {
 /* How many numbers drawing asks for: x and y of eight vertices. */
 #define CONTOUR_BAND_VERTEX_ROOM 16
 
-/* The refusals, each with its condition and its spot. They stand in the order in which an operation tries them: banding 1 to
- * 8 and 17 (5, 2, 3, 4 and 17 curve by curve), judging 9 to 11, banding and judging together those of banding and then 11,
- * drawing 12 and 13. A refusal leaves every lent list as it was. */
+/* The refusals, each with its condition and its spot. They stand in the order in which an operation tries them: banding 18, 1
+ * to 8 and 17 (5, 2, 3, 4 and 17 curve by curve), judging 18 and 9 to 11, banding and judging together those of banding and
+ * then 11, drawing 12 and 13. A refusal leaves every lent list as it was. */
 enum contour_band_refusal {
     CONTOUR_BAND_ACCEPTED = 0,         /* nothing is refused; 0 */
+    CONTOUR_BAND_PIECES = 18,          /* m is not 1 to 8; 0 */
     CONTOUR_BAND_TOLERANCE = 1,        /* the tolerance is outside its range; 0 */
     CONTOUR_BAND_EMPTY_OUTLINE = 6,    /* the outline has no number; 0 */
     CONTOUR_BAND_TOO_MANY_CURVES = 5,  /* a 65th curve begins; the index of its degree */
@@ -76,8 +81,8 @@ enum contour_band_refusal {
     CONTOUR_BAND_COORDINATE = 4,       /* a coordinate is outside its range; the index of the curve's first such */
     CONTOUR_BAND_GAP = 17,             /* a curve does not begin where the one before it ends; the index of its degree */
     CONTOUR_BAND_TOO_WIDE = 7,         /* a box at depth 8 has a longer diagonal than the tolerance; 512 * curve + node, for the first */
-    CONTOUR_BAND_TOO_FEW_RECORDS = 8,  /* records_length is less than 18 * leaves; the number of leaves */
-    CONTOUR_BAND_LEAVES_LENGTH = 9,    /* leaves_length is 0 or no multiple of 18; leaves_length */
+    CONTOUR_BAND_TOO_FEW_RECORDS = 8,  /* records_length is less than (6 + 4 * m) * leaves; the number of leaves */
+    CONTOUR_BAND_LEAVES_LENGTH = 9,    /* leaves_length is 0 or no multiple of 6 + 4 * m; leaves_length */
     CONTOUR_BAND_LEAVES_NUMBER = 10,   /* a number of the leaves is bad, see contour_judge; the index of the first such */
     CONTOUR_BAND_POINT = 11,           /* a coordinate of the point is beyond the farthest; 0 for x, else 1 */
     CONTOUR_BAND_BOX_NUMBER = 12,      /* a number of the boxes is bad, see contour_draw; the first such's place, 0 to 7 */
@@ -98,23 +103,26 @@ struct contour_band_answer {
  * outline: for each curve its degree d, which is 1, 2 or 3, then x and y of its d + 1 control points, in stage units.
  *     Curves are numbered from 0. Each begins where the one before it ends; the outline may stay open at its ends.
  * tolerance: the greatest diagonal of a box, in sixteenths of a stage unit.
- * records: where the leaves are written. A record is 18 numbers: the curve, the node (1 to 511), then for each of the
- *     break points 0, 1, 2, 3 its x low, x high, y low, y high, in sixteenths of a stage unit. Records stand by curve, then
- *     by parameter. 18 * 256 numbers for each curve are always enough.
+ * m: how many straight pieces a leaf has, 1 to 8. The more it has, the fewer leaves there are as a rule, and the longer is a
+ *     record. A negative number becomes a large one, and is refused.
+ * records: where the leaves are written. A record is 6 + 4 * m numbers: the curve, the node (1 to 511), then for each of the
+ *     break points 0 to m, the m-ths of its stretch, x low, x high, y low, y high, in sixteenths of a stage unit. Records
+ *     stand by curve, then by parameter. CONTOUR_BAND_RECORD(m) * 256 numbers for each curve are always enough.
  *
- * Accepted: the first 18 * leaves numbers of the records are written, and the numbers past them stay as they were.
+ * Accepted: the first CONTOUR_BAND_RECORD(m) * leaves numbers of the records are written, and the numbers past them stay as
+ * they were.
  * Refused: every number of the records stays as it was. With a records_length of 0 the answer is refusal 8 for any outline
  * that is otherwise accepted, so its spot says how many leaves to lend room for. */
-struct contour_band_answer contour_band(const int32_t *outline, size_t outline_length, int32_t tolerance, int32_t *records,
-                                        size_t records_length);
+struct contour_band_answer contour_band(const int32_t *outline, size_t outline_length, int32_t tolerance, uint32_t m,
+                                        int32_t *records, size_t records_length);
 
 /* What judging answers. */
 struct contour_band_judgement {
-    uint32_t refusal; /* 0 where nothing is refused, else the number of the refusal, 9 to 11 */
+    uint32_t refusal; /* 0 where nothing is refused, else the number of the refusal, 9 to 11 or 18 */
     uint64_t spot;    /* the refusal's spot; 0 where nothing is refused */
     uint32_t on;      /* 1 where the point is on the band, else 0 */
     uint64_t leaf;    /* the number of the first record that holds the point, from 0; 0 unless it is on */
-    uint64_t cover;   /* the lowest cover of that record that holds it, 0 to 2; 0 unless it is on */
+    uint64_t cover;   /* the lowest cover of that record that holds it, 0 to m - 1; 0 unless it is on */
 };
 
 /* Judges a point against a list of leaf records, which it only reads.
@@ -122,12 +130,13 @@ struct contour_band_judgement {
  * leaves: records as contour_band writes them, one or more, in any order. To judge against a band give exactly the records
  *     written, without the rest of the list. A number is bad where a curve is not 0 to 63, a node not 1 to 511, a box number
  *     beyond the farthest, or a low above its high; the last is named by the low's index.
+ * m: how many pieces each leaf has, 1 to 8. To judge against a band give the m of the banding.
  * x, y: the point, in sixteenths of a stage unit.
  *
- * A record has covers 0, 1 and 2. Cover i is every point that lies, for some fraction s from 0 to 1, in the box
+ * A record has covers 0 to m - 1. Cover i is every point that lies, for some fraction s from 0 to 1, in the box
  * (1 - s) * box i + s * box i + 1. The point is on where some cover of some record holds it, edges included. The
  * first record of the list that holds it is named, and in it the lowest cover that does. Every call checks the whole list. */
-struct contour_band_judgement contour_judge(const int32_t *leaves, size_t leaves_length, int32_t x, int32_t y);
+struct contour_band_judgement contour_judge(const int32_t *leaves, size_t leaves_length, uint32_t m, int32_t x, int32_t y);
 
 /* What banding and judging answer together. */
 struct contour_band_outcome {
@@ -148,7 +157,8 @@ struct contour_band_outcome {
  * Accepted: the report and the records are those of contour_band, the judgement is that of contour_judge.
  * Refused: every number of the records stays as it was, also where it is the point that is refused. */
 struct contour_band_outcome contour_band_and_judge(const int32_t *outline, size_t outline_length, int32_t tolerance,
-                                                   int32_t *records, size_t records_length, int32_t x, int32_t y);
+                                                   uint32_t m, int32_t *records, size_t records_length, int32_t x,
+                                                   int32_t y);
 
 /* A box: what lies from the lows to the highs, edges included, in sixteenths of a stage unit. */
 struct contour_band_box {

@@ -54,12 +54,11 @@ module _ (m : Meaning) (old : List ℤ) (c l n : ℕ) (e : bandOf m (length old)
       go (refused r) f = clash (cc)
       go (means T outline points) f =
           let h = done-exactly standard T outline (length old) c l n .0 f in
-          let sound = written-sound standard T outline old (h .1) (h .2) refl in
+          let sound = written-sound standard T outline old (h .1) (h .2) in
           let some = written-some standard T outline old (h .1) (h .2) in
           let rs = take (recordLength standard * l) (written standard T outline old) in
           record {
-            passed =
-                record { whole = length-fine (length rs) (omega (arith, sound .whole)) (omega (arith, sound .whole)); numbers = no-bad-number sound };
+            passed = record { whole = length-fine standard (length rs) l some (sound .whole); numbers = no-bad-number sound };
             few = omega (arith, sound .whole, done-room standard T outline (length old) f);
           }
 

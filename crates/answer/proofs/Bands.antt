@@ -9,10 +9,10 @@ use lib.Seq.{length-take-le}
 use lib.IntN.{ℤ}
 use lib.Signed.{mag}
 use mir.Syntax.{w32}
-use Rattle.setting.specs.Setting.{Setting, standard}
+use Rattle.setting.specs.Setting.{Setting, piecesFine, standard}
 use Rattle.integers.proofs.Ranges.{stored, read-again}
 use Rattle.refusals.specs.declared.Refusal.{Refusal}
-use Rattle.refusals.specs.declared.Refusal.the-variants.{Tolerance as WrongTolerance}
+use Rattle.refusals.specs.declared.Refusal.the-variants.{Tolerance as WrongTolerance, Pieces}
 use Rattle.outline.specs.Checks.{toleranceFine, Outlined, outlined}
 use Rattle.band.specs.declared.banding.Banded.{Banded}
 use Rattle.band.specs.declared.banding.Banded.the-variants.{Refused}
@@ -33,7 +33,10 @@ use Rattle.answer.specs.Bands.{bandOf, recordsAfter}
 -- ---- `band_text`: banding looks at an outline through its checks alone
 banded-same : (σ : Setting) (T : ℤ) (ns ms : List ℤ) (room : ℕ) → outlined (σ .most) ns ≡ outlined (σ .most) ms → banded σ T ns room ≡ banded σ T ms room
 unfolding banded
-banded-same σ T ns ms room e = ap (λ (o : Outlined). elim (toleranceFine T) [ false ↦ Refused WrongTolerance | true ↦ bandOutlined σ T o room ]) e
+banded-same σ T ns ms room e = ap (λ (o : Outlined). elim (piecesFine (σ .pieces)) [
+  | false ↦ Refused Pieces
+  | true ↦ elim (toleranceFine T) [ false ↦ Refused WrongTolerance | true ↦ bandOutlined σ T o room ]
+]) e
 
 written-same : (σ : Setting) (T : ℤ) (ns ms old : List ℤ) → outlined (σ .most) ns ≡ outlined (σ .most) ms → written σ T ns old ≡ written σ T ms old
 unfolding written

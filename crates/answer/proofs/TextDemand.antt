@@ -67,7 +67,7 @@ module _ (T : ℤ) (outline : List ℤ) (a b c : ℕ) (done : banded standard T 
   demand : (x y : ℤ) → Demand3 standard T (done-curves .0) leaves x y (judgement standard leaves x y)
   demand x y =
       let j = judgement standard leaves x y in
-      let d = demand-3 standard refl T outline (replicate lent (pos 0)) a b c zeros-lent x y j (is-judged standard leaves x y) in
+      let d = demand-3 standard T outline (replicate lent (pos 0)) a b c zeros-lent x y j (is-judged standard leaves x y) in
       subst (λ cs. Demand3 standard T cs leaves x y j) (same-curves (d .are) (done-curves .1 .outline)) (d .demand-3)
 
   -- where the point is in range nothing is refused, so what judging says of the leaves is the line
@@ -79,7 +79,7 @@ module _ (T : ℤ) (outline : List ℤ) (a b c : ℕ) (done : banded standard T 
   whole : length leaves ≡ recordLength standard * b
   whole =
       let h = done-exactly standard T outline (length (replicate lent (pos 0))) a b c .0 zeros-lent in
-      written-sound standard T outline (replicate lent (pos 0)) (h .1) (h .2) refl .whole
+      written-sound standard T outline (replicate lent (pos 0)) (h .1) (h .2) .whole
 
 module _ (s : List ℕ) (T : ℤ) (outline : List ℤ) (points : List (ℤ × ℤ)) (m : meaning s ≡ means T outline points) (a b c : ℕ)
     (done : banded standard T outline lent ≡ Done a b c) where

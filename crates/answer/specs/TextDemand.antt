@@ -66,5 +66,5 @@ module _ (s : List ℕ) (T : ℤ) (outline : List ℤ) (a b c : ℕ) where
         → PointAnswered all before x y after
     -- every leaf of a curve with largest second difference M has depth at most j, for every j that meets the premise
     pub every-leaf-shallow : (i : ℕ) → i < b → (k : ℕ) (curve : Curve) → CurveOf all k curve
-        → entry (textLeaves T outline b) (recordLength standard * i) ≡ pos k → (j : ℕ) → Flat T curve j
+        → entry (textLeaves T outline b) (recordLength standard * i) ≡ pos k → (j : ℕ) → Flat standard T curve j
         → Shallow standard (textLeaves T outline b) i j

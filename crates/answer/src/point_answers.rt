@@ -15,7 +15,7 @@ fn put_point(leaves: &[i32], x: i32, y: i32, out: &mut [u8], at: usize) -> usize
     requires { ⌜ (at + 52 ≤ length (now out)) × (Passed standard (now leaves)) ⌝ }
     ensures { λ r. ⌜ PutWithin (now (out .entry)) at 52 (pointAnswer (now (leaves .entry)) x y) (now (out .exit)) r ⌝ }
 {
-    match judge::judge_point(leaves, x, y) {
+    match judge::judge_point(leaves, 3, x, y) {
         Judgement::On { leaf, cover } => write_lines::render::put_on(out, at, leaf, cover),
         Judgement::Off => write_lines::render::put_off(out, at),
         Judgement::Refused(refusal) => write_lines::render::put_refused(out, at, refusal),

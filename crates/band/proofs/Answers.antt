@@ -3,16 +3,16 @@ use mathlib.Core.Path.{_≡_, refl, sym, _∙_, ap, ap₂, subst}
 use mathlib.Core.Bool.{true, false}
 use mathlib.Core.List.{List, [], _∷_, _++_}
 use mathlib.Core.Option.{Option, none, some}
-use Prim.Native.Nat.{ℕ, suc, _-_, _*_, _^_, _≤_, _<_}
-use native.Mathlib.Nat.{zero-add}
+use Prim.Native.Nat.{ℕ, suc, _+_, _-_, _*_, _^_, _≤_, _<_}
+use native.Mathlib.Nat.{zero-add, mul-le-mul}
 use native.Mathlib.Omega.{arith}
 use borrow.Author.Tests.{lt-ltb, le-ltb}
 use lib.ListN.{length, length-append, drop}
 use lib.Seq.{sets, sets-eq}
 use lib.IntN.{ℤ}
-use Rattle.setting.specs.Setting.{Setting, recordLength}
+use Rattle.setting.specs.Setting.{Setting, piecesFine, recordLength}
 use Rattle.refusals.specs.declared.Refusal.{Refusal}
-use Rattle.refusals.specs.declared.Refusal.the-variants.{Tolerance, TooFewRecords}
+use Rattle.refusals.specs.declared.Refusal.the-variants.{Tolerance, TooFewRecords, Pieces}
 use Rattle.curve_nodes.specs.declared.Curve.{Curve}
 use Rattle.outline.specs.declared.Checked.the-variants.{Curves, Faulty}
 use Rattle.outline.specs.Curves.{nextAt, curveAt}
@@ -54,6 +54,10 @@ all-records-length σ T k (c ∷ cs) =
 
 front-written : (l rs : List ℤ) → length rs ≤ length l → sets l 0 rs ≡ rs ++ drop (length rs) l
 front-written l rs h = sets-eq rs l 0 (omega (arith, h)) ∙ ap (λ n. rs ++ drop n l) (zero-add (length rs))
+
+-- and a machine word holds their number
+pub numbers-few : {m leaves : ℕ} → m ≤ 8 → leaves ≤ 2 ^ 24 → (6 + 4 * m) * leaves ≤ 38 * 2 ^ 24
+numbers-few {m} few less = mul-le-mul {n₁ = 6 + 4 * m} {n₂ = 38} (omega (arith, few)) less
 
 -- ---- 7, 8 and the report
 module _ (σ : Setting) (T : ℤ) (cs : List Curve) where
@@ -128,9 +132,10 @@ module _ (σ : Setting) (ns : List ℤ) where
     readable h = let a = found in
         record { all = a .cs; is = read; count = a .count; few = omega (arith, h, accepted-most (σ .most) ns (a .cs) (a .is), a .count) }
 
-    pub banded-read : (T : ℤ) (room : ℕ) → toleranceFine T ≡ true → bandCurves σ T (curvesOf (outlineFrom n ns 0)) room ≡ banded σ T ns room
+    pub banded-read : (T : ℤ) (room : ℕ) → piecesFine (σ .pieces) ≡ true → toleranceFine T ≡ true
+        → bandCurves σ T (curvesOf (outlineFrom n ns 0)) room ≡ banded σ T ns room
     unfolding banded
-    banded-read T room f = rw (banded, f, read, found .is)
+    banded-read T room rows f = rw (banded, rows, f, read, found .is)
 
     pub written-curves : (T : ℤ) (l : List ℤ) {l′ : List ℤ} (b : Banded) → b ≡ banded σ T ns (length l)
         → l′ ≡ writtenBy b (allRecords σ T 0 (curvesOf (outlineFrom n ns 0))) l → l′ ≡ written σ T ns l
@@ -138,14 +143,18 @@ module _ (σ : Setting) (ns : List ℤ) where
     written-curves T l b f g = g ∙ rw (f, read, found .is)
 
   module _ (T : ℤ) where
-    pub banded-tolerance : (room : ℕ) → toleranceFine T ≡ false → Refused Tolerance ≡ banded σ T ns room
+    pub banded-pieces : (room : ℕ) → piecesFine (σ .pieces) ≡ false → Refused Pieces ≡ banded σ T ns room
     unfolding banded
-    banded-tolerance room f = rw (banded, f)
+    banded-pieces room f = rw (banded, f)
 
-    pub banded-faulty : {r : Refusal} (room : ℕ) → toleranceFine T ≡ true → Faulty r ≡ checkedOf (outlined (σ .most) ns)
-        → Refused r ≡ banded σ T ns room
+    pub banded-tolerance : (room : ℕ) → piecesFine (σ .pieces) ≡ true → toleranceFine T ≡ false → Refused Tolerance ≡ banded σ T ns room
     unfolding banded
-    banded-faulty {r} room f e = rw (banded, f, checked-refused (outlined (σ .most) ns) r (sym e))
+    banded-tolerance room rows f = rw (banded, rows, f)
+
+    pub banded-faulty : {r : Refusal} (room : ℕ) → piecesFine (σ .pieces) ≡ true → toleranceFine T ≡ true
+        → Faulty r ≡ checkedOf (outlined (σ .most) ns) → Refused r ≡ banded σ T ns room
+    unfolding banded
+    banded-faulty {r} room rows f e = rw (banded, rows, f, checked-refused (outlined (σ .most) ns) r (sym e))
 
     -- a refusal alters nothing
     pub written-refused : {r : Refusal} (l : List ℤ) → Refused r ≡ banded σ T ns (length l) → l ≡ written σ T ns l

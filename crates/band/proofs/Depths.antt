@@ -1,6 +1,6 @@
 -- The depth claim (demand 3): with largest second difference M, no end of the walk is deeper than j where
--- 2 × (178 × M + 250 × 4^j)² ≤ (125 × T × 4^j)². By the width law and
--- the quarter law every node at depth j meets T, so the walk halves none of them; and where j is in the walk's reach, nothing is too wide.
+-- 2 × (16 × G × M + 20000 × 4^j)² ≤ (10000 × T × 4^j)². By the width law and the quarter law every node at depth j meets T, so the walk halves none
+-- of them; and where j is in the walk's reach, nothing is too wide.
 use mathlib.Core.Path.{_≡_}
 use mathlib.Core.Bool.{Bool, true}
 use mathlib.Core.Logic.{⊎-elim}
@@ -11,7 +11,7 @@ use native.Mathlib.Nat.{le-refl}
 use native.Mathlib.Omega.{arith}
 use lib.IntN.{ℤ}
 use Rattle.integers.proofs.Order.{lt-or-ge}
-use Rattle.setting.specs.Setting.{Setting, deepest}
+use Rattle.setting.specs.Setting.{Setting, HasRows, deepest}
 use Rattle.curve_nodes.specs.declared.Curve.{Curve}
 use Rattle.curve_nodes.specs.Bounds.{Sized}
 use Rattle.curve_nodes.specs.Differences.{largest}
@@ -23,7 +23,6 @@ use Rattle.bound_node.proofs.Narrow.{width-meets}
 use Rattle.walk_tree.specs.Tree.{ends, firstFailing}
 use Rattle.walk_tree.specs.Leaves.{Leaf}
 use Rattle.walk_curve.specs.Walked.{nodeMeets, endsOf}
-use Rattle.walk_curve.proofs.Thirds.{meets-thirds}
 use Rattle.walk_tree.specs.Passing.{AllPass}
 use Rattle.band.specs.Outcomes.{Flat}
 use Rattle.walk_tree.proofs.Halves.{left-half, right-half}
@@ -56,13 +55,13 @@ module _ (test : ℕ → Bool) (j : ℕ) (all : (a : ℕ) → 0 < a → depth a 
   pub leaves-within : (n : ℕ) → Leaf test n → depth n ≤ j
   leaves-within n l = end-facts test j n (all-leaves test j n (ends-passing j (le-refl j)) .1 l) .within
 
--- ---- today's test, with three pieces
-module _ (σ : Setting) (three : σ .pieces ≡ 3) (T : ℤ) (c : Curve) (s : Sized 0 c) (j : ℕ) (premise : Flat T c j) where
+-- ---- the test of a setting
+module _ (σ : Setting) (rows : HasRows (σ .pieces)) (T : ℤ) (c : Curve) (s : Sized 0 c) (j : ℕ) (premise : Flat σ T c j) where
   pub all-meet : (n : ℕ) → 0 < n → depth n ≡ j → nodeMeets σ T c n ≡ true
   all-meet n hn e =
       let d = node-degree c n hn in
-      rw (meets-thirds σ three T (depth n) (nodeCurve c n)) (width-meets T (depth n) (largest c) (nodeCurve c n) (rw d (s .least)) (rw d (s .most))
-      (rw d (quarter-x c (s .least) (s .most) n hn)) (rw d (quarter-y c (s .least) (s .most) n hn)) (rw e premise))
+      width-meets σ rows T (depth n) (largest c) (nodeCurve c n) (rw d (s .least)) (rw d (s .most))
+      (rw d (quarter-x c (s .least) (s .most) n hn)) (rw d (quarter-y c (s .least) (s .most) n hn)) (rw (d, e) premise)
 
   pub end-depth : (n : ℕ) → List·Memᴰ n (endsOf σ T c) → depth n ≤ j
   end-depth = ends-within (nodeMeets σ T c) j all-meet (deepest (c .degree))

@@ -1,4 +1,4 @@
--- The checks before the walk, 1 to 6 and 17, refuse with their own numbers: so the answer of banding shows whether an outline passed them.
+-- The checks before the walk, 18, 1 to 6 and 17, refuse with their own numbers: so the answer of banding shows whether an outline passed them.
 use mathlib.Core.Path.{_≡_, refl, ap, subst}
 use mathlib.Core.Bool.{Bool, true, false}
 use mathlib.Core.Logic.{_⊎_, inl, inr, ⊎-elim}
@@ -9,9 +9,9 @@ use native.Mathlib.Omega.{arith}
 use lib.Dec.{ltb, lit≤}
 use lib.ListN.{length}
 use lib.IntN.{ℤ}
-use Rattle.setting.specs.Setting.{Setting}
+use Rattle.setting.specs.Setting.{Setting, piecesFine}
 use Rattle.refusals.specs.declared.Refusal.{Refusal}
-use Rattle.refusals.specs.declared.Refusal.the-variants.{Tolerance, Degree, CutShort, Coordinate, TooManyCurves, EmptyOutline, Gap}
+use Rattle.refusals.specs.declared.Refusal.the-variants.{Tolerance, Degree, CutShort, Coordinate, TooManyCurves, EmptyOutline, Gap, Pieces}
 use Rattle.refusals.specs.Refusals.{numberOf}
 use Rattle.curve_nodes.specs.declared.Curve.{Curve}
 use Rattle.outline.specs.Curves.{nextAt, curveAt}
@@ -33,6 +33,9 @@ early-at-most r h = record { not-wide = λ e. omega arith; not-few = λ e. omega
 
 early-gap : (i : ℕ) → Early (Gap i)
 early-gap i = record { not-wide = λ e. omega arith; not-few = λ e. omega arith }
+
+early-pieces : Early Pieces
+early-pieces = record { not-wide = λ e. omega arith; not-few = λ e. omega arith }
 
 fault-early : (ns : List ℤ) (at : ℕ) (r : Refusal) → faultAt ns at ≡ some r → Early r
 fault-early ns at r e = go r (rw e at (finding ns at))
@@ -76,16 +79,19 @@ outlined-early most (z ∷ ns) r e = outline-early most (z ∷ ns) 0 r e
 module _ (σ : Setting) (T : ℤ) (ns : List ℤ) (room : ℕ) where
   pub banded-curves : (cs : List Curve) → Faultless σ T ns cs → banded σ T ns room ≡ bandCurves σ T cs room
   unfolding banded
-  banded-curves cs f = rw (f .tolerance, f .outline, banded)
+  banded-curves cs f = rw (f .pieces, f .tolerance, f .outline, banded)
 
   pub faultless-or : ((cs : List Curve) × Faultless σ T ns cs) ⊎ ((r : Refusal) × (banded σ T ns room ≡ Refused r) × Early r)
   unfolding banded
   faultless-or = ⊎-elim
-      (λ fine. go fine (outlined (σ .most) ns) refl)
-      (λ (e : toleranceFine T ≡ false). inr (Tolerance, rw (e, banded), early-at-most Tolerance (lit≤ tt)))
-      (either (toleranceFine T))
+      (λ rows. ⊎-elim
+      (λ fine. go rows fine (outlined (σ .most) ns) refl)
+      (λ (e : toleranceFine T ≡ false). inr (Tolerance, rw (rows, e, banded), early-at-most Tolerance (lit≤ tt)))
+      (either (toleranceFine T)))
+      (λ (e : piecesFine (σ .pieces) ≡ false). inr (Pieces, rw (e, banded), early-pieces))
+      (either (piecesFine (σ .pieces)))
     where
-      go : toleranceFine T ≡ true → (o : Outlined) → outlined (σ .most) ns ≡ o
+      go : piecesFine (σ .pieces) ≡ true → toleranceFine T ≡ true → (o : Outlined) → outlined (σ .most) ns ≡ o
           → ((cs : List Curve) × Faultless σ T ns cs) ⊎ ((r : Refusal) × (banded σ T ns room ≡ Refused r) × Early r)
-      go fine (curves cs) e = inl (cs, record { tolerance = fine; outline = e })
-      go fine (faulty r) e = inr (r, rw (fine, e, banded), outlined-early (σ .most) ns r e)
+      go rows fine (curves cs) e = inl (cs, record { pieces = rows; tolerance = fine; outline = e })
+      go rows fine (faulty r) e = inr (r, rw (rows, fine, e, banded), outlined-early (σ .most) ns r e)

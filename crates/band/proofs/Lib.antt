@@ -1,6 +1,7 @@
 -- Laws of banding. Each file opens with what it holds.
 pub mod Answers
 pub mod Depths
+pub mod Premise
 pub mod Computing
 pub mod Examples
 pub mod Sound

@@ -5,7 +5,7 @@ use Prim.Native.Nat.{ℕ, suc, _+_, _≤_, _<_}
 use native.Mathlib.Omega.{arith}
 use lib.ListN.{length}
 use lib.IntN.{ℤ}
-use Rattle.setting.specs.Setting.{Setting, deepest}
+use Rattle.setting.specs.Setting.{Setting, HasRows, deepest}
 use Rattle.curve_nodes.specs.declared.Curve.{Curve}
 use Rattle.curve_nodes.specs.Bounds.{Sized}
 use Rattle.outline.specs.Checks.{curves, outlined}
@@ -18,13 +18,13 @@ use Rattle.band_records.proofs.Sound.{leaf-sound, list-nil, list-append, list-r
 use Rattle.band_passes.specs.Leaves.{leavesOf}
 
 -- ---- all curves
-module _ (σ : Setting) (three : σ .pieces ≡ 3) where
+module _ (σ : Setting) (rows : HasRows (σ .pieces)) where
   pub curves-sound : (T : ℤ) (k : ℕ) (cs : List Curve) → k + length cs ≤ σ .most → ((c : Curve) → List·Memᴰ c cs → Sized 0 c)
       → SoundList σ (leavesOf σ T cs) (allRecords σ T k cs)
   unfolding leavesOf allRecords
   curves-sound T k [] few sized = list-nil
   curves-sound T k (c ∷ cs) few sized = list-append
-      (list-records k c (endsOf σ T c) (λ n i. leaf-sound σ three T k c n (omega arith) (sized c (List·Memᴰ·head refl)) i))
+      (list-records k c (endsOf σ T c) (λ n i. leaf-sound σ rows T k c n (omega arith) (sized c (List·Memᴰ·head refl)) i))
       (curves-sound T (suc k) cs (omega arith) (λ d i. sized d (List·Memᴰ·tail i)))
 
 -- ---- an accepted outline
@@ -37,6 +37,6 @@ module _ (σ : Setting) (T : ℤ) (ns : List ℤ) (cs : List Curve) (o : outline
   pub some-leaves : 0 < leavesOf σ T cs
   some-leaves = curves-leaves σ T cs (accepted-some (σ .most) ns cs o)
 
-  pub records-sound : σ .pieces ≡ 3 → SoundList σ (leavesOf σ T cs) (allRecords σ T 0 cs)
-  records-sound three = curves-sound σ three T 0 cs (omega (arith, accepted-most (σ .most) ns cs o))
+  pub records-sound : HasRows (σ .pieces) → SoundList σ (leavesOf σ T cs) (allRecords σ T 0 cs)
+  records-sound rows = curves-sound σ rows T 0 cs (omega (arith, accepted-most (σ .most) ns cs o))
       (accepted-all (σ .most) ns 0 cs (outlined-from (σ .most) ns cs o))

@@ -20,7 +20,8 @@ use Rattle.band.specs.declared.banding.Banded.the-variants.{Done, Refuse
 use Rattle.walk_tree.specs.Leaves.{Leaf, Spans, EndToEnd}
 use Rattle.walk_curve.specs.Walked.{nodeMeets, endsOf}
 use Rattle.band_records.specs.Records.{allRecords}
-use Rattle.setting.specs.Setting.{Setting, recordLength, deepest}
+use Rattle.setting.specs.Setting.{Setting, HasRows, recordLength, deepest}
+use Rattle.setting.proofs.Pieces.{fine-has-rows}
 use Rattle.band.specs.Banding.{bandCurves, banded, written}
 use Rattle.band_records.specs.Ranges.{SoundList}
 use Rattle.band_passes.specs.Meeting.{AllMeet, FirstWide}
@@ -35,7 +36,7 @@ use Rattle.band.proofs.Faults.{Early, banded-curves, faultless-or}
 use Rattle.band.proofs.Answers.{all-records-length, written-refused}
 use Rattle.band.proofs.Cases.{wide-said, few-said, done-said, said-wide, said-few, said-done}
 
--- ---- the answer of banding, behind the checks before the walk: 1 to 6 and 17
+-- ---- the answer of banding, behind the checks before the walk: 18, 1 to 6 and 17
 module _ (σ : Setting) (T : ℤ) (ns : List ℤ) (room : ℕ) where
   -- an answer that is no refusal of these is the answer for the outline's curves
   of-curves : {v : Banded} → ((r : Refusal) → Early r → Refused r ≡ v → ⊥) → banded σ T ns room ≡ v
@@ -76,6 +77,10 @@ module _ (σ : Setting) (T : ℤ) (ns : List ℤ) (room : ℕ) where
       let r = h .2 in
       omega (arith, nodes-of-curves σ T (h .0), r .curves, r .leaves, r .nodes)
 
+-- ---- there are rows for the number of pieces
+pub faultless-rows : {σ : Setting} {T : ℤ} {ns : List ℤ} {cs : List Curve} → Faultless σ T ns cs → HasRows (σ .pieces)
+faultless-rows {σ} f = fine-has-rows (σ .pieces) (f .pieces)
+
 -- ---- the lent list
 module _ (σ : Setting) (T : ℤ) (ns old : List ℤ) where
   pub refused-unaltered : (r : Refusal) → banded σ T ns (length old) ≡ Refused r → written σ T ns old ≡ old
@@ -103,13 +108,13 @@ module _ (σ : Setting) (T : ℤ) (ns old : List ℤ) where
         ∙ drop-at records (drop (length records) old) (recordLength σ * b) whole
         ∙ ap (λ n. drop n old) whole
 
-    -- the records pass checks 9 and 10, where there are three pieces
+    -- the records pass checks 9 and 10
     pub written-some : 0 < b
     written-some = subst (λ n. 0 < n) (r .leaves) (some-leaves σ T ns cs (f .outline))
 
-    pub written-sound : σ .pieces ≡ 3 → SoundList σ b (take (recordLength σ * b) (written σ T ns old))
-    written-sound three =
-        rw records-written (subst (λ n. SoundList σ n records) (r .leaves) (records-sound σ T ns cs (f .outline) three))
+    pub written-sound : SoundList σ b (take (recordLength σ * b) (written σ T ns old))
+    written-sound =
+        rw records-written (subst (λ n. SoundList σ n records) (r .leaves) (records-sound σ T ns cs (f .outline) (faultless-rows f)))
 
 -- ---- the leaves of an accepted outline's curve c
 module _ (σ : Setting) (T : ℤ) (cs : List Curve) (meet : AllMeet σ T cs) (c : Curve) (i : List·Memᴰ c cs) where
@@ -132,16 +137,18 @@ module _ (σ : Setting) (T : ℤ) (c : Curve) where
       → (start n + 1) * 2 ^ depth m ≤ start m * 2 ^ depth n
   leaves-in-order = in-order (nodeMeets σ T c) (deepest (c .degree))
 
--- ---- the depth claim of demand 3, with three pieces
-module _ (σ : Setting) (three : σ .pieces ≡ 3) (T : ℤ) (ns : List ℤ) (cs : List Curve) (f : Faultless σ T ns cs) where
+-- ---- the depth claim of demand 3
+module _ (σ : Setting) (T : ℤ) (ns : List ℤ) (cs : List Curve) (f : Faultless σ T ns cs) where
   sized : (c : Curve) → List·Memᴰ c cs → Sized 0 c
   sized = accepted-all (σ .most) ns 0 cs (outlined-from (σ .most) ns cs (f .outline))
 
-  pub leaf-at-most : (c : Curve) → List·Memᴰ c cs → (j : ℕ) → Flat T c j → (n : ℕ) → List·Memᴰ n (endsOf σ T c) → depth n ≤ j
-  leaf-at-most c i j premise = end-depth σ three T c (sized c i) j premise
+  pub leaf-at-most : (c : Curve) → List·Memᴰ c cs → (j : ℕ) → Flat σ T c j → (n : ℕ) → List·Memᴰ n (endsOf σ T c) → depth n ≤ j
+  leaf-at-most c i j premise = end-depth σ (faultless-rows f) T c (sized c i) j premise
 
   -- check 7 passes where each curve has such a j within the walk's reach
-  pub flat-meets : ((c : Curve) → List·Memᴰ c cs → (j : ℕ) × (j ≤ deepest (c .degree)) × Flat T c j) → AllMeet σ T cs
+  pub flat-meets : ((c : Curve) → List·Memᴰ c cs → (j : ℕ) × (j ≤ deepest (c .degree)) × Flat σ T c j) → AllMeet σ T cs
   flat-meets h = record {
-    each = λ c i. let p = h c i in none-passing (nodeMeets σ T c) (endsOf σ T c) (none-too-wide σ three T c (sized c i) (p .0) (p .2) (p .1));
+    each = λ c i.
+        let p = h c i in
+        none-passing (nodeMeets σ T c) (endsOf σ T c) (none-too-wide σ (faultless-rows f) T c (sized c i) (p .0) (p .2) (p .1));
   }

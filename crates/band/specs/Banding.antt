@@ -6,8 +6,8 @@ use Prim.Native.Nat.{ℕ, _*_}
 use lib.Dec.{ltb}
 use lib.ListN.{length, drop}
 use lib.IntN.{ℤ}
-use Rattle.setting.specs.Setting.{Setting, recordLength}
-use Rattle.refusals.specs.declared.Refusal.the-variants.{Tolerance, TooFewRecords}
+use Rattle.setting.specs.Setting.{Setting, piecesFine, recordLength}
+use Rattle.refusals.specs.declared.Refusal.the-variants.{Tolerance, TooFewRecords, Pieces}
 use Rattle.curve_nodes.specs.declared.Curve.{Curve}
 use Rattle.outline.specs.Checks.{toleranceFine, Outlined, curves, faulty, outlined}
 use Rattle.band.specs.declared.banding.Banded.{Banded}
@@ -31,9 +31,17 @@ abbrev pub bandOutlined : Setting → ℤ → Outlined → ℕ → Banded
 bandOutlined σ T (faulty r) room = Refused r
 bandOutlined σ T (curves cs) room = bandCurves σ T cs room
 
+-- 18, then 1, then the outline
 unfoldable pub banded : Setting → ℤ → List ℤ → ℕ → Banded
 banded σ T ns room =
-    elim (toleranceFine T) [ false ↦ Refused Tolerance | true ↦ bandOutlined σ T (outlined (σ .most) ns) room ]
+    elim (piecesFine (σ .pieces)) [
+      | false ↦ Refused Pieces
+      | true ↦
+          elim (toleranceFine T) [
+            | false ↦ Refused Tolerance
+            | true ↦ bandOutlined σ T (outlined (σ .most) ns) room
+          ]
+    ]
 
 -- ---- the caller's list afterwards: the records in front of what stood behind them; a refusal alters nothing
 abbrev pub writtenBy : Banded → List ℤ → List ℤ → List ℤ

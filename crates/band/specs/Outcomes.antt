@@ -10,14 +10,16 @@ use lib.Signed.{_≤ℤ_}
 use Rattle.integers.specs.Squares.{squared}
 use Rattle.curve_nodes.specs.declared.Curve.{Curve}
 use Rattle.curve_nodes.specs.Differences.{largest}
+use Rattle.bound_rows.specs.Rule.{gapOf}
 use Rattle.outline.specs.Checks.{toleranceFine, curves, outlined}
-use Rattle.setting.specs.Setting.{Setting, recordLength}
+use Rattle.setting.specs.Setting.{Setting, piecesFine, recordLength}
 use Rattle.band_passes.specs.Leaves.{leavesOf, nodesOf}
 use Rattle.band_passes.specs.Meeting.{AllMeet}
 
 -- ---- outlines
--- the checks before the walk, 1 to 6 and 17, find no fault, and the outline's curves are cs
+-- the checks before the walk, 18, 1 to 6 and 17, find no fault, and the outline's curves are cs
 pub record Faultless (σ : Setting) (T : ℤ) (ns : List ℤ) (cs : List Curve) : Type 0 where
+  pub pieces : piecesFine (σ .pieces) ≡ true
   pub tolerance : toleranceFine T ≡ true
   pub outline : outlined (σ .most) ns ≡ curves cs
 
@@ -35,8 +37,16 @@ pub record Report (σ : Setting) (T : ℤ) (cs : List Curve) (room a b c : ℕ) 
   pub leaves : leavesOf σ T cs ≡ b
   pub nodes : nodesOf σ T cs ≡ c
 
--- ---- the premise of the depth claim: 2 × (178 × M + 250 × 4^j)² ≤ (125 × T × 4^j)²
-abbrev pub Flat : ℤ → Curve → ℕ → Type 0
-Flat T c j =
+-- ---- the premise of the depth claim: 2 × (16 × G × M + 20000 × 4^j)² ≤ (10000 × T × 4^j)², where G is that of the
+-- curve's degree and the number of pieces (request 05)
+abbrev pub Flat : Setting → ℤ → Curve → ℕ → Type 0
+Flat σ T c j =
+    (pos 2 *ℤ squared (pos 16 *ℤ pos (gapOf (σ .pieces) (c .degree)) *ℤ pos (largest c) +ℤ pos 20000 *ℤ pos (4 ^ j)))
+    ≤ℤ squared (pos 10000 *ℤ T *ℤ pos (4 ^ j))
+
+-- that of request 04, for three pieces: 2 × (178 × M + 250 × 4^j)² ≤ (125 × T × 4^j)². The two are the same at degree
+-- 3, by `flat-thirds` of crates/band/proofs/Premise.antt.
+abbrev pub FlatThirds : ℤ → Curve → ℕ → Type 0
+FlatThirds T c j =
     (pos 2 *ℤ squared (pos 178 *ℤ pos (largest c) +ℤ pos 250 *ℤ pos (4 ^ j)))
     ≤ℤ squared (pos 125 *ℤ T *ℤ pos (4 ^ j))

@@ -1,7 +1,7 @@
 // Banding: the leaves of an outline at a tolerance, as records.
 ghost use mathlib.Core.Path.{_≡_};
 ghost use lib.ListN.{length};
-ghost use Rattle.setting.specs.Setting.{standard};
+ghost use Rattle.setting.specs.Setting.{lists, piecesFine};
 ghost use Rattle.band.specs.Banding.{banded, written};
 use crate::banding::Banded;
 use crate::outline_band::band_curves;
@@ -11,18 +11,38 @@ use refusals::Refusal;
 pub mod banding;
 pub mod outline_band;
 
-// Puts a band round an outline, at a tolerance in sixteenths: the leaves' records stand at the front of the list
-// afterwards, and what stood behind them stays. A refusal alters nothing. Every outline, tolerance and list may be
-// asked about.
-pub fn band(outline: &[i32], tolerance: i32, records: &mut [i32]) -> Banded
-    ensures { λ r. ⌜ r ≡ banded standard tolerance (now (outline .entry)) (length (now (records .entry))) ⌝ }
-    ensures { λ r. ⌜ now (records .exit) ≡ written standard tolerance (now (outline .entry)) (now (records .entry)) ⌝ }
+// Check 18: whether there are rows for m pieces. Every number may be asked about.
+fn pieces_fine(m: u32) -> bool
+    ensures { λ r. ⌜ r ≡ piecesFine m ⌝ }
 {
+    if m < 1 {
+        return false;
+    }
+    m <= 8
+}
+
+// Puts a band of m pieces a leaf round an outline, at a tolerance in sixteenths: the leaves' records stand at the front
+// of the list afterwards, and what stood behind them stays. A refusal alters nothing. Every outline, tolerance, m and
+// list may be asked about.
+pub fn band(outline: &[i32], tolerance: i32, m: u32, records: &mut [i32]) -> Banded
+    ensures { λ r. ⌜ r ≡ banded (lists m) tolerance (now (outline .entry)) (length (now (records .entry))) ⌝ }
+    ensures { λ r. ⌜ now (records .exit)
+        ≡ written (lists m) tolerance (now (outline .entry)) (now (records .entry)) ⌝ }
+{
+    if !pieces_fine(m) {
+        return Banded::Refused(Refusal::Pieces);
+    }
     if !outline_checks::tolerance_fine(tolerance) {
         return Banded::Refused(Refusal::Tolerance);
     }
     match outline_checks::check_outline(outline, 64) {
         Checked::Faulty(refusal) => Banded::Refused(refusal),
-        Checked::Curves(curves) => band_curves(outline, tolerance as i64, curves, records),
+        Checked::Curves(curves) => band_curves(
+            outline,
+            tolerance as i64,
+            m as usize,
+            curves,
+            records,
+        ),
     }
 }

@@ -1,7 +1,8 @@
 // The band of an outline without faults: checks 7 and 8, and the records.
 ghost use mathlib.Core.Path.{_≡_};
 ghost use lib.ListN.{length};
-ghost use Rattle.setting.specs.Setting.{standard};
+ghost use Rattle.setting.specs.Setting.{lists, HasRows};
+ghost use Rattle.bound_node.specs.Inside.{Ready};
 ghost use Rattle.band_records.specs.Records.{allRecords};
 ghost use Rattle.band.specs.Banding.{bandCurves, writtenBy};
 ghost use Rattle.band_passes.specs.Inside.{Readable, curvesIn};
@@ -9,22 +10,35 @@ use crate::banding::Banded;
 use band_passes::leaf_count::count;
 use band_passes::leaf_writing::write_all;
 use band_passes::passes::Counted;
+use bound_node::pieces::Pieces;
 use refusals::Refusal;
 
-// Checks 7 and 8, and the records, of an outline without faults that has this many curves.
-pub fn band_curves(ns: &[i32], t: i64, curves: usize, records: &mut [i32]) -> Banded
-    requires { ⌜ Readable (now ns) curves ⌝ }
-    ensures { λ r. ⌜ r ≡ bandCurves standard t (curvesIn (now (ns .entry)) curves) (length (now (records .entry))) ⌝ }
+// Checks 7 and 8, and the records, of an outline without faults that has this many curves. The rows lent are those of
+// the number of pieces.
+fn band_by(
+    rows: &[i64],
+    pieces: Pieces,
+    ns: &[i32],
+    t: i64,
+    curves: usize,
+    records: &mut [i32],
+) -> Banded
+    requires { ⌜ (Ready pieces (now rows)) × (Readable (now ns) curves) ⌝ }
+    ensures { λ r. ⌜ r
+        ≡ bandCurves (lists (pieces .m)) t (curvesIn (now (ns .entry)) curves) (length (now (records .entry))) ⌝ }
     ensures { λ r. ⌜ now (records .exit)
-        ≡ writtenBy r (allRecords standard t 0 (curvesIn (now (ns .entry)) curves)) (now (records .entry)) ⌝ }
+        ≡ writtenBy r (allRecords (lists (pieces .m)) t 0 (curvesIn (now (ns .entry)) curves))
+        (now (records .entry)) ⌝ }
 {
-    match count(ns, t, curves) {
+    match count(rows, pieces, ns, t, curves) {
         Counted::Stopped(refusal) => Banded::Refused(refusal),
         Counted::Total(leaves) => {
-            if records.len() < 18 * leaves {
+            let m = pieces.m;
+            let record_length = 6 + 4 * m;
+            if records.len() < record_length * leaves {
                 return Banded::Refused(Refusal::TooFewRecords(leaves));
             }
-            write_all(records, ns, t, curves);
+            write_all(records, rows, pieces, ns, t, curves);
             let nodes = 2 * leaves - curves;
             Banded::Done {
                 curves,
@@ -33,4 +47,18 @@ pub fn band_curves(ns: &[i32], t: i64, curves: usize, records: &mut [i32]) -> Ba
             }
         }
     }
+}
+
+// The same for m pieces: their rows are copied out of the table, once. The list that they are put into is filled with m
+// first; for zeros the compiler would call the C library.
+pub fn band_curves(ns: &[i32], t: i64, m: usize, curves: usize, records: &mut [i32]) -> Banded
+    requires { ⌜ (HasRows m) × (Readable (now ns) curves) ⌝ }
+    ensures { λ r. ⌜ r ≡ bandCurves (lists m) t (curvesIn (now (ns .entry)) curves) (length (now (records .entry))) ⌝ }
+    ensures { λ r. ⌜ now (records .exit)
+        ≡ writtenBy r (allRecords (lists m) t 0 (curvesIn (now (ns .entry)) curves)) (now (records .entry)) ⌝ }
+{
+    let mut rows = [m as i64; 108];
+    bound_rows::put_rows(&mut rows, m);
+    let pieces = bound_node::pieces::pieces_of(&rows, m);
+    band_by(&rows, pieces, ns, t, curves, records)
 }

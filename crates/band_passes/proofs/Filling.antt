@@ -16,7 +16,7 @@ use Rattle.outline.specs.Checks.{outlineFrom}
 use Rattle.walk_curve.specs.Walked.{nodeMeets, endsOf}
 use Rattle.band_records.specs.Records.{recordsOf, allRecords}
 use Rattle.band_passes.specs.Leaves.{curvesOf, leavesOf}
-use Rattle.band_passes.specs.Inside.{Ready, Fillable}
+use Rattle.band_passes.specs.Inside.{EndsMeet, Fillable}
 use Rattle.band_passes.specs.Meeting.{AllMeet}
 use Rattle.walk_tree.proofs.Failing.{passing-none}
 use Rattle.band_passes.proofs.Wide.{none-wide, meet-head, meet-rest}
@@ -77,7 +77,7 @@ module _ {σ : Setting} {T : ℤ} {ns : List ℤ} {n : ℕ} {l : List ℤ} where
       room-here = let x = rest-next (f .rest) (f .ahead) h in
           omega (arith, f .room, ap (λ m. recordLength σ * m) (ap (leavesOf σ T) (x .is) ∙ more-leaves σ T (curveAt ns at) (x .more)))
 
-      pub filled-ready : Ready σ T (curveAt ns at)
+      pub filled-ready : EndsMeet σ T (curveAt ns at)
       filled-ready = record {
         sized = rest-next (f .rest) (f .ahead) h .sized;
         passing = passing-none (nodeMeets σ T (curveAt ns at)) (endsOf σ T (curveAt ns at)) (meet-head σ T passing-here);

@@ -1,46 +1,23 @@
--- A walk that writes a record at each leaf: what the list holds at each step, from place `at` on, and that a node's boxes fit 32 bits.
+-- A walk that writes a record at each leaf: what the list holds at each step, from place `at` on.
 use mathlib.Core.Path.{_≡_, refl, sym, _∙_, ap, ap₂}
 use mathlib.Core.Bool.{true, false}
 use mathlib.Core.List.{List, [], _∷_, _++_}
-use Prim.Native.Nat.{ℕ, _+_, _*_, _^_, _≤_, _<_}
-use native.Mathlib.Nat.{le-trans, le-of-suc-le-suc, mul-le-mul-left}
+use Prim.Native.Nat.{ℕ, _+_, _*_, _≤_}
+use native.Mathlib.Nat.{mul-le-mul-left}
 use native.Mathlib.Omega.{arith}
-use lib.Dec.{lit≤}
 use lib.ListN.{length, length-append}
 use lib.Seq.{sets, length-sets}
 use lib.IntN.{ℤ}
-use Rattle.setting.specs.Setting.{Setting, standard, breakPoints, recordLength, deepest}
+use Rattle.setting.specs.Setting.{Setting, breakPoints, recordLength, deepest}
 use Rattle.integers.proofs.Stores.{sets-append}
 use Rattle.curve_nodes.specs.declared.Curve.{Curve}
 use Rattle.curve_nodes.specs.Nodes.{depth, nodeCurve, after}
-use Rattle.curve_nodes.proofs.Sizes.{node-sized}
-use Rattle.bound_node.specs.Inside.{SmallBox}
-use Rattle.bound_node.specs.Boxes.{boxAt}
-use Rattle.bound_node.proofs.Sound.{node-box}
 use Rattle.walk_curve.specs.Walked.{nodeMeets, endsOf}
 use Rattle.band_records.specs.Records.{boxesTo, nodeNumbers, recordOf, recordsOf}
-use Rattle.band_records.specs.Inside.{Writable}
 use Rattle.band_records.proofs.Lengths.{records-length, records-snoc}
-use Rattle.band_passes.specs.Inside.{Ready}
+use Rattle.band_passes.specs.Inside.{EndsMeet}
 use Rattle.walk_tree.proofs.Failing.{none-passing}
 use Rattle.walk_tree.proofs.Walking.{Walking, walking-start, walking-half, walking-halvable, walking-leaf, walking-done, fewer-passed}
-
--- ---- a node's boxes fit
-module _ {T : ℤ} {c : Curve} (r : Ready standard T c) {passed : List ℕ} {n : ℕ}
-    (w : Walking (nodeMeets standard T c) (deepest (c .degree)) passed n) where
-  pub writable-node : Writable standard (depth n) (nodeCurve c n)
-  writable-node = record { sized = node-sized (r .sized) n (w .node); shallow = w .within; boxes = fits }
-    where
-      small : {m : ℕ} → m ≤ 2 ^ 24 + 2 ^ 23 → m ≤ 2 ^ 29
-      small h = le-trans h (lit≤ tt)
-
-      fits : (i : ℕ) → i < breakPoints standard → SmallBox (2 ^ 29) (boxAt standard (depth n) (nodeCurve c n) i)
-      fits i h = let b = node-box (depth n) (nodeCurve c n) (node-sized (r .sized) n (w .node)) i (le-of-suc-le-suc h) in record {
-        x-low = small (b .x .low-size);
-        x-high = small (b .x .high-size);
-        y-low = small (b .y .low-size);
-        y-high = small (b .y .high-size);
-      }
 
 -- ---- the list at each step: it was l, and holds the records of the leaves passed
 pub record Recorded (σ : Setting) (T : ℤ) (c : Curve) (k : ℕ) (l : List ℤ) (at n place : ℕ) (l′ : List ℤ) : Type 0 where
@@ -61,7 +38,7 @@ module _ {σ : Setting} {T : ℤ} {c : Curve} {k : ℕ} {l : List ℤ} {at : ℕ
     pub recorded-room : at + recordLength σ * length (endsOf σ T c) ≤ length l → place + recordLength σ ≤ length l′
     recorded-room h = omega (arith, recorded-length, r .here, mul-le-mul-left (recordLength σ) (fewer-passed (r .walking)))
 
-    pub recorded-half : Ready σ T c → nodeMeets σ T c n ≡ false → Recorded σ T c k l at (2 * n) place l′
+    pub recorded-half : EndsMeet σ T c → nodeMeets σ T c n ≡ false → Recorded σ T c k l at (2 * n) place l′
     recorded-half h e = record {
       passed = r .passed;
       walking = walking-half (r .walking) e (walking-halvable (r .walking) (none-passing (nodeMeets σ T c) (endsOf σ T c) (h .passing)) e);
@@ -79,13 +56,15 @@ module _ {σ : Setting} {T : ℤ} {c : Curve} {k : ℕ} {l : List ℤ} {at : ℕ
     on : place + recordLength σ ≡ at + recordLength σ * length (r .passed ++ n ∷ [])
     on = omega (arith, r .here, ap (λ m. recordLength σ * m) (length-append (r .passed) (n ∷ [])))
 
-    pub recorded-leaf : {l″ : List ℤ} → nodeMeets σ T c n ≡ true → (after n ≡ 1 → ⊥) → l″ ≡ sets l′ place (recordOf σ k c n)
-        → Recorded σ T c k l at (after n) (place + recordLength σ) l″
-    recorded-leaf e h f = record { passed = r .passed ++ n ∷ []; walking = walking-leaf (r .walking) e h; here = on; list = more f }
+    -- the code goes on by as many numbers as a record has
+    module _ {step : ℕ} (whole : step ≡ recordLength σ) {l″ : List ℤ} where
+      pub recorded-leaf : nodeMeets σ T c n ≡ true → (after n ≡ 1 → ⊥) → l″ ≡ sets l′ place (recordOf σ k c n)
+          → Recorded σ T c k l at (after n) (place + step) l″
+      recorded-leaf e h f = record { passed = r .passed ++ n ∷ []; walking = walking-leaf (r .walking) e h; here = rw whole on; list = more f }
 
-    pub recorded-done : {l″ : List ℤ} → nodeMeets σ T c n ≡ true → after n ≡ 1 → l″ ≡ sets l′ place (recordOf σ k c n)
-        → (place + recordLength σ ≡ at + recordLength σ * length (endsOf σ T c)) × (l″ ≡ sets l at (recordsOf σ k c (endsOf σ T c)))
-    recorded-done e h f = rw (walking-done (r .walking) e h) (on, more f)
+      pub recorded-done : nodeMeets σ T c n ≡ true → after n ≡ 1 → l″ ≡ sets l′ place (recordOf σ k c n)
+          → (place + step ≡ at + recordLength σ * length (endsOf σ T c)) × (l″ ≡ sets l at (recordsOf σ k c (endsOf σ T c)))
+      recorded-done e h f = rw (whole, walking-done (r .walking) e h) (on, more f)
 
 -- ---- from what the code called
 pub put : (σ : Setting) (l : List ℤ) (place k : ℕ) (c : Curve) (n : ℕ) {p : Curve} {l′ : List ℤ} → p ≡ nodeCurve c n

@@ -32,7 +32,7 @@ unfoldable pub countedOf : Setting → ℤ → List Curve → Counted
 countedOf σ T cs = elim (firstTooWide σ T 0 cs) [ some r ↦ Stopped r | none ↦ Total (leavesOf σ T cs) ]
 
 -- every end of the walk of curve c is a leaf at T
-pub record Ready (σ : Setting) (T : ℤ) (c : Curve) : Type 0 where
+pub record EndsMeet (σ : Setting) (T : ℤ) (c : Curve) : Type 0 where
   pub sized : Sized 0 c
   pub passing : firstFailing (nodeMeets σ T c) (endsOf σ T c) ≡ none
 

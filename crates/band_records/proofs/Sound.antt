@@ -18,14 +18,13 @@ use Rattle.curve_nodes.specs.Bounds.{Sized}
 use Rattle.curve_nodes.specs.Nodes.{depth, nodeCurve}
 use Rattle.curve_nodes.proofs.Sizes.{node-sized}
 use Rattle.bound_node.specs.Boxes.{boxAt}
-use Rattle.bound_node.proofs.Sound.{Sound, SoundBox, node-box}
+use Rattle.bound_node.proofs.Sound.{Sound, node-box}
 use Rattle.walk_curve.specs.Walked.{nodeMeets, endsOf}
 use Rattle.band_records.specs.Records.{boxNumbers, boxesTo, recordOf, recordsOf}
-use Rattle.setting.specs.Setting.{Setting, breakPoints, recordLength, deepest}
+use Rattle.setting.specs.Setting.{Setting, HasRows, breakPoints, recordLength, deepest}
 use Rattle.boxes.specs.Ranges.{farthest, Interval}
 use Rattle.band_records.specs.Ranges.{SoundRecord, SoundList}
 use Rattle.walk_tree.proofs.Leaves.{end-facts}
-use Rattle.walk_curve.proofs.Thirds.{box-thirds}
 use Rattle.band_records.proofs.Writing.{boxes-length}
 use Rattle.band_records.proofs.Lengths.{in-records, behind-records, record-length}
 
@@ -58,21 +57,19 @@ module _ (σ : Setting) (k : ℕ) (c : Curve) (n : ℕ) where
       ap (entry (recordOf σ k c n)) {x = 4 * i + (2 + s)} {y = suc (suc (4 * i + s))} (omega arith)
       ∙ box-at σ (breakPoints σ) (depth n) (nodeCurve c n) i s (omega arith) hs
 
-interval : {l h a b : ℤ} → a ≡ l → b ≡ h → Sound (2 ^ 24 + 2 ^ 23) l h → Interval a b
+interval : {l h a b : ℤ} → a ≡ l → b ≡ h → Sound (2 ^ 28) l h → Interval a b
 interval {l} {h} e f s = rw (e, f) (record {
   from = abs-low {B = farthest} l (le-trans (s .low-size) (lit≤ tt));
   order = s .order;
   to = abs-high {B = farthest} h (le-trans (s .high-size) (lit≤ tt));
 })
 
-pub leaf-sound : (σ : Setting) → σ .pieces ≡ 3 → (T : ℤ) (k : ℕ) (c : Curve) (n : ℕ) → k < σ .most → Sized 0 c → List·Memᴰ n (endsOf σ T c)
+pub leaf-sound : (σ : Setting) → HasRows (σ .pieces) → (T : ℤ) (k : ℕ) (c : Curve) (n : ℕ) → k < σ .most → Sized 0 c → List·Memᴰ n (endsOf σ T c)
     → SoundRecord σ (entry (recordOf σ k c n))
 unfolding recordOf
-leaf-sound σ three T k c n hk s i =
+leaf-sound σ rows T k c n hk s i =
     let f = end-facts (nodeMeets σ T c) (deepest (c .degree)) n i in
-    let b : (i : ℕ) → i ≤ σ .pieces → SoundBox (2 ^ 24 + 2 ^ 23) (boxAt σ (depth n) (nodeCurve c n) i) =
-    λ i h. rw (box-thirds σ three (depth n) (nodeCurve c n) i)
-    (node-box (depth n) (nodeCurve c n) (node-sized s n (f .node)) i (omega (arith, h, three))) in
+    let b = node-box σ rows (depth n) (nodeCurve c n) (node-sized s n (f .node)) in
     record {
       curve-from = pos-le (omega arith);
       curve-below = pos-lt hk;

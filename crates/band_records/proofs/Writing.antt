@@ -1,18 +1,24 @@
--- What a run of stores leaves in a list, `sets` of lib.Seq, and a list that is filled from the front.
+-- What a run of stores leaves in a list, `sets` of lib.Seq, a list that is filled from the front, and that the boxes of the terms are the curve's.
 use mathlib.Core.Path.{_≡_, refl, sym, _∙_, ap, ap₂}
-use mathlib.Core.List.{List, [], _∷_}
-use Prim.Native.Nat.{ℕ, zero, suc, _+_, _*_}
+use mathlib.Core.List.{List, [], _∷_, _++_}
+use Prim.Native.Nat.{ℕ, zero, suc, _+_, _*_, _≤_}
+use native.Mathlib.Nat.{le-of-suc-le-suc}
 use native.Mathlib.Omega.{arith}
 use native.Mathlib.Numerals.{add-one, add-two, add-three}
 use lib.ListN.{length, set, length-append}
 use lib.Seq.{sets}
 use lib.IntN.{ℤ, pos}
-use Rattle.setting.specs.Setting.{Setting}
+use Rattle.setting.specs.Setting.{Setting, HasRows, breakPoints}
 use Rattle.integers.proofs.Stores.{sets-append}
 use Rattle.curve_nodes.specs.declared.Curve.{Curve}
-use Rattle.bound_node.specs.declared.node_boxes.WideBox.{WideBox}
+use Rattle.curve_nodes.specs.Bounds.{Sized}
+use Rattle.bound_rows.specs.Inside.{Copied}
+use Rattle.bound_coordinate.specs.declared.terms.Terms.{Terms}
+use Rattle.bound_coordinate.specs.Terms.{termsOf}
+use Rattle.bound_coordinate.proofs.LowHigh.{low-is, high-is}
 use Rattle.bound_node.specs.Boxes.{boxAt}
 use Rattle.band_records.specs.Records.{boxNumbers, boxesTo, nodeNumbers}
+use Rattle.band_records.specs.Inside.{boxBy}
 
 -- four stores, one after the other
 pub four-sets : (l : List ℤ) (at : ℕ) {a b c d a′ b′ c′ d′ : ℤ} → a′ ≡ a → b′ ≡ b → c′ ≡ c → d′ ≡ d
@@ -35,11 +41,44 @@ boxes-length σ (suc n) k c = length-append (boxesTo σ n k c) (boxNumbers (boxA
     four-more : (n : ℕ) → 4 * n + 4 ≡ 4 * suc n
     four-more n = omega arith
 
--- one box more
-pub boxes-more : (σ : Setting) (l l′ : List ℤ) (at i k : ℕ) (c : Curve) {b : WideBox}
-    → l′ ≡ sets (sets l at (boxesTo σ i k c)) (at + 4 * i) (boxNumbers b) → b ≡ boxAt σ k c i
-    → l′ ≡ sets l at (boxesTo σ (i + 1) k c)
-boxes-more σ l l′ at i k c e f =
-    e ∙ ap₂ (λ j b. sets (sets l at (boxesTo σ i k c)) (at + j) (boxNumbers b)) (sym (boxes-length σ i k c)) f
-    ∙ sym (sets-append l at (boxesTo σ i k c) (boxNumbers (boxAt σ k c i)))
-    ∙ ap (λ n. sets l at (boxesTo σ n k c)) (sym (add-one i))
+-- ---- lists of four, one after the other: f 0, f 1, .., n in all
+abbrev pub joinedTo : ℕ → (ℕ → List ℤ) → List ℤ
+joinedTo zero f = []
+joinedTo (suc n) f = joinedTo n f ++ f n
+
+module _ (f : ℕ → List ℤ) (four : (i : ℕ) → length (f i) ≡ 4) where
+  joined-length : (n : ℕ) → length (joinedTo n f) ≡ 4 * n
+  joined-length zero = refl
+  joined-length (suc n) = length-append (joinedTo n f) (f n) ∙ ap₂ _+_ (joined-length n) (four n) ∙ four-more n
+    where
+      four-more : (n : ℕ) → 4 * n + 4 ≡ 4 * suc n
+      four-more n = omega arith
+
+  -- one more
+  pub joined-more : (l l′ : List ℤ) (at i : ℕ) → l′ ≡ sets (sets l at (joinedTo i f)) (at + 4 * i) (f i) → l′ ≡ sets l at (joinedTo (i + 1) f)
+  joined-more l l′ at i e =
+      e ∙ ap (λ j. sets (sets l at (joinedTo i f)) (at + j) (f i)) (sym (joined-length i))
+      ∙ sym (sets-append l at (joinedTo i f) (f i))
+      ∙ ap (λ n. sets l at (joinedTo n f)) (sym (add-one i))
+
+-- ---- from the terms to the curve
+pub box-four : (m s : ℕ) (rows : List ℤ) (x y : Terms) (i : ℕ) → length (boxBy m s rows x y i) ≡ 4
+unfolding boxBy
+box-four m s rows x y i = refl
+
+module _ (σ : Setting) (has : HasRows (σ .pieces)) (k : ℕ) (c : Curve) (sized : Sized k c) {rows : List ℤ} (copied : Copied (σ .pieces) rows) where
+  abbrev boxes : ℕ → List ℤ
+  boxes = boxBy (σ .pieces) (c .degree * k) rows (termsOf (σ .pieces) (c .degree) (c .x)) (termsOf (σ .pieces) (c .degree) (c .y))
+
+  box-is : (i : ℕ) → i ≤ σ .pieces → boxes i ≡ boxNumbers (boxAt σ k c i)
+  unfolding boxBy boxAt
+  box-is i hi = λ j.
+      low-is σ has (sized .least) (sized .most) (c .x) hi k copied j
+      ∷ high-is σ has (sized .least) (sized .most) (c .x) hi k copied j
+      ∷ low-is σ has (sized .least) (sized .most) (c .y) hi k copied j
+      ∷ high-is σ has (sized .least) (sized .most) (c .y) hi k copied j
+      ∷ []
+
+  pub boxes-are : (n : ℕ) → n ≤ breakPoints σ → joinedTo n boxes ≡ boxesTo σ n k c
+  boxes-are zero h = refl
+  boxes-are (suc n) h = ap₂ _++_ (boxes-are n (omega arith)) (box-is n (le-of-suc-le-suc h))

@@ -3,53 +3,82 @@ ghost use mathlib.Core.Path.{_≡_};
 ghost use Prim.Native.Nat.{suc, _+_, _*_, _≤_, _<_, _^_};
 ghost use lib.ListN.{length};
 ghost use lib.Seq.{sets};
-ghost use Rattle.setting.specs.Setting.{standard, breakPoints, recordLength, greatestNode};
+ghost use Rattle.setting.specs.Setting.{HasRows, lists, breakPoints, recordLength, greatestNode};
+ghost use Rattle.curve_nodes.specs.Bounds.{Sized};
 ghost use Rattle.curve_nodes.specs.Nodes.{depth};
-ghost use Rattle.bound_node.specs.Inside.{SmallBox};
-ghost use Rattle.band_records.specs.Records.{boxNumbers, boxesTo, nodeNumbers};
-ghost use Rattle.band_records.specs.Inside.{Writable};
-use bound_node::node_boxes::WideBox;
+ghost use Rattle.bound_rows.specs.Inside.{Copied};
+ghost use Rattle.bound_coordinate.specs.Terms.{Computable};
+ghost use Rattle.band_records.specs.Records.{boxesTo, nodeNumbers};
+ghost use Rattle.band_records.specs.Inside.{boxBy};
+use bound_coordinate::terms::Terms;
 use curve_nodes::Curve;
 
-// The four numbers of a box, from place `at` on.
-fn put_box(records: &mut [i32], at: usize, b: WideBox)
-    requires { ⌜ (at + 4 ≤ length (now records)) × (SmallBox (2 ^ 29) b) ⌝ }
-    ensures { λ _. ⌜ now (records .exit) ≡ sets (now (records .entry)) at (boxNumbers b) ⌝ }
+// The four numbers of the box at break point i, from place `at` on.
+fn put_box(
+    records: &mut [i32],
+    at: usize,
+    rows: &[i64],
+    x: Terms,
+    y: Terms,
+    shift: u32,
+    scale: usize,
+    m: usize,
+    i: usize,
+)
+    requires { ⌜ (at + 4 ≤ length (now records)) × (Computable m shift scale (now rows) x)
+        × (Computable m shift scale (now rows) y) × (i ≤ m) ⌝ }
+    ensures { λ _. ⌜ now (records .exit)
+        ≡ sets (now (records .entry)) at (boxBy m shift (now (rows .entry)) x y i) ⌝ }
 {
-    let x_low = b.x_low;
-    let x_high = b.x_high;
-    let y_low = b.y_low;
-    let y_high = b.y_high;
+    let x_low = bound_coordinate::break_points::low_at(rows, x, shift, scale, m, i);
+    let x_high = bound_coordinate::break_points::high_at(rows, x, shift, scale, m, i);
+    let y_low = bound_coordinate::break_points::low_at(rows, y, shift, scale, m, i);
+    let y_high = bound_coordinate::break_points::high_at(rows, y, shift, scale, m, i);
     records[at] = x_low as i32;
     records[at + 1] = x_high as i32;
     records[at + 2] = y_low as i32;
     records[at + 3] = y_high as i32;
 }
 
-// The boxes at the four break points of a curve at a depth.
-fn put_boxes(records: &mut [i32], at: usize, curve: Curve, depth: u32)
-    requires { ⌜ (at + 4 * breakPoints standard ≤ length (now records)) × (Writable standard depth curve) ⌝ }
+// The boxes at the break points of a curve at a depth, from place `at` on; `rows` are those of m pieces.
+fn put_boxes(records: &mut [i32], at: usize, rows: &[i64], curve: Curve, depth: u32, m: usize)
+    requires { ⌜ (at + 4 * breakPoints (lists m) ≤ length (now records)) × (HasRows m) × (Copied m (now rows))
+        × (Sized depth curve) × (depth ≤ 8) ⌝ }
     ensures { λ _. ⌜ now (records .exit)
-        ≡ sets (now (records .entry)) at (boxesTo standard (breakPoints standard) depth curve) ⌝ }
+        ≡ sets (now (records .entry)) at (boxesTo (lists m) (breakPoints (lists m)) depth curve) ⌝ }
 {
-    let boxes = bound_node::node_boxes::boxes_of(curve, depth);
+    let degree = curve.degree;
+    let shift = degree * depth;
+    let xs = curve.x;
+    let ys = curve.y;
+    let x = bound_coordinate::terms::terms_of(xs, degree, m);
+    let y = bound_coordinate::terms::terms_of(ys, degree, m);
+    let scale = bound_coordinate::break_points::scale_of(m);
     let mut i: usize = 0;
-    while i < 4 {
+    while i <= m {
         let place = at + 4 * i;
-        put_box(records, place, boxes.at(i));
+        put_box(records, place, rows, x, y, shift, scale, m, i);
         i += 1;
     }
 }
 
-// The record of a node: its curve's number, its own, and its boxes.
-pub fn put_record(records: &mut [i32], at: usize, number: u32, node: u32, curve: Curve)
-    requires { ⌜ (at + recordLength standard ≤ length (now records)) × (number < 2 ^ 31)
-        × (node < suc greatestNode) × (0 < node) × (Writable standard (depth node) curve) ⌝ }
+// The record of a node: its curve's number, its own, and its boxes; `rows` are those of m pieces.
+pub fn put_record(
+    records: &mut [i32],
+    at: usize,
+    number: u32,
+    node: u32,
+    rows: &[i64],
+    m: usize,
+    curve: Curve,
+)
+    requires { ⌜ (at + recordLength (lists m) ≤ length (now records)) × (number < 2 ^ 31)
+        × (node < suc greatestNode) × (0 < node) × (HasRows m) × (Copied m (now rows)) × (Sized (depth node) curve) ⌝ }
     ensures { λ _. ⌜ now (records .exit)
         ≡ sets (now (records .entry)) at
-        (nodeNumbers number node (boxesTo standard (breakPoints standard) (depth node) curve)) ⌝ }
+        (nodeNumbers number node (boxesTo (lists m) (breakPoints (lists m)) (depth node) curve)) ⌝ }
 {
     records[at] = number as i32;
     records[at + 1] = node as i32;
-    put_boxes(records, at + 2, curve, curve_nodes::depth(node));
+    put_boxes(records, at + 2, rows, curve, curve_nodes::depth(node), m);
 }

@@ -1,2 +1,6 @@
--- Laws of the code of one coordinate.
+-- Laws of the code of one coordinate. Each file opens with what it holds.
 pub mod Coordinates
+pub mod Quotients
+pub mod Chosen
+pub mod Numerators
+pub mod LowHigh

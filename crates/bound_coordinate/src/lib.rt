@@ -1,3 +1,3 @@
-// One coordinate's lows and highs, computed: the sums of row times second difference, and the bounds.
-pub mod bounds;
-pub mod row_sums;
+// One coordinate's low and high at a break point, computed: its terms, and the bounds from them.
+pub mod break_points;
+pub mod terms;

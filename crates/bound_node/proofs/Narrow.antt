@@ -1,6 +1,6 @@
 -- What the test says of a node that meets the tolerance: at every break point width squared plus height squared is at most the tolerance squared.
-use mathlib.Core.Path.{_≡_, refl, sym, _∙_, ap, subst}
-use mathlib.Core.Bool.{Bool, true, false, _&&_}
+use mathlib.Core.Path.{_≡_, refl, sym, ap, subst}
+use mathlib.Core.Bool.{Bool, true, false}
 use mathlib.Core.Logic.{⊎-elim}
 use mathlib.Core.List.{[], _∷_}
 use Prim.Native.Nat.{ℕ, zero, suc, _+_, _*_, _-_, _^_, _≤_, _<_, suc-le-suc}
@@ -9,7 +9,7 @@ use native.Mathlib.Omega.{arith}
 use lib.Dec.{T}
 use lib.IntN.{ℤ, pos, natAbs, _+ℤ_, _-ℤ_, _*ℤ_}
 use lib.Signed.{ltZ, _≤ℤ_, _<ℤ_, leZ-yes}
-use Rattle.setting.specs.Setting.{Setting, breakPoints, standard}
+use Rattle.setting.specs.Setting.{Setting, HasRows, breakPoints, lists}
 use Rattle.integers.specs.Squares.{squared}
 use Rattle.integers.proofs.Ring.{sides}
 use Rattle.integers.proofs.Order.{NonNeg, natural, nonneg, gap, le-by, lt-le, pos-lt, times-positive, *ℤ-cancel, _+₀_, _×₀_}
@@ -19,10 +19,10 @@ use Rattle.integers.proofs.Ranges.{T-true, lt-yes, lt-no, yes-le, no-le}
 use Rattle.curve_nodes.specs.declared.Curve.{Curve}
 use Rattle.curve_nodes.specs.Differences.{difference}
 use Rattle.bound_node.specs.declared.node_boxes.WideBox.{WideBox}
-use Rattle.bound_rows.proofs.Rule.{pieces-have-rows}
+use Rattle.bound_rows.specs.Rule.{gapOf}
 use Rattle.bound_enclosure.specs.AtDepth.{lowOf, highOf}
 use Rattle.bound_node.specs.Boxes.{boxAt, narrow, allNarrow, meets}
-use Rattle.bound_enclosure.proofs.Width.{width}
+use Rattle.bound_enclosure.proofs.Width.{width-gap}
 use Rattle.bound_node.proofs.Sound.{low-high}
 
 -- width squared plus height squared at break point i
@@ -92,16 +92,13 @@ module _ (σ : Setting) (tolerance : ℤ) (depth : ℕ) (c : Curve) where
     pub narrow-y : (highOf σ (c .degree) depth (c .y) i -ℤ lowOf σ (c .degree) depth (c .y) i) ≤ℤ tolerance
     narrow-y = root-mono some (right-square w h (n .each i hi))
 
--- three pieces: where three boxes are narrow, the last decides
-module _ (tolerance : ℤ) (depth : ℕ) (c : Curve) where
-  pub last-decides : narrow tolerance (boxAt standard depth c 1) ≡ true → narrow tolerance (boxAt standard depth c 2) ≡ true
-      → narrow tolerance (boxAt standard depth c 0) ≡ true → narrow tolerance (boxAt standard depth c 3) ≡ meets standard tolerance depth c
-  unfolding meets
-  last-decides e f g =
-      let n : ℕ → Bool = λ i. narrow tolerance (boxAt standard depth c i) in
-      sym (ap (λ x. x && n 1 && n 2 && n 3) g ∙ ap (λ x. x && n 2 && n 3) e ∙ ap (λ x. x && n 3) f)
+-- only the number of pieces counts
+pub meets-pieces : (σ τ : Setting) → σ .pieces ≡ τ .pieces → (tolerance : ℤ) (depth : ℕ) (c : Curve)
+    → meets σ tolerance depth c ≡ meets τ tolerance depth c
+unfolding meets boxAt
+meets-pieces σ τ e tolerance depth c = ap (λ (m : ℕ). meets (lists m) tolerance depth c) e
 
--- ---- the width law of a curve, in three pieces: with Z = 125 z, a width w and a height h, Z w and Z h are at most X, and 2 X² ≤ (Z T)²
+-- ---- the width law of a curve: with Z = 10000 z, a width w and a height h, Z w and Z h are at most X, and 2 X² ≤ (Z T)²
 flat-narrow : {Z X w h : ℤ} (t : ℤ) → pos 0 <ℤ Z → NonNeg X → NonNeg w → NonNeg h → (Z *ℤ w) ≤ℤ X → (Z *ℤ h) ≤ℤ X
     → (pos 2 *ℤ squared X) ≤ℤ squared (Z *ℤ t) → (squared w +ℤ squared h) ≤ℤ squared t
 flat-narrow {Z} {X} {w} {h} t hZ hX hw hh a b premise = *ℤ-cancel {k = squared Z} (times-positive hZ hZ) (le-by (Z ∷ X ∷ t ∷ w ∷ h ∷ [])
@@ -110,20 +107,26 @@ flat-narrow {Z} {X} {w} {h} t hZ hX hw hh a b premise = *ℤ-cancel {k = squared
     Z₀ : NonNeg Z
     Z₀ = nonneg (lt-le hZ)
 
-pub width-meets : (tolerance : ℤ) (depth M : ℕ) (c : Curve) → 1 ≤ c .degree → c .degree ≤ 3
+-- a node meets T where M, the largest second difference of the curve, is small enough for its depth; G is that of its degree
+pub width-meets : (σ : Setting) → HasRows (σ .pieces) → (tolerance : ℤ) (depth M : ℕ) (c : Curve) → 1 ≤ c .degree → c .degree ≤ 3
     → ((k : ℕ) → k < c .degree - 1 → 4 ^ depth * natAbs (difference (c .x) k) ≤ 2 ^ (c .degree * depth) * M)
     → ((k : ℕ) → k < c .degree - 1 → 4 ^ depth * natAbs (difference (c .y) k) ≤ 2 ^ (c .degree * depth) * M)
-    → (pos 2 *ℤ squared (pos 178 *ℤ pos M +ℤ pos 250 *ℤ pos (4 ^ depth))) ≤ℤ squared (pos 125 *ℤ tolerance *ℤ pos (4 ^ depth))
-    → meets standard tolerance depth c ≡ true
-width-meets tolerance depth M c least most bx by premise = narrow-meets standard tolerance depth c (record {
-  each = λ i hi. flat-narrow tolerance (pos-lt positive) (natural (178 * M + 250 * 4 ^ depth))
-      (gap (low-high standard pieces-have-rows (c .degree) depth (c .x) least most i hi))
-      (gap (low-high standard pieces-have-rows (c .degree) depth (c .y) least most i hi))
-      (width (c .degree) depth M (c .x) least most bx i hi) (width (c .degree) depth M (c .y) least most by i hi) turned;
+    → (pos 2 *ℤ squared (pos 16 *ℤ pos (gapOf (σ .pieces) (c .degree)) *ℤ pos M +ℤ pos 20000 *ℤ pos (4 ^ depth)))
+    ≤ℤ squared (pos 10000 *ℤ tolerance *ℤ pos (4 ^ depth))
+    → meets σ tolerance depth c ≡ true
+width-meets σ rows tolerance depth M c least most bx by premise = narrow-meets σ tolerance depth c (record {
+  each = λ i hi. flat-narrow tolerance (pos-lt positive) (natural (16 * G * M + 20000 * 4 ^ depth))
+      (gap (low-high σ rows (c .degree) depth (c .x) least most i hi))
+      (gap (low-high σ rows (c .degree) depth (c .y) least most i hi))
+      (width-gap σ rows (c .degree) depth (4 ^ depth) M (c .x) most bx i hi)
+      (width-gap σ rows (c .degree) depth (4 ^ depth) M (c .y) most by i hi) turned;
 })
   where
-    positive : 0 < 125 * 4 ^ depth
+    G : ℕ
+    G = gapOf (σ .pieces) (c .degree)
+
+    positive : 0 < 10000 * 4 ^ depth
     positive = omega (arith, one-le-pow depth 4 (zero-lt-suc 3))
 
-    turned : (pos 2 *ℤ squared (pos 178 *ℤ pos M +ℤ pos 250 *ℤ pos (4 ^ depth))) ≤ℤ squared (pos 125 *ℤ pos (4 ^ depth) *ℤ tolerance)
-    turned = le-by (pos M ∷ tolerance ∷ pos (4 ^ depth) ∷ []) (gap premise) (search sides depth 40 fits 9999) refl
+    turned : (pos 2 *ℤ squared (pos 16 *ℤ pos G *ℤ pos M +ℤ pos 20000 *ℤ pos (4 ^ depth))) ≤ℤ squared (pos 10000 *ℤ pos (4 ^ depth) *ℤ tolerance)
+    turned = le-by (pos G ∷ pos M ∷ tolerance ∷ pos (4 ^ depth) ∷ []) (gap premise) (search sides depth 40 fits 9999) refl

@@ -1,37 +1,34 @@
 -- The boxes of a node, whether it meets a tolerance or not: from the enclosure at the break points and from the width, a low is not above its
 -- high, and both are of the curve's size.
-use mathlib.Core.Path.{_≡_, refl, sym, _∙_, ap, ap₂}
-use mathlib.Core.Bool.{Bool}
+use mathlib.Core.Path.{_≡_, refl, _∙_, ap}
 use mathlib.Core.List.{List, [], _∷_}
 use Prim.Native.Nat.{ℕ, zero, suc, _+_, _*_, _-_, _^_, _≤_, _<_}
-use native.Mathlib.Nat.{one-le-pow, zero-lt-suc, le-trans, le-of-suc-le-suc}
+use native.Mathlib.Nat.{one-le-pow, zero-lt-suc, le-trans}
 use native.Mathlib.Omega.{arith}
 use lib.Dec.{lit≤}
 use lib.IntN.{ℤ, pos, negℤ, natAbs, _-ℤ_, _*ℤ_, pow}
 use lib.Signed.{_≤ℤ_, _<ℤ_, ltZ-yes}
-use Rattle.setting.specs.Setting.{Setting, HasRows, standard, breakPoints}
+use Rattle.setting.specs.Setting.{Setting, HasRows}
 use Rattle.integers.proofs.Ring.{ring, sides}
-use Rattle.integers.proofs.Order.{pow-positive, times-positive, balance, natural, gap, le-by, pos-lt, *ℤ-cancel, ≤ℤ-trans, _+₀_, _×₀_}
+use Rattle.integers.proofs.Order.{pow-positive, times-positive, balance, natural, gap, le-by, pos-le, pos-lt, *ℤ-cancel, ≤ℤ-trans, _+₀_, _×₀_}
 use Rattle.integers.proofs.Size.{abs-within}
 use Rattle.curve_bernstein.specs.Value.{value}
 use Rattle.curve_halves.specs.Sizes.{Each}
 use Rattle.curve_nodes.specs.Bounds.{Sized}
 use Rattle.curve_nodes.specs.declared.Curve.{Curve}
 use Rattle.bound_node.specs.declared.node_boxes.WideBox.{WideBox}
-use Rattle.bound_node.specs.declared.node_boxes.NodeBoxes.{NodeBoxes}
-use Rattle.bound_rows.specs.Rows.{Row, pieces}
+use Rattle.bound_rows.specs.Rows.{Row}
+use Rattle.bound_rows.specs.Rule.{gapOf}
 use Rattle.bound_enclosure.specs.Bounds.{high, low}
 use Rattle.bound_enclosure.specs.AtDepth.{highOf, lowOf}
-use Rattle.bound_node.specs.Inside.{boxesOf, boxIn, SmallBox}
-use Rattle.bound_node.specs.Boxes.{boxAt, narrow}
-use Rattle.bound_node.proofs.Boxes.{box-in}
+use Rattle.bound_node.specs.Boxes.{boxAt}
 use Rattle.bound_rows.specs.Joined.{Place}
-use Rattle.bound_rows.proofs.Rule.{pieces-have-rows}
+use Rattle.bound_rows.proofs.Rule.{gap-most}
 use Rattle.integers.proofs.RingLaws.{pow-last}
 use Rattle.curve_nodes.proofs.Sizes.{difference-under}
 use Rattle.curve_nodes.proofs.Values.{value-high, value-low}
 use Rattle.bound_enclosure.proofs.Enclosure.{Enclosable, enclosable, encloses}
-use Rattle.bound_enclosure.proofs.Width.{width-most}
+use Rattle.bound_enclosure.proofs.Width.{width-gap}
 
 -- a low that is not above its high, and both at most B in size
 pub record Sound (B : ℕ) (l h : ℤ) : Type 0 where
@@ -119,48 +116,31 @@ pub low-high : (σ : Setting) → HasRows (σ .pieces) → (d depth : ℕ) (cs :
 low-high σ rows d depth cs least most =
     order (enclosable (σ .pieces) d rows least most) (rows .least) (2 ^ (d * depth)) (one-le-pow (d * depth) 2 (zero-lt-suc 1)) cs
 
--- ---- three pieces: control values are within 2^20 of a unit, so second differences are within 2^22, and a width within 2^23 sixteenths
-module _ (d depth : ℕ) (cs : List ℤ) (least : 1 ≤ d) (most : d ≤ 3) (each : Each (2 ^ 20 * 2 ^ (d * depth)) cs) where
-  pub width-under : (i : ℕ) → i ≤ pieces → (highOf standard d depth cs i -ℤ lowOf standard d depth cs i) ≤ℤ pos (2 ^ 23)
-  width-under i hi = *ℤ-cancel {k = pos 125} (ltZ-yes tt) (le-by (highOf standard d depth cs i ∷ lowOf standard d depth cs i ∷ [])
-      (gap (width-most d depth (2 ^ 22) cs least most (λ k h. omega (arith, difference-under each k)) i hi) +₀ natural 301989638)
+-- ---- control values are within 2^20 of a unit, so second differences are within 2^22, and a width within 2^26 sixteenths
+module _ (σ : Setting) (rows : HasRows (σ .pieces)) (d depth : ℕ) (cs : List ℤ) (least : 1 ≤ d) (most : d ≤ 3)
+    (each : Each (2 ^ 20 * 2 ^ (d * depth)) cs) where
+  pub width-under : (i : ℕ) → i ≤ σ .pieces → (highOf σ d depth cs i -ℤ lowOf σ d depth cs i) ≤ℤ pos (2 ^ 26)
+  width-under i hi = *ℤ-cancel {k = pos 10000} (ltZ-yes tt) (le-by (pos (gapOf (σ .pieces) d) ∷ highOf σ d depth cs i ∷ lowOf σ d depth cs i ∷ [])
+      (gap (width-gap σ rows d depth 1 (2 ^ 22) cs most (λ k h. omega (arith, difference-under each k)) i hi)
+      +₀ natural 67108864 ×₀ gap (pos-le (gap-most (σ .pieces) d rows most)) +₀ natural 167772140000)
       (search sides depth 20) refl)
 
-  pub bounds-sound : (i : ℕ) → i ≤ pieces → Sound (2 ^ 24 + 2 ^ 23) (lowOf standard d depth cs i) (highOf standard d depth cs i)
-  bounds-sound i hi = sound (enclosable pieces d pieces-have-rows least most) (zero-lt-suc 2)
-      (2 ^ (d * depth)) (one-le-pow (d * depth) 2 (zero-lt-suc 1)) cs i hi (2 ^ 20) (2 ^ 23) each (width-under i hi)
+  pub bounds-sound : (i : ℕ) → i ≤ σ .pieces → Sound (2 ^ 28) (lowOf σ d depth cs i) (highOf σ d depth cs i)
+  bounds-sound i hi = wider (sound (enclosable (σ .pieces) d rows least most) (rows .least)
+      (2 ^ (d * depth)) (one-le-pow (d * depth) 2 (zero-lt-suc 1)) cs i hi (2 ^ 20) (2 ^ 26) each (width-under i hi))
+    where
+      wider : {l h : ℤ} → Sound (2 ^ 24 + 2 ^ 26) l h → Sound (2 ^ 28) l h
+      wider s = record { order = s .order; low-size = le-trans (s .low-size) (lit≤ tt); high-size = le-trans (s .high-size) (lit≤ tt) }
 
 -- a box of a node
 pub record SoundBox (B : ℕ) (b : WideBox) : Type 0 where
   pub x : Sound B (b .«x_low») (b .«x_high»)
   pub y : Sound B (b .«y_low») (b .«y_high»)
 
-pub node-box : (depth : ℕ) (c : Curve) → Sized depth c → (i : ℕ) → i ≤ pieces → SoundBox (2 ^ 24 + 2 ^ 23) (boxAt standard depth c i)
+pub node-box : (σ : Setting) → HasRows (σ .pieces) → (depth : ℕ) (c : Curve) → Sized depth c → (i : ℕ) → i ≤ σ .pieces
+    → SoundBox (2 ^ 28) (boxAt σ depth c i)
 unfolding boxAt
-node-box depth c s i hi = record {
-  x = bounds-sound (c .degree) depth (c .x) (s .least) (s .most) (s .x) i hi;
-  y = bounds-sound (c .degree) depth (c .y) (s .least) (s .most) (s .y) i hi;
+node-box σ rows depth c s i hi = record {
+  x = bounds-sound σ rows (c .degree) depth (c .x) (s .least) (s .most) (s .x) i hi;
+  y = bounds-sound σ rows (c .degree) depth (c .y) (s .least) (s .most) (s .y) i hi;
 }
-
--- ---- as the code holds its boxes
-module _ (depth : ℕ) (c : Curve) {bs : NodeBoxes} (e : bs ≡ boxesOf standard depth c)
-    (i : ℕ) (h : i < breakPoints standard) {b : WideBox} (f : b ≡ boxIn bs i) where
-  box-is : b ≡ boxAt standard depth c i
-  box-is = f ∙ ap (λ w. boxIn w i) e ∙ box-in standard depth c i h
-
-  pub box-small : Sized depth c → SmallBox (2 ^ 25) b
-  box-small s =
-      let n = node-box depth c s i (le-of-suc-le-suc h) in
-      rw box-is (record {
-        x-low = small (n .x .low-size);
-        x-high = small (n .x .high-size);
-        y-low = small (n .y .low-size);
-        y-high = small (n .y .high-size);
-      })
-    where
-      small : {m : ℕ} → m ≤ 2 ^ 24 + 2 ^ 23 → m ≤ 2 ^ 25
-      small l = le-trans l (lit≤ tt)
-
-  -- what a test of the box says
-  pub box-tested : (T : ℤ) {t : ℤ} {r v : Bool} → t ≡ T → r ≡ narrow t b → r ≡ v → narrow T (boxAt standard depth c i) ≡ v
-  box-tested T g p q = sym (p ∙ ap₂ narrow g box-is) ∙ q

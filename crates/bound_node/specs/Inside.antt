@@ -1,44 +1,22 @@
 -- Only the contracts of functions inside cite what stands here; nothing of it is part of a public promise.
+use mathlib.Core.Path.{_≡_}
+use mathlib.Core.Bool.{Bool, true, cond}
 use mathlib.Core.List.{List, [], _∷_}
-use Prim.Native.Nat.{ℕ, suc, _+_, _-_, _*_, _/_, _^_, _≤_}
-use lib.IntN.{ℤ, pos, natAbs, _-ℤ_}
-use Rattle.setting.specs.Setting.{Setting, standard, breakPoints}
+use Prim.Native.Nat.{ℕ, zero, suc, _+_, _-_, _*_, _/_, _^_, _≤_}
+use lib.Dec.{eqb, ltb}
+use lib.IntN.{ℤ, natAbs, _+ℤ_, _-ℤ_}
+use Rattle.setting.specs.Setting.{HasRows}
 use Rattle.integers.specs.Entry.{entry}
-use Rattle.curve_halves.specs.Halves.{listed}
-use Rattle.curve_halves.specs.Sizes.{Each}
-use Rattle.curve_nodes.specs.declared.Curve.{Curve}
+use Rattle.integers.specs.Squares.{squared}
 use Rattle.curve_nodes.specs.Differences.{difference}
-use Rattle.bound_rows.specs.Rows.{Row}
+use Rattle.bound_rows.specs.Rows.{Row, rowAt}
 use Rattle.bound_rows.specs.Table.{rowsOf}
-use Rattle.bound_enclosure.specs.AtDepth.{lowOf, highOf}
-use Rattle.bound_coordinate.specs.Inside.{Computed}
+use Rattle.bound_rows.specs.Rule.{gapOf}
+use Rattle.bound_rows.specs.Inside.{Copied}
+use Rattle.bound_coordinate.specs.declared.terms.Terms.{Terms}
+use Rattle.bound_coordinate.specs.Terms.{lowBy, highBy}
+use Rattle.bound_node.specs.declared.pieces.Pieces.{Pieces}
 use Rattle.bound_node.specs.declared.node_boxes.WideBox.{WideBox}
-use Rattle.bound_node.specs.declared.node_boxes.NodeBoxes.{NodeBoxes}
-
--- ---- the boxes of a node, as code holds them
--- the boxes at all break points, and one of them
-unfoldable pub boxesOf : Setting → ℕ → Curve → NodeBoxes
-boxesOf σ k c = record {
-  «x_low» = listed (breakPoints σ) (lowOf σ (c .degree) k (c .x));
-  «x_high» = listed (breakPoints σ) (highOf σ (c .degree) k (c .x));
-  «y_low» = listed (breakPoints σ) (lowOf σ (c .degree) k (c .y));
-  «y_high» = listed (breakPoints σ) (highOf σ (c .degree) k (c .y));
-}
-
-unfoldable pub boxIn : NodeBoxes → ℕ → WideBox
-boxIn b i = record {
-  «x_low» = entry (b .«x_low») i;
-  «x_high» = entry (b .«x_high») i;
-  «y_low» = entry (b .«y_low») i;
-  «y_high» = entry (b .«y_high») i;
-}
-
--- every number of the boxes is at most B in size
-pub record SmallBoxes (B : ℕ) (b : NodeBoxes) : Type 0 where
-  pub x-low : Each B (b .«x_low»)
-  pub x-high : Each B (b .«x_high»)
-  pub y-low : Each B (b .«y_low»)
-  pub y-high : Each B (b .«y_high»)
 
 -- every number of a box is at most B in size
 pub record SmallBox (B : ℕ) (b : WideBox) : Type 0 where
@@ -48,21 +26,84 @@ pub record SmallBox (B : ℕ) (b : WideBox) : Type 0 where
   pub y-high : natAbs (b .«y_high») ≤ B
 
 -- ---- the quick test of a node: how far apart its lows and highs are before rounding
--- the gap of the rows at break point i times the size of the difference, summed over the differences from place k on
-unfoldable pub spreadSum : List Row → ℕ → ℕ → List ℤ → ℕ
-spreadSum [] i k cs = 0
-spreadSum (ρ ∷ ρs) i k cs =
-    natAbs (entry (ρ .high) i -ℤ entry (ρ .low) i) * natAbs (difference cs k) + spreadSum ρs i (suc k) cs
+-- the gaps of the rows at break point i, high less low, one for each second difference
+abbrev pub gapsAt : List Row → ℕ → List ℕ
+gapsAt [] i = []
+gapsAt (ρ ∷ ρs) i = natAbs (entry (ρ .high) i -ℤ entry (ρ .low) i) ∷ gapsAt ρs i
+
+-- gaps times the sizes of the differences from place k on, summed
+unfoldable pub gapsSum : List ℕ → ℕ → List ℤ → ℕ
+gapsSum [] k cs = 0
+gapsSum (g ∷ gs) k cs = g * natAbs (difference cs k) + gapsSum gs (suc k) cs
 
 -- n / q rounded up
 abbrev pub up : ℕ → ℕ → ℕ
 up n q = (n + (q - 1)) / q
 
--- the same in sixteenths, rounded up, for values of degree d at depth k: the width at a break point is this or one more
-unfoldable pub spread : Setting → (d k : ℕ) → List ℤ → ℕ → ℕ
-spread σ d k cs i = up (spreadSum (rowsOf (σ .pieces) d) i 0 cs) (625 * 2 ^ (d * k))
+-- a sum in sixteenths, rounded up, for values over 2^s; with the gaps of a break point, its width is this or one more
+unfoldable pub spreadOf : (n s : ℕ) → ℕ
+spreadOf n s = up n (625 * 2 ^ s)
 
--- rs are the spreads at the inner break points, 1 and 2
-pub record Spreads (d k : ℕ) (cs rs : List ℤ) : Type 0 where
-  pub first : Computed (2 ^ 61) (pos (spread standard d k cs 1)) (entry rs 0)
-  pub second : Computed (2 ^ 61) (pos (spread standard d k cs 2)) (entry rs 1)
+-- ---- m pieces: two corners in place of the gaps of all break points, none of which is wider than both corners are
+-- the gap of row k of degree d at break point i
+abbrev pub gapAt : (m d k i : ℕ) → ℕ
+gapAt m d k i = natAbs (entry (rowAt (rowsOf m d) k .high) i -ℤ entry (rowAt (rowsOf m d) k .low) i)
+
+-- the break point, 0 or 1, that has the larger first gap of degree 3
+abbrev pub widestAt : ℕ → ℕ
+widestAt m = cond (ltb (gapAt m 3 0 0) (gapAt m 3 0 1)) 1 0
+
+-- A, the largest gap of degree 3 at any break point, and what G has more
+unfoldable pub nearGap : ℕ → ℕ
+nearGap m = gapAt m 3 0 (widestAt m)
+
+unfoldable pub farGap : ℕ → ℕ
+farGap m = gapOf m 3 - nearGap m
+
+-- the gaps of degree d at a corner: a and b at degree 3, G at degree 2, none at degree 1
+unfoldable pub cornerOf : (m a b d : ℕ) → List ℕ
+cornerOf m a b zero = []
+cornerOf m a b (suc zero) = []
+cornerOf m a b (suc (suc zero)) = gapOf m 2 ∷ []
+cornerOf m a b (suc (suc (suc d))) = a ∷ b ∷ []
+
+-- (A, G − A), and the same from the other end, (G − A, A)
+abbrev pub nearCorner : (m d : ℕ) → List ℕ
+nearCorner m d = cornerOf m (nearGap m) (farGap m) d
+
+abbrev pub farCorner : (m d : ℕ) → List ℕ
+farCorner m d = cornerOf m (farGap m) (nearGap m) d
+
+-- the sums of the near and the far corner
+abbrev pub sumsOf : (m d : ℕ) → List ℤ → List ℕ
+sumsOf m d cs = gapsSum (nearCorner m d) 0 cs ∷ gapsSum (farCorner m d) 0 cs ∷ []
+
+-- the gaps of the corners are those of break points
+unfoldable pub exactOf : (m d : ℕ) → Bool
+exactOf m d = cond (ltb d 3) true (eqb (gapAt m 3 1 (widestAt m)) (farGap m))
+
+-- what goes with the number of pieces: near and other are the gaps of degree 3 at the break point where the first is
+-- the largest, both is G
+unfoldable pub piecesBy : (m single near other both : ℕ) → Pieces
+piecesBy m single near other both = record {
+  «m» = m;
+  «scale» = 840 / m;
+  «single» = single;
+  «near» = near;
+  «far» = both - near;
+  «exact» = eqb other (both - near);
+}
+
+unfoldable pub piecesOf : ℕ → Pieces
+piecesOf m = piecesBy m (gapOf m 2) (nearGap m) (gapAt m 3 1 (widestAt m)) (gapOf m 3)
+
+-- what goes with m pieces, and their rows, copied out of the table
+pub record Ready (p : Pieces) (rows : List ℤ) : Type 0 where
+  pub has : HasRows (p .m)
+  pub is : p ≡ piecesOf (p .m)
+  pub copied : Copied (p .m) rows
+
+-- the square of a box's diagonal at break point i, from the terms of both coordinates
+abbrev pub acrossBy : (m s : ℕ) → List ℤ → (x y : Terms) → ℕ → ℤ
+acrossBy m s rows x y i =
+    squared (highBy m s rows x i -ℤ lowBy m s rows x i) +ℤ squared (highBy m s rows y i -ℤ lowBy m s rows y i)

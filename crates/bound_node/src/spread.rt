@@ -1,10 +1,12 @@
-// How far apart the low and the high of a coordinate are before rounding, at its inner break points.
+// How far apart the low and the high of a coordinate are before rounding, by the gaps of the corners, and rounded up.
 ghost use mathlib.Core.Path.{_≡_};
 ghost use Prim.Native.Nat.{_≤_, _^_, _*_, _-_};
 ghost use lib.IntN.{pos, natAbs};
+ghost use Rattle.setting.specs.Setting.{HasRows};
 ghost use Rattle.bound_coordinate.specs.Inside.{Boundable, Small, Computed};
-ghost use Rattle.bound_node.specs.Inside.{up, Spreads};
-use bound_coordinate::row_sums::difference_at;
+ghost use Rattle.bound_node.specs.Inside.{spreadOf, piecesOf, sumsOf};
+use crate::pieces::Pieces;
+use bound_coordinate::terms::difference_at;
 
 // The size of a second difference.
 fn size(difference: i64) -> u64
@@ -19,34 +21,32 @@ fn size(difference: i64) -> u64
 }
 
 // The fraction of a sum over 625 times a power of 2, rounded up: one less than the denominator is added.
-fn whole(sum: u64, more: u64, shift: u32) -> i64
-    requires { ⌜ (sum ≤ 2 ^ 60) × (more ≡ 625 * 2 ^ shift - 1) × (shift ≤ 24) ⌝ }
-    ensures { λ r. ⌜ Computed (2 ^ 61) (pos (up sum (625 * 2 ^ shift))) r ⌝ }
+pub fn whole(sum: u64, more: u64, shift: u32) -> i64
+    requires { ⌜ (sum ≤ 2 ^ 36 * 2 ^ shift) × (more ≡ 625 * 2 ^ shift - 1) × (shift ≤ 24) ⌝ }
+    ensures { λ r. ⌜ Computed (2 ^ 27) (pos (spreadOf sum shift)) r ⌝ }
 {
     (((sum + more) >> shift) / 625) as i64
 }
 
-// The spread of one coordinate at break points 1 and 2: the gaps of its rows there times the sizes of its second
-// differences, in sixteenths rounded up.
-pub fn spread(c: [i64; 4], degree: u32, depth: u32) -> [i64; 2]
-    requires { ⌜ (Boundable c degree) × (depth ≤ 8) ⌝ }
-    ensures { λ r. ⌜ Spreads degree depth c r ⌝ }
+// The sums of one coordinate at the two corners: gaps times the sizes of its second differences. At degree 2 they are
+// the same.
+pub fn sums(pieces: Pieces, c: [i64; 4], degree: u32) -> [u64; 2]
+    requires { ⌜ (HasRows (pieces .m)) × (pieces ≡ piecesOf (pieces .m)) × (Boundable c degree) ⌝ }
+    ensures { λ r. ⌜ r ≡ sumsOf (pieces .m) degree c ⌝ }
 {
-    let shift = degree * depth;
-    let more = (625u64 << shift) - 1;
     match degree {
         1 => [0, 0],
         2 => {
-            let both = whole(278 * size(difference_at(c, 0)), more, shift);
+            let single = pieces.single;
+            let both = single * size(difference_at(c, 0));
             [both, both]
         }
         _ => {
+            let near = pieces.near;
+            let far = pieces.far;
             let a = size(difference_at(c, 0));
             let b = size(difference_at(c, 1));
-            [
-                whole(697 * a + 193 * b, more, shift),
-                whole(193 * a + 697 * b, more, shift),
-            ]
+            [near * a + far * b, far * a + near * b]
         }
     }
 }

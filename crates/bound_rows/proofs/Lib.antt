@@ -9,3 +9,5 @@ pub mod Places
 pub mod Tabled
 pub mod Claim
 pub mod Rule
+pub mod Entries
+pub mod Copying

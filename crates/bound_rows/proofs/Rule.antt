@@ -4,7 +4,7 @@ use mathlib.Core.Bool.{Bool, _&&_}
 use mathlib.Core.List.{List, []}
 use Prim.Native.Nat.{ℕ, zero, suc, _+_, _*_, _-_, _≤_, _<_, suc-le-suc}
 use native.Mathlib.Omega.{arith}
-use lib.Dec.{T, lit≤}
+use lib.Dec.{T, leb, leb→le, lit≤}
 use lib.ListN.{length}
 use lib.IntN.{ℤ, pos, _-ℤ_, pow, one}
 use lib.Signed.{leZ, leZ-yes}
@@ -107,6 +107,16 @@ module _ (m d : ℕ) (h : HasRows m) (most : d ≤ 3) where
       low = λ i hi. leZ-yes (and-right (highFine m d k ρ i) (lowFine m d k ρ i) (entry-fine i hi));
       under = λ i a b p r hi w. row-below m d (rowsOf m d) (omega (arith, hk)) rows-tested inside hi w;
     }
+
+-- ---- G is 7500 for one piece of degree 3, and nowhere more
+gaps-tested : T (every-below 8 (λ n. every-below 4 (λ d. leb (gapOf (suc n) d) 7500)))
+unfolding table rowsOf gapOf largestOf
+gaps-tested = tt
+
+pub gap-most : (m d : ℕ) → HasRows m → d ≤ 3 → gapOf m d ≤ 7500
+gap-most zero d h l = absurd (omega (arith, h .least))
+gap-most (suc n) d h l = leb→le (gapOf (suc n) d) 7500 (below 4 (λ d. leb (gapOf (suc n) d) 7500)
+    (below 8 (λ n. every-below 4 (λ d. leb (gapOf (suc n) d) 7500)) gaps-tested n (h .most)) d (suc-le-suc l))
 
 -- ---- three pieces
 pub pieces-have-rows : HasRows pieces

@@ -74,11 +74,14 @@ startOf m d = (d - 1) * (44 * (d - 2) + (m - 1) * (m + 2))
 abbrev pub entriesAt : (at n : ℕ) → List ℤ
 entriesAt at n = take n (drop at table)
 
--- the rows of n second differences from a place on
+-- the rows of one second difference from a place on, the high before the low
+abbrev pub rowFrom : (m at : ℕ) → Row
+rowFrom m at = record { high = entriesAt at (m + 1); low = entriesAt (at + (m + 1)) (m + 1) }
+
+-- those of n second differences
 abbrev pub rowsAt : (m at n : ℕ) → List Row
 rowsAt m at zero = []
-rowsAt m at (suc n) =
-    record { high = entriesAt at (m + 1); low = entriesAt (at + (m + 1)) (m + 1) } ∷ rowsAt m (at + 2 * (m + 1)) n
+rowsAt m at (suc n) = rowFrom m at ∷ rowsAt m (at + 2 * (m + 1)) n
 
 -- the rows of degree d for m pieces: one for each second difference, in their order
 unfoldable pub rowsOf : (m d : ℕ) → List Row

@@ -1,5 +1,6 @@
 -- Records of any length L, one after the other: where one begins, at which place of its record an index stands, and in which record.
 use mathlib.Core.Path.{_≡_, _∙_, ap}
+use mathlib.Core.Logic.{⊎-elim}
 use Prim.Native.Nat.{ℕ, zero, suc, _+_, _*_, _/_, _%_, _≤_, _<_}
 use native.Mathlib.Nat.{
   add-zero,
@@ -18,10 +19,11 @@ use native.Mathlib.Nat.{
   lt-of-mul-lt-mul-left,
 }
 use native.Mathlib.Omega.{arith}
+use Rattle.integers.proofs.Order.{lt-or-ge}
 
 module _ (L : ℕ) where
   -- ---- n numbers are whole records
-  whole-is : (n : ℕ) → n % L ≡ 0 → n ≡ L * (n / L)
+  pub whole-is : (n : ℕ) → n % L ≡ 0 → n ≡ L * (n / L)
   whole-is n e = omega (arith, div-add-mod n L)
 
   -- where whole records are left, there is one more
@@ -34,6 +36,15 @@ module _ (L : ℕ) where
 
   pub record-next : (at : ℕ) → at % L ≡ 0 → (at + L) % L ≡ 0
   record-next at e = add-mod-right at L ∙ e
+
+  -- no record begins between a whole one and the next
+  pub one-record : {at : ℕ} (k : ℕ) → at % L ≡ 0 → at ≤ L * k → L * k < at + L → L * k ≡ at
+  one-record {at} k e h l =
+      let a = whole-is at e in
+      ⊎-elim
+      (λ q. absurd (omega (arith, mul-le-mul-left {m = suc (at / L)} {n = k} L q)))
+      (λ q. omega (arith, mul-le-mul-left {m = k} {n = at / L} L q))
+      (lt-or-ge (at / L) k)
 
   -- record k begins among n numbers exactly where it is one of their records
   pub begins-among : (k n : ℕ) → 0 < L → n % L ≡ 0 → k < n / L → L * k < n

@@ -3,7 +3,7 @@ use mathlib.Core.Path.{_≡_}
 use mathlib.Core.List.{List}
 use Prim.Native.Nat.{ℕ}
 use lib.IntN.{ℤ}
-use Rattle.setting.specs.Setting.{standard}
+use Rattle.setting.specs.Setting.{Setting}
 use Rattle.refusals.specs.Refusals.{numberOf, spotOf}
 use Rattle.judge.specs.declared.judging.Judgement.{Judgement}
 use Rattle.judge.specs.Judging.{Judged}
@@ -34,13 +34,14 @@ outcomeAnswerOf (Refused r) =
 outcomeAnswerOf (WithJudgement curves leaves nodes j) = besideReport curves leaves nodes (judgingAnswerOf j)
 
 -- the numbers are those of an answer that judging may give
-pub record JudgedInNumbers (ns : List ℤ) (x y : ℤ) (numbers : JudgingAnswer) : Type 0 where
+pub record JudgedInNumbers (σ : Setting) (ns : List ℤ) (x y : ℤ) (numbers : JudgingAnswer) : Type 0 where
   pub judgement : Judgement
-  pub judged : Judged standard ns x y judgement
+  pub judged : Judged σ ns x y judgement
   pub are : numbers ≡ judgingAnswerOf judgement
 
 -- and those of an outcome that banding and judging together may give
-pub record AnsweredInNumbers (T : ℤ) (ns : List ℤ) (x y : ℤ) (old : List ℤ) (numbers : OutcomeAnswer) : Type 0 where
+pub record AnsweredInNumbers (σ : Setting) (T : ℤ) (ns : List ℤ) (x y : ℤ) (old : List ℤ) (numbers : OutcomeAnswer)
+    : Type 0 where
   pub outcome : Outcome
-  pub answered : Answered standard T ns x y old outcome
+  pub answered : Answered σ T ns x y old outcome
   pub are : numbers ≡ outcomeAnswerOf outcome

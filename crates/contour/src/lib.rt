@@ -1,7 +1,7 @@
 // The C interface: what a program in another language calls. include/contour_band.h says the same for C.
 ghost use mathlib.Core.Path.{_≡_};
 ghost use lib.ListN.{length};
-ghost use Rattle.setting.specs.Setting.{standard};
+ghost use Rattle.setting.specs.Setting.{lists};
 ghost use Rattle.band.specs.Banding.{banded, written};
 ghost use Rattle.draw.specs.Drawing.{drawn, drawnInto};
 ghost use Rattle.contour.specs.Numbers.{bandAnswerOf};
@@ -20,23 +20,30 @@ use engine::band_and_judge;
 
 pub mod c_answers;
 
-// Puts a band round an outline at a tolerance in sixteenths, and writes the leaves' records to the front of the list.
+// Puts a band of m pieces a leaf round an outline at a tolerance in sixteenths, and writes the leaves' records to the
+// front of the list.
 #[no_mangle]
-pub extern "C" fn contour_band(outline: &[i32], tolerance: i32, records: &mut [i32]) -> Answer
+pub extern "C" fn contour_band(
+    outline: &[i32],
+    tolerance: i32,
+    m: u32,
+    records: &mut [i32],
+) -> Answer
     ensures { λ r. ⌜ r
-        ≡ bandAnswerOf (banded standard tolerance (now (outline .entry)) (length (now (records .entry)))) ⌝ }
-    ensures { λ r. ⌜ now (records .exit) ≡ written standard tolerance (now (outline .entry)) (now (records .entry)) ⌝ }
+        ≡ bandAnswerOf (banded (lists m) tolerance (now (outline .entry)) (length (now (records .entry)))) ⌝ }
+    ensures { λ r. ⌜ now (records .exit)
+        ≡ written (lists m) tolerance (now (outline .entry)) (now (records .entry)) ⌝ }
 {
-    let banded = band::band(outline, tolerance, records);
+    let banded = band::band(outline, tolerance, m, records);
     in_numbers(banded)
 }
 
-// Judges the point (x, y), in sixteenths, against a list of leaf records.
+// Judges the point (x, y), in sixteenths, against a list of leaf records of m pieces.
 #[no_mangle]
-pub extern "C" fn contour_judge(leaves: &[i32], x: i32, y: i32) -> JudgingAnswer
-    ensures { λ r. ⌜ JudgedInNumbers (now (leaves .entry)) x y r ⌝ }
+pub extern "C" fn contour_judge(leaves: &[i32], m: u32, x: i32, y: i32) -> JudgingAnswer
+    ensures { λ r. ⌜ JudgedInNumbers (lists m) (now (leaves .entry)) x y r ⌝ }
 {
-    let judgement = judge::judge(leaves, x, y);
+    let judgement = judge::judge(leaves, m, x, y);
     judgement_in_numbers(judgement)
 }
 
@@ -54,20 +61,22 @@ pub struct OutcomeAnswer {
     pub cover: u64,
 }
 
-// Bands an outline, and judges the point (x, y) against exactly the records written. A refusal alters nothing.
+// Bands an outline with m pieces a leaf, and judges the point (x, y) against exactly the records written. A refusal
+// alters nothing.
 #[no_mangle]
 pub extern "C" fn contour_band_and_judge(
     outline: &[i32],
     tolerance: i32,
+    m: u32,
     records: &mut [i32],
     x: i32,
     y: i32,
 ) -> OutcomeAnswer
     ensures { λ r. ⌜ now (records .exit)
-        ≡ writtenFor standard tolerance (now (outline .entry)) x y (now (records .entry)) ⌝ }
-    ensures { λ r. ⌜ AnsweredInNumbers tolerance (now (outline .entry)) x y (now (records .entry)) r ⌝ }
+        ≡ writtenFor (lists m) tolerance (now (outline .entry)) x y (now (records .entry)) ⌝ }
+    ensures { λ r. ⌜ AnsweredInNumbers (lists m) tolerance (now (outline .entry)) x y (now (records .entry)) r ⌝ }
 {
-    let outcome = band_and_judge(outline, tolerance, records, x, y);
+    let outcome = band_and_judge(outline, tolerance, m, records, x, y);
     outcome_in_numbers(outcome)
 }
 

@@ -1,10 +1,8 @@
-// One coordinate of a curve of degree 1 to 3: halved, and carried on past its end.
+// One coordinate of a curve of degree 1 to 3, halved.
 ghost use mathlib.Core.Path.{_≡_};
 ghost use Prim.Native.Nat.{_^_, _≤_};
 ghost use Rattle.curve_halves.specs.Halves.{left, right, reversed, padded};
 ghost use Rattle.curve_halves.specs.Sizes.{Each};
-
-pub mod onward;
 
 // One coordinate of the left half.
 pub fn left_values(degree: u32, c: [i64; 4]) -> [i64; 4]

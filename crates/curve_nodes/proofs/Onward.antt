@@ -11,8 +11,8 @@ use lib.IntN.{ℤ, pos, _*ℤ_, pow}
 use Rattle.integers.specs.Entry.{entry}
 use Rattle.curve_halves.specs.Halves.{triangle, right, padded}
 use Rattle.curve_halves.proofs.Values.{listed-entry, listed-ext}
-use Rattle.curve_halves.specs.Inside.{onwardAt, onward}
-use Rattle.curve_halves.proofs.OnwardLaws.{Follows, onward-is}
+use Rattle.curve_onward.specs.Onward.{onwardAt, onward}
+use Rattle.curve_onward.proofs.Onward.{Follows, onward-is}
 use Rattle.curve_nodes.specs.declared.Curve.{Curve}
 use Rattle.curve_nodes.specs.Inside.{onwardOf}
 use Rattle.curve_nodes.specs.Nodes.{nodeCurve, start, after}

@@ -2,7 +2,7 @@
 use Prim.Native.Nat.{ℕ, _^_, _≤_}
 use Rattle.curve_halves.specs.Halves.{padded}
 use Rattle.curve_halves.specs.Sizes.{Each}
-use Rattle.curve_halves.specs.Inside.{onward}
+use Rattle.curve_onward.specs.Onward.{onward}
 use Rattle.curve_nodes.specs.declared.Curve.{Curve}
 
 -- a curve that 64 bits have room to halve

@@ -7,8 +7,8 @@ ghost use Rattle.curve_nodes.specs.Inside.{onwardOf, Halvable};
 ghost use Rattle.curve_nodes.specs.Halves.{leftHalf, rightHalf};
 ghost use Rattle.curve_nodes.specs.Bounds.{Sized};
 use curve_halves::left_values;
-use curve_halves::onward::onward_values;
 use curve_halves::right_values;
+use curve_onward::onward_values;
 
 // A curve (document 01): its degree and four control values a coordinate, those past the degree being zero. At depth k
 // of halving the values are the exact ones times 2^(degree * k).
@@ -64,7 +64,7 @@ pub fn depth(node: u32) -> u32
     requires { ⌜ 0 < node ⌝ }
     ensures { λ r. ⌜ r ≡ depth node ⌝ }
 {
-    31 - u32::leading_zeros(node)
+    u32::leading_zeros(node) ^ 31
 }
 
 // The node after a leaf; 1 after the curve's last.

@@ -23,7 +23,9 @@ use Rattle.curve_nodes.specs.Points.{Equals, Near}
 use Rattle.curve_nodes.specs.Differences.{largestOf, bend, largest}
 use Rattle.curve_nodes.proofs.Points.{within-near}
 use Rattle.curve_nodes.proofs.Values.{value-high, value-low}
-use Rattle.setting.specs.Setting.{Setting, standard, recordLength}
+use Rattle.setting.specs.Setting.{Setting, lists, standard, recordLength}
+use Rattle.bound_rows.specs.Table.{table, rowsOf}
+use Rattle.bound_rows.specs.Rule.{gapOf}
 use Rattle.outline.specs.Curves.{curveAt}
 use Rattle.outline.specs.Faults.{faultAt}
 use Rattle.outline.specs.Checks.{curves, outlineFrom, outlined}
@@ -106,14 +108,13 @@ somewhere-in-reach T cs sized x y nonneg s =
     )
 
 -- ---- an outline that is banded, and whatever judging answers to its leaves
-module _ (σ : Setting) (T : ℤ) (ns old : List ℤ) (a b c : ℕ) (done : banded σ T ns (length old) ≡ Done a b c)
-    (three : σ .pieces ≡ 3) where
+module _ (σ : Setting) (T : ℤ) (ns old : List ℤ) (a b c : ℕ) (done : banded σ T ns (length old) ≡ Done a b c) where
   abbrev leaves : List ℤ
   leaves = take (recordLength σ * b) (written σ T ns old)
 
   module _ (x y : ℤ) (answer : Judgement) (judged : JudgedSo σ leaves x y answer) where
     claim : OutlineDemand3 σ T ns leaves x y answer
-    claim = demand-3 σ three T ns old a b c done x y answer judged
+    claim = demand-3 σ T ns old a b c done x y answer judged
 
     -- a point beyond the reach is never judged on
     pub on-in-reach : IsOn answer → Reach T x × Reach T y
@@ -126,7 +127,7 @@ module _ (σ : Setting) (T : ℤ) (ns old : List ℤ) (a b c : ℕ) (done : band
     -- the node that stands in a leaf's record has depth at most j
     pub leaf-depth : (i : ℕ) → recordLength σ * i < length leaves → (cs : List Curve) → outlined (σ .most) ns ≡ curves cs
         → (k : ℕ) (c : Curve) → CurveOf cs k c → entry leaves (recordLength σ * i) ≡ pos k
-        → (j : ℕ) → Flat T c j → (n : ℕ) → entry leaves (recordLength σ * i + 1) ≡ pos n → depth n ≤ j
+        → (j : ℕ) → Flat σ T c j → (n : ℕ) → entry leaves (recordLength σ * i + 1) ≡ pos n → depth n ≤ j
     leaf-depth i h cs o k c of e j flat n is =
         let s = claim .demand-3 .every-leaf-shallow i h k c (rw (same-curves (claim .are) o) of) e j flat in
         subst (λ m. depth m ≤ j) (natural-is (sym (s .is) ∙ is)) (s .depth-at-most)
@@ -149,17 +150,26 @@ half-way = record { in-x = refl; in-y = refl }
 pub half-way-on : (T : ℤ) (old : List ℤ) (a b c : ℕ) → banded standard T A (length old) ≡ Done a b c
     → (answer : Judgement) → JudgedSo standard (take (recordLength standard * b) (written standard T A old)) (pos 240) (pos 360) answer → IsOn answer
 half-way-on T old a b c done answer judged =
-    let d = claim standard T A old a b c done refl (pos 240) (pos 360) answer judged in
+    let d = claim standard T A old a b c done (pos 240) (pos 360) answer judged in
     d .demand-3 .every-point-on 0 curveA (record { before = []; after = []; split = same-curves (d .are) of-a; number = refl }) 1 1 (lit< tt) half-way
 
--- ---- the premise of the depth claim: y 0, 0, 125 has M = 125, and 2 × (178 × 125 + 250)² = 1,012,500,000 lies between (125 × 254)² and (125 × 255)²
+-- ---- the premise of the depth claim: y 0, 0, 125, 250 has M = 125. With three pieces G is 890, and 2 × (16 × 890 × 125 + 20000)² lies between
+-- (10000 × 254)² and (10000 × 255)²; with eight it is 120, and 2 × (16 × 120 × 125 + 20000)² lies between (10000 × 36)² and (10000 × 37)².
 abbrev bow : Curve
-bow = record { degree = 2; x = pos 0 ∷ pos 0 ∷ pos 0 ∷ pos 0 ∷ []; y = pos 0 ∷ pos 0 ∷ pos 125 ∷ pos 0 ∷ [] }
+bow = record { degree = 3; x = pos 0 ∷ pos 0 ∷ pos 0 ∷ pos 0 ∷ []; y = pos 0 ∷ pos 0 ∷ pos 125 ∷ pos 250 ∷ [] }
 
-pub flat-from-255 : Flat (pos 255) bow 0
-unfolding largest bend largestOf
+pub flat-from-255 : Flat standard (pos 255) bow 0
+unfolding largest bend largestOf gapOf rowsOf table
 flat-from-255 = leZ-yes tt
 
-pub not-flat-at-254 : Flat (pos 254) bow 0 → ⊥
-unfolding largest bend largestOf
+pub not-flat-at-254 : Flat standard (pos 254) bow 0 → ⊥
+unfolding largest bend largestOf gapOf rowsOf table
 not-flat-at-254 f = f .le
+
+pub eighths-flat-from-37 : Flat (lists 8) (pos 37) bow 0
+unfolding largest bend largestOf gapOf rowsOf table
+eighths-flat-from-37 = leZ-yes tt
+
+pub eighths-not-flat-at-36 : Flat (lists 8) (pos 36) bow 0 → ⊥
+unfolding largest bend largestOf gapOf rowsOf table
+eighths-not-flat-at-36 f = f .le

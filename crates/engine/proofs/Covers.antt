@@ -4,7 +4,6 @@ use mathlib.Core.Path.{_≡_, sym, _∙_, ap, subst}
 use mathlib.Core.Bool.{true}
 use mathlib.Core.List.{List}
 use Prim.Native.Nat.{ℕ, suc, _+_, _*_, _^_, _≤_, _<_}
-use native.Mathlib.Nat.{zero-lt-suc}
 use native.Mathlib.Omega.{arith}
 use lib.IntN.{ℤ}
 use Rattle.integers.specs.Entry.{entry}
@@ -14,7 +13,6 @@ use Rattle.curve_nodes.specs.Bounds.{Sized}
 use Rattle.curve_nodes.specs.Nodes.{depth, start, nodeCurve}
 use Rattle.curve_nodes.specs.Points.{Equals, Within}
 use Rattle.curve_nodes.proofs.Coordinates.{nodeValues, node-curve}
-use Rattle.bound_rows.specs.Rows.{pieces}
 use Rattle.bound_enclosure.specs.AtDepth.{lowOf, highOf}
 use Rattle.bound_node.specs.Boxes.{boxAt}
 use Rattle.bound_rows.proofs.Places.{located}
@@ -22,7 +20,7 @@ use Rattle.bound_node.proofs.Narrow.{Narrow, meets-narrow}
 use Rattle.walk_tree.specs.Leaves.{Spans}
 use Rattle.walk_curve.specs.Walked.{nodeMeets}
 use Rattle.boxes.specs.declared.Box.{Box}
-use Rattle.setting.specs.Setting.{Setting, standard, recordLength}
+use Rattle.setting.specs.Setting.{Setting, HasRows, covers, recordLength}
 use Rattle.boxes.specs.Records.{boxIndex, boxAtIndex}
 use Rattle.band_records.specs.Records.{boxNumbers, recordOf}
 use Rattle.band_records.proofs.Sound.{record-box}
@@ -31,9 +29,9 @@ use Rattle.judge_cover.specs.Covers.{Holds}
 use Rattle.engine.proofs.Mixtures.{upP, upR, down-sum, point-mixed, mixed-within}
 
 -- one of the covers between these boxes holds the point
-pub record Held (box : ℕ → Box) (x y : ℤ) : Type 0 where
+pub record Held (σ : Setting) (box : ℕ → Box) (x y : ℤ) : Type 0 where
   pub cover : ℕ
-  pub inside : cover < pieces
+  pub inside : cover < covers σ
   pub holds : Holds (box cover) (box (suc cover)) x y
 
 -- the curve of node n, coordinate by coordinate
@@ -73,14 +71,14 @@ module _ (σ : Setting) (c : Curve) (n : ℕ) (hn : 0 < n) {rs : List ℤ} {j : 
       let e3 = number-there 3 (at + 3) (omega arith) (omega arith) in
       rw (e0, e1, e2, e3)
 
-module _ (c : Curve) (s : Sized 0 c) (n : ℕ) (hn : 0 < n) where
+module _ (σ : Setting) (rows : HasRows (σ .pieces)) (c : Curve) (s : Sized 0 c) (n : ℕ) (hn : 0 < n) where
   -- ---- a point of the curve
-  pub point-held : (p r : ℕ) → 0 < p + r → Spans n p r → (x y : ℤ) → Equals c p r x y → Held (nodeBox standard c n) x y
+  pub point-held : (p r : ℕ) → 0 < p + r → Spans n p r → (x y : ℤ) → Equals c p r x y → Held σ (nodeBox σ c n) x y
   point-held p r some within x y equals =
       let P = nonneg-natural (gap (pos-le (within .from))) in
       let to = subst (λ m. 2 ^ depth n * p ≤ m * (p + r)) {x = start n + 1} {y = suc (start n)} (omega arith) (within .to) in
       let R = nonneg-natural (gap (pos-le to)) in
-      let l = located pieces (P .0) (R .0) (zero-lt-suc 2) in
+      let l = located (σ .pieces) (P .0) (R .0) (rows .least) in
       let sum = down-sum n p r (P .0) (R .0) (sym (P .1)) (sym (R .1)) in
       record {
         cover = l .piece;
@@ -89,15 +87,18 @@ module _ (c : Curve) (s : Sized 0 c) (n : ℕ) (hn : 0 < n) where
           a = l .near;
           b = l .far;
           some = omega (arith, l .place .whole, sum);
-          in-x = point-mixed (c .degree) (s .least) (s .most) (c .x) n hn p r (P .0) (R .0) some (sym (P .1)) (sym (R .1)) l x (equals .in-x);
-          in-y = point-mixed (c .degree) (s .least) (s .most) (c .y) n hn p r (P .0) (R .0) some (sym (P .1)) (sym (R .1)) l y (equals .in-y);
+          in-x = point-mixed σ rows (c .degree) (s .least) (s .most) (c .x) n hn p r (P .0) (R .0) some (sym (P .1)) (sym (R .1)) l x
+              (equals .in-x);
+          in-y = point-mixed σ rows (c .degree) (s .least) (s .most) (c .y) n hn p r (P .0) (R .0) some (sym (P .1)) (sym (R .1)) l y
+              (equals .in-y);
         };
       }
 
   -- ---- a point that a cover of a leaf holds
-  pub held-near : (T : ℤ) → nodeMeets standard T c n ≡ true → (i : ℕ) → i < pieces
-      → (x y : ℤ) (h : Holds (nodeBox standard c n i) (nodeBox standard c n (suc i)) x y)
-      → Within T c (upP n i (h .a) (h .b)) (upR n i (h .a) (h .b)) x y
+  pub held-near : (T : ℤ) → nodeMeets σ T c n ≡ true → (i : ℕ) → i < σ .pieces
+      → (x y : ℤ) (h : Holds (nodeBox σ c n i) (nodeBox σ c n (suc i)) x y)
+      → Within T c (upP (σ .pieces) n i (h .a) (h .b)) (upR (σ .pieces) n i (h .a) (h .b)) x y
   held-near T meet i hi x y h =
-      let narrow = subst (Narrow standard T (depth n)) (node-curve c n hn) (meets-narrow standard T (depth n) (nodeCurve c n) meet) in
-      mixed-within c (s .least) (s .most) n hn i (h .a) (h .b) hi T x y (narrow .each i (omega arith)) (narrow .each (suc i) hi) (h .in-x) (h .in-y)
+      let narrow = subst (Narrow σ T (depth n)) (node-curve c n hn) (meets-narrow σ T (depth n) (nodeCurve c n) meet) in
+      mixed-within σ rows c (s .least) (s .most) n hn i (h .a) (h .b) hi T x y (narrow .each i (omega arith)) (narrow .each (suc i) hi)
+      (h .in-x) (h .in-y)

@@ -12,13 +12,11 @@ use Rattle.integers.specs.Entry.{entry}
 use Rattle.curve_nodes.specs.declared.Curve.{Curve}
 use Rattle.curve_halves.specs.Sizes.{Each}
 use Rattle.curve_nodes.specs.Bounds.{Sized}
-use Rattle.curve_nodes.specs.Nodes.{depth, nodeCurve}
 use Rattle.curve_nodes.specs.Points.{Equals}
 use Rattle.curve_nodes.proofs.Sizes.{each-wider}
-use Rattle.setting.specs.Setting.{Setting, standard, covers, recordLength, deepest}
+use Rattle.setting.specs.Setting.{Setting, HasRows, covers, recordLength, deepest}
 use Rattle.outline.proofs.Accepted.{outlined-from, accepted-most, accepted-some, accepted-all}
 use Rattle.walk_curve.specs.Walked.{nodeMeets}
-use Rattle.walk_curve.proofs.Thirds.{meets-thirds}
 use Rattle.walk_tree.proofs.Leaves.{end-facts}
 use Rattle.band.specs.declared.banding.Banded.the-variants.{Done}
 use Rattle.band_records.specs.Records.{recordOf, allRecords}
@@ -29,7 +27,7 @@ use Rattle.band_passes.specs.Meeting.{AllMeet}
 use Rattle.band.specs.Outcomes.{Flat}
 use Rattle.band_records.proofs.Sound.{record-curve, record-node}
 use Rattle.band_records.proofs.Standing.{Found, every-end-stands, every-record-stands}
-use Rattle.band.proofs.Theorems.{done-exactly, records-written, leaves-exactly, every-parameter}
+use Rattle.band.proofs.Theorems.{done-exactly, faultless-rows, records-written, leaves-exactly, every-parameter}
 use Rattle.band.proofs.Sound.{curves-leaves, curves-sound}
 use Rattle.band.proofs.Depths.{end-depth}
 use Rattle.judge_cover.specs.Covers.{Holds, CoverHolds}
@@ -39,7 +37,7 @@ use Rattle.judge.specs.Judging.{Verdict, Judged}
 use Rattle.judge.proofs.Judgements.{judged-on}
 use Rattle.engine.specs.Meeting.{HeldAt}
 use Rattle.engine.specs.Demand3.{CurveOf, IsOn, Somewhere, Shallow, Demand3, OutlineDemand3}
-use Rattle.engine.proofs.Passing.{thirdsTo, coordinate-fine, none-refused}
+use Rattle.engine.proofs.Passing.{coordinate-fine, none-refused}
 use Rattle.engine.proofs.Mixtures.{upP, upR, up-some}
 use Rattle.engine.proofs.Covers.{nodeBox, box-there, point-held, held-near}
 
@@ -68,23 +66,22 @@ small {c} s = (each-wider fits (s .x), each-wider fits (s .y))
 pub of-member : {cs : List Curve} {k : ℕ} {c : Curve} → CurveOf cs k c → List·Memᴰ c cs
 of-member of = rw (of .split) (Memᴰ·append-right (of .before) (List·Memᴰ·head refl))
 
--- ---- the claim, for the records of curves that all meet T, with three pieces
-module _ (most : ℕ) (T : ℤ) (cs : List Curve) (sized : (c : Curve) → List·Memᴰ c cs → Sized 0 c) (meet : AllMeet (thirdsTo most) T cs) where
-  abbrev σ : Setting
-  σ = thirdsTo most
-
+-- ---- the claim, for the records of curves that all meet T
+module _ (σ : Setting) (rows : HasRows (σ .pieces)) (T : ℤ) (cs : List Curve) (sized : (c : Curve) → List·Memᴰ c cs → Sized 0 c)
+    (meet : AllMeet σ T cs) where
   abbrev rs : List ℤ
   rs = allRecords σ T 0 cs
 
   -- a point of a curve is held by a record of this curve, at a leaf with its parameter
-  held-thirds : (k : ℕ) (c : Curve) → CurveOf cs k c → (p r : ℕ) → 0 < p + r → (x y : ℤ) → Equals c p r x y → HeldAt σ rs k p r x y
-  held-thirds k c of p r positive x y equals =
+  pub held-at : (k : ℕ) (c : Curve) → CurveOf cs k c → (p r : ℕ) → 0 < p + r → (x y : ℤ) → Equals c p r x y
+      → HeldAt σ (allRecords σ T 0 cs) k p r x y
+  held-at k c of p r positive x y equals =
       let i = of-member of in
       let number = 0 + length (of .before) in
       let leaf = every-parameter σ T cs meet c i p r in
       let found = subst (λ l. Found σ (allRecords σ T 0 l) (recordOf σ number c (leaf .0))) (sym (of .split))
       (every-end-stands σ T 0 (of .before) c (of .after) (leaf .0) (leaves-exactly σ T cs meet c i (leaf .0) .1 (leaf .1))) in
-      let held = point-held c (sized c i) (leaf .0) (leaf .1 .node) p r positive (leaf .2) x y equals in
+      let held = point-held σ rows c (sized c i) (leaf .0) (leaf .1 .node) p r positive (leaf .2) x y equals in
       let there = box-there σ c (leaf .0) (leaf .1 .node) number (found .stands) in
       record {
         place = found .place;
@@ -103,9 +100,9 @@ module _ (most : ℕ) (T : ℤ) (cs : List Curve) (sized : (c : Curve) → List�
   module _ (n : ℕ) (some : 0 < n) (sound : SoundList σ n rs) (x y : ℤ) (answer : Judgement) (judged : Judged σ rs x y answer) where
     point-on : (k : ℕ) (c : Curve) → CurveOf cs k c → (p r : ℕ) → 0 < p + r → Equals c p r x y → IsOn answer
     point-on k c of p r positive equals =
-        let h = held-thirds k c of p r positive x y equals in
+        let h = held-at k c of p r positive x y equals in
         let near = small (sized c (of-member of)) in
-        let passes = none-refused σ refl some sound x y
+        let passes = none-refused σ rows some sound x y
         (coordinate-fine (c .degree) (c .x) (near .0) p r positive x (equals .in-x))
         (coordinate-fine (c .degree) (c .y) (near .1) p r positive y (equals .in-y)) in
         held-on σ rs x y answer (subst (λ f. Verdict σ f rs x y answer) passes judged) (h .place) (h .cover) (h .inside) (h .one-of) (h .holds)
@@ -121,19 +118,18 @@ module _ (most : ℕ) (T : ℤ) (cs : List Curve) (sized : (c : Curve) → List�
         let there = box-there σ c (w .node) hn (0 + length (w .before)) (w .stands) in
         let h : Holds (nodeBox σ c (w .node) (on .cover)) (nodeBox σ c (w .node) (suc (on .cover))) x y =
         rw (← there (on .cover) (omega (arith, v .cover)), ← there (suc (on .cover)) (v .cover)) (v .holds) in
-        let meets = sym (meets-thirds σ refl T (depth (w .node)) (nodeCurve c (w .node))) ∙ meet .each c i .each (w .node) (w .end) in
         record {
           number = length (w .before);
           curve = c;
           of = of;
-          p = upP (w .node) (on .cover) (h .a) (h .b);
-          r = upR (w .node) (on .cover) (h .a) (h .b);
-          some = up-some (w .node) (on .cover) (h .a) (h .b) (v .cover) (h .some);
-          near = held-near c (sized c i) (w .node) hn T meets (on .cover) (v .cover) x y h;
+          p = upP (σ .pieces) (w .node) (on .cover) (h .a) (h .b);
+          r = upR (σ .pieces) (w .node) (on .cover) (h .a) (h .b);
+          some = up-some (σ .pieces) (w .node) (on .cover) (h .a) (h .b) (v .cover) (h .some);
+          near = held-near σ rows c (sized c i) (w .node) hn T (meet .each c i .each (w .node) (w .end)) (on .cover) (v .cover) x y h;
         }
 
   leaf-shallow : (i : ℕ) → recordLength σ * i < length rs → (k : ℕ) (c : Curve) → CurveOf cs k c → entry rs (recordLength σ * i) ≡ pos k
-      → (j : ℕ) → Flat T c j → Shallow σ rs i j
+      → (j : ℕ) → Flat σ T c j → Shallow σ rs i j
   leaf-shallow i h k c of e j flat =
       let w = every-record-stands σ T 0 cs i h in
       let first = ap (entry rs) {x = recordLength σ * i + 0} {y = recordLength σ * i} (omega arith) in
@@ -145,45 +141,30 @@ module _ (most : ℕ) (T : ℤ) (cs : List Curve) (sized : (c : Curve) → List�
       record {
         node = w .node;
         is = w .stands .number 1 (omega arith) ∙ record-node σ (0 + length (w .before)) (w .curve) (w .node);
-        depth-at-most = end-depth σ refl T (w .curve) (sized (w .curve) (of-member own)) j (rw same flat) (w .node) (w .end);
+        depth-at-most = end-depth σ rows T (w .curve) (sized (w .curve) (of-member own)) j (rw same flat) (w .node) (w .end);
       }
     where
       pos-same : {m n : ℕ} → pos m ≡ pos n → m ≡ n
       pos-same e = cc
 
 -- ---- demand 3 of a list of curves: some, not too many, of the size of an outline's, and none too wide
-abbrev CurvesHeld : Setting → Type 0
-CurvesHeld σ = (T : ℤ) (cs : List Curve) → ((c : Curve) → List·Memᴰ c cs → Sized 0 c) → AllMeet σ T cs
-    → (k : ℕ) (c : Curve) → CurveOf cs k c → (p r : ℕ) → 0 < p + r → (x y : ℤ) → Equals c p r x y → HeldAt σ (allRecords σ T 0 cs) k p r x y
-
-abbrev CurvesDemand3 : Setting → Type 0
-CurvesDemand3 σ = (T : ℤ) (cs : List Curve) → 0 < length cs → length cs ≤ σ .most
+pub curves-demand-3 : (σ : Setting) → HasRows (σ .pieces) → (T : ℤ) (cs : List Curve) → 0 < length cs → length cs ≤ σ .most
     → ((c : Curve) → List·Memᴰ c cs → Sized 0 c) → AllMeet σ T cs
     → (x y : ℤ) (answer : Judgement) → Judged σ (allRecords σ T 0 cs) x y answer → Demand3 σ T cs (allRecords σ T 0 cs) x y answer
-
-demand-thirds : (most : ℕ) → CurvesDemand3 (thirdsTo most)
-demand-thirds most T cs some few sized meet x y answer judged =
-    let σ = thirdsTo most in
+curves-demand-3 σ rows T cs some few sized meet x y answer judged =
     let one = curves-leaves σ T cs some in
-    let sound = curves-sound σ refl T 0 cs (omega (arith, few)) sized in
+    let sound = curves-sound σ rows T 0 cs (omega (arith, few)) sized in
     record {
-      every-point-on = point-on most T cs sized meet (leavesOf σ T cs) one sound x y answer judged;
-      every-on-near = on-near most T cs sized meet (leavesOf σ T cs) one sound x y answer judged;
-      every-leaf-shallow = leaf-shallow most T cs sized meet;
+      every-point-on = point-on σ rows T cs sized meet (leavesOf σ T cs) one sound x y answer judged;
+      every-on-near = on-near σ rows T cs sized meet (leavesOf σ T cs) one sound x y answer judged;
+      every-leaf-shallow = leaf-shallow σ rows T cs sized meet;
     }
 
-module _ (σ : Setting) (three : σ .pieces ≡ 3) where
-  pub held-at : CurvesHeld σ
-  held-at = subst (λ m. CurvesHeld (record { most = σ .most; pieces = m })) (sym three) (held-thirds (σ .most))
-
-  pub curves-demand-3 : CurvesDemand3 σ
-  curves-demand-3 = subst (λ m. CurvesDemand3 (record { most = σ .most; pieces = m })) (sym three) (demand-thirds (σ .most))
-
--- ---- demand 3 of an outline
-pub demand-3 : (σ : Setting) → σ .pieces ≡ 3 → (T : ℤ) (ns old : List ℤ) (a b c : ℕ) → banded σ T ns (length old) ≡ Done a b c
+-- ---- demand 3 of an outline, in every setting: where it is accepted, there are rows for the number of pieces
+pub demand-3 : (σ : Setting) (T : ℤ) (ns old : List ℤ) (a b c : ℕ) → banded σ T ns (length old) ≡ Done a b c
     → (x y : ℤ) (answer : Judgement) → Judged σ (take (recordLength σ * b) (written σ T ns old)) x y answer
     → OutlineDemand3 σ T ns (take (recordLength σ * b) (written σ T ns old)) x y answer
-demand-3 σ three T ns old a b c done x y answer judged =
+demand-3 σ T ns old a b c done x y answer judged =
     let h = done-exactly σ T ns (length old) a b c .0 done in
     let cs = h .0 in
     let o = h .1 .outline in
@@ -192,7 +173,7 @@ demand-3 σ three T ns old a b c done x y answer judged =
     record {
       all = cs;
       are = o;
-      demand-3 = subst (λ rs. Demand3 σ T cs rs x y answer) (sym is) (curves-demand-3 σ three T cs
+      demand-3 = subst (λ rs. Demand3 σ T cs rs x y answer) (sym is) (curves-demand-3 σ (faultless-rows (h .1)) T cs
           (accepted-some (σ .most) ns cs o) (accepted-most (σ .most) ns cs o) (accepted-all (σ .most) ns 0 cs (outlined-from (σ .most) ns cs o))
           (h .2 .meet) x y answer said);
     }

@@ -17,7 +17,7 @@ use Rattle.outline.proofs.Accepted.{outlined-from, accepted-all}
 use Rattle.outline.proofs.Meeting.{curves-meet}
 use Rattle.band.specs.declared.banding.Banded.the-variants.{Done}
 use Rattle.band.specs.Banding.{banded, written}
-use Rattle.band.proofs.Theorems.{done-exactly, records-written}
+use Rattle.band.proofs.Theorems.{done-exactly, faultless-rows, records-written}
 use Rattle.judge.specs.declared.judging.Judgement.{Judgement}
 use Rattle.judge.specs.Judging.{Judged}
 use Rattle.engine.specs.Demand3.{CurveOf}
@@ -61,17 +61,17 @@ numbers-meet most ns cs o k c d first second =
     curves-meet most ns (first .before) c d (second .after) (o ∙ ap curves (first .split ∙ ap (λ l. first .before ++ c ∷ l) after))
 
 -- ---- the point where curve k ends and curve k + 1 begins
-pub covered-twice : (σ : Setting) → σ .pieces ≡ 3 → (T : ℤ) (ns old : List ℤ) (a b n : ℕ) → banded σ T ns (length old) ≡ Done a b n
+pub covered-twice : (σ : Setting) (T : ℤ) (ns old : List ℤ) (a b n : ℕ) → banded σ T ns (length old) ≡ Done a b n
     → (cs : List Curve) → outlined (σ .most) ns ≡ curves cs
     → (k : ℕ) (c d : Curve) → CurveOf cs k c → CurveOf cs (suc k) d → (x y : ℤ) → EndsAt c x y
     → (answer : Judgement) → Judged σ (take (recordLength σ * b) (written σ T ns old)) x y answer
     → CoveredTwice σ (take (recordLength σ * b) (written σ T ns old)) k x y answer
-covered-twice σ three T ns old a b n done cs o k c d first second x y ends answer judged =
+covered-twice σ T ns old a b n done cs o k c d first second x y ends answer judged =
     let h = done-exactly σ T ns (length old) a b n .0 done in
     let same = same-curves (h .1 .outline) o in
     let sized = accepted-all (σ .most) ns 0 (h .0) (outlined-from (σ .most) ns (h .0) (h .1 .outline)) in
-    let held = held-at σ three T (h .0) sized (h .2 .meet) in
-    let d3 = demand-3 σ three T ns old a b n done x y answer judged in
+    let held = held-at σ (faultless-rows (h .1)) T (h .0) sized (h .2 .meet) in
+    let d3 = demand-3 σ T ns old a b n done x y answer judged in
     let is = records-written σ T ns old (h .1) (h .2) in
     let next = at-next-start ends (numbers-meet (σ .most) ns cs o k c d first second) in
     record {

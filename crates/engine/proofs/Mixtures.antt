@@ -3,11 +3,11 @@
 use mathlib.Core.Path.{_≡_, refl, sym, _∙_, ap, ap₂, subst, subst₂}
 use mathlib.Core.List.{List, [], _∷_}
 use Prim.Native.Nat.{ℕ, zero, suc, _+_, _*_, _-_, _^_, _≤_, _<_}
-use native.Mathlib.Nat.{one-le-pow, zero-lt-suc}
+use native.Mathlib.Nat.{one-le-pow, zero-lt-suc, mul-le-mul-left}
 use native.Mathlib.Omega.{arith}
 use lib.IntN.{ℤ, pos, negℤ, natAbs, _+ℤ_, _-ℤ_, _*ℤ_, pow, one}
 use lib.Signed.{_≤ℤ_, _<ℤ_}
-use Rattle.setting.specs.Setting.{standard}
+use Rattle.setting.specs.Setting.{Setting, HasRows}
 use Rattle.integers.specs.Squares.{squared}
 use Rattle.integers.proofs.Squares.{square-within}
 use Rattle.integers.proofs.RingLaws.{pow-last}
@@ -22,14 +22,13 @@ use Rattle.curve_nodes.specs.Points.{scaled, sixteenths, offset, Within}
 use Rattle.curve_nodes.proofs.Coordinates.{nodeValues}
 use Rattle.curve_nodes.proofs.Spans.{remaining}
 use Rattle.curve_nodes.proofs.Parameters.{values-up, up-sum, pAt, rAt, same-sum, values-down}
-use Rattle.bound_rows.specs.Rows.{Row, pieces}
+use Rattle.bound_rows.specs.Rows.{Row}
 use Rattle.bound_rows.specs.Table.{rowsOf}
 use Rattle.bound_enclosure.specs.Bounds.{low, high}
 use Rattle.bound_enclosure.specs.AtDepth.{lowOf, highOf}
 use Rattle.bound_rows.specs.Joined.{Place}
 use Rattle.bound_enclosure.specs.Enclosed.{Encloses}
 use Rattle.bound_rows.proofs.Places.{Located, place-at}
-use Rattle.bound_rows.proofs.Rule.{pieces-have-rows}
 use Rattle.bound_enclosure.proofs.Enclosure.{enclosure, enclosure-between}
 use Rattle.judge_cover.specs.Covers.{Mixed}
 
@@ -39,21 +38,23 @@ unfolding pow one
 pow-times a b zero = refl
 pow-times a b (suc d) = ap (λ x. x *ℤ (a *ℤ b)) (pow-times a b d) ∙ ring (a ∷ b ∷ pow a d ∷ pow b d ∷ []) (search sides depth 20) refl
 
--- ---- the parameter of the weights a and b on piece i: at a node, and at node 1 where the node is n
+-- ---- the parameter of the weights a and b on piece i of m: at a node, and at node 1 where the node is n
 abbrev pub atP : ℕ → ℕ → ℕ → ℕ
 atP i a b = a * i + b * suc i
 
-abbrev pub atR : ℕ → ℕ → ℕ → ℕ
-atR i a b = a * (pieces - i) + b * (pieces - suc i)
+abbrev pub atR : ℕ → ℕ → ℕ → ℕ → ℕ
+atR m i a b = a * (m - i) + b * (m - suc i)
 
-abbrev pub upP : ℕ → ℕ → ℕ → ℕ → ℕ
-upP n i a b = start n * (atP i a b + atR i a b) + atP i a b
+abbrev pub upP : ℕ → ℕ → ℕ → ℕ → ℕ → ℕ
+upP m n i a b = start n * (atP i a b + atR m i a b) + atP i a b
 
-abbrev pub upR : ℕ → ℕ → ℕ → ℕ → ℕ
-upR n i a b = remaining n * (atP i a b + atR i a b) + atR i a b
+abbrev pub upR : ℕ → ℕ → ℕ → ℕ → ℕ → ℕ
+upR m n i a b = remaining n * (atP i a b + atR m i a b) + atR m i a b
 
-pub up-some : (n i a b : ℕ) → i < pieces → 0 < a + b → 0 < upP n i a b + upR n i a b
-up-some n i a b hi some = let e = place-at pieces i a b hi .whole in omega (arith, e, some)
+pub up-some : (m n i a b : ℕ) → i < m → 0 < a + b → 0 < upP m n i a b + upR m n i a b
+up-some m n i a b hi some =
+    let more : m * 1 ≤ m * (a + b) = mul-le-mul-left m some in
+    omega (arith, place-at m i a b hi .whole, more)
 
 -- w · z is within e of 16 · v
 record Close (e w v z : ℤ) : Type 0 where
@@ -122,7 +123,7 @@ module _ (m d D : ℕ) (ρs : List Row) (cs : List ℤ) (hd : 0 < d) (hD : 0 < D
 pub down-sum : (n p r P R : ℕ) → pos P ≡ pAt n (pos p) (pos r) → pos R ≡ rAt n (pos p) (pos r) → P + R ≡ p + r
 down-sum n p r P R eP eR = ap natAbs (ap₂ _+ℤ_ eP eR ∙ same-sum n (pos p) (pos r))
 
-module _ (d : ℕ) (least : 1 ≤ d) (most : d ≤ 3) (cs : List ℤ) (n : ℕ) (hn : 0 < n) where
+module _ (σ : Setting) (rows : HasRows (σ .pieces)) (d : ℕ) (least : 1 ≤ d) (most : d ≤ 3) (cs : List ℤ) (n : ℕ) (hn : 0 < n) where
   abbrev D : ℕ
   D = 2 ^ (d * depth n)
 
@@ -130,18 +131,19 @@ module _ (d : ℕ) (least : 1 ≤ d) (most : d ≤ 3) (cs : List ℤ) (n : ℕ) 
   some-D = one-le-pow (d * depth n) 2 (zero-lt-suc 1)
 
   abbrev lows : ℕ → ℤ
-  lows = lowOf standard d (depth n) (nodeValues d cs n)
+  lows = lowOf σ d (depth n) (nodeValues d cs n)
 
   abbrev highs : ℕ → ℤ
-  highs = highOf standard d (depth n) (nodeValues d cs n)
+  highs = highOf σ d (depth n) (nodeValues d cs n)
 
   -- p / (p + r) at node 1 is P / (P + R) at node n
-  pub point-mixed : (p r P R : ℕ) → 0 < p + r → pos P ≡ pAt n (pos p) (pos r) → pos R ≡ rAt n (pos p) (pos r) → (l : Located pieces P R)
+  pub point-mixed : (p r P R : ℕ) → 0 < p + r → pos P ≡ pAt n (pos p) (pos r) → pos R ≡ rAt n (pos p) (pos r) → (l : Located (σ .pieces) P R)
       → (z : ℤ) → scaled d p r z ≡ sixteenths d p r cs
       → Mixed (l .near) (l .far) (lows (l .piece)) (highs (l .piece)) (lows (suc (l .piece))) (highs (suc (l .piece))) z
   point-mixed p r P R some eP eR l z same =
-      enclosed-mixed pieces d D (rowsOf pieces d) (nodeValues d cs n) least some-D (l .piece) (l .near) (l .far) P R (rw sum some) (l .place)
-      (enclosure pieces d pieces-have-rows least most (pos D) (pos-lt some-D) (nodeValues d cs n) (l .piece) (l .near) (l .far) P R (l .inside) (l .place)) z
+      enclosed-mixed (σ .pieces) d D (rowsOf (σ .pieces) d) (nodeValues d cs n) least some-D (l .piece) (l .near) (l .far) P R (rw sum some) (l .place)
+      (enclosure (σ .pieces) d rows least most (pos D) (pos-lt some-D) (nodeValues d cs n) (l .piece) (l .near) (l .far) P R (l .inside) (l .place))
+      z
       (ap (λ (q : ℕ). pos D *ℤ (pow (pos q) d *ℤ z)) sum ∙ ap (λ x. pos D *ℤ x) same ∙ ring (pos D ∷ value (pos p) (pos r) d cs ∷ [])
       (search sides depth 20) refl
       ∙ ap (λ x. pos 16 *ℤ x) (sym down))
@@ -154,33 +156,36 @@ module _ (d : ℕ) (least : 1 ≤ d) (most : d ≤ 3) (cs : List ℤ) (n : ℕ) 
           ∙ ap (λ x. x *ℤ value (pos p) (pos r) d cs) (denominator d (depth n))
 
   -- P / (P + R) at node n is this parameter at node 1: a point of a mixture is off by the mixture of the widths at most
-  module _ (i a b : ℕ) (hi : i < pieces) where
+  module _ (i a b : ℕ) (hi : i < σ .pieces) where
+    abbrev m : ℕ
+    m = σ .pieces
+
     abbrev P : ℕ
     P = atP i a b
 
     abbrev R : ℕ
-    R = atR i a b
+    R = atR m i a b
 
     -- (p + r)^d at node 1 is this times a + b
     abbrev unit : ℤ
-    unit = pos D *ℤ pow (pos (P + R)) (d - 1) *ℤ pos pieces
+    unit = pos D *ℤ pow (pos (P + R)) (d - 1) *ℤ pos m
 
-    power : pow (pos (upP n i a b + upR n i a b)) d ≡ pos D *ℤ pow (pos (P + R)) d
+    power : pow (pos (upP m n i a b + upR m n i a b)) d ≡ pos D *ℤ pow (pos (P + R)) d
     power = ap (λ x. pow x d) (up-sum n hn (pos P) (pos R)) ∙ pow-times (pos (2 ^ depth n)) (pos (P + R)) d
         ∙ ap (λ x. x *ℤ pow (pos (P + R)) d) (denominator d (depth n))
 
-    unit-power : pow (pos (upP n i a b + upR n i a b)) d ≡ unit *ℤ (pos a +ℤ pos b)
+    unit-power : pow (pos (upP m n i a b + upR m n i a b)) d ≡ unit *ℤ (pos a +ℤ pos b)
     unit-power = power ∙ ap (λ x. pos D *ℤ x) (pow-last (pos (P + R)) d least)
-        ∙ ap (λ x. pos D *ℤ (pow (pos (P + R)) (d - 1) *ℤ x)) (ap pos (sym (place-at pieces i a b hi .whole)))
-        ∙ ring (pos D ∷ pow (pos (P + R)) (d - 1) ∷ pos a ∷ pos b ∷ []) (search sides depth 20) refl
+        ∙ ap (λ x. pos D *ℤ (pow (pos (P + R)) (d - 1) *ℤ x)) (ap pos (sym (place-at m i a b hi .whole)))
+        ∙ ring (pos D ∷ pow (pos (P + R)) (d - 1) ∷ pos m ∷ pos a ∷ pos b ∷ []) (search sides depth 20) refl
 
-    mixed-off : (z : ℤ) → Mixed a b (lows i) (highs i) (lows (suc i)) (highs (suc i)) z → squared (offset d (upP n i a b) (upR n i a b) cs z)
+    mixed-off : (z : ℤ) → Mixed a b (lows i) (highs i) (lows (suc i)) (highs (suc i)) z → squared (offset d (upP m n i a b) (upR m n i a b) cs z)
         ≤ℤ squared (unit *ℤ (pos a *ℤ (highs i -ℤ lows i) +ℤ pos b *ℤ (highs (suc i) -ℤ lows (suc i))))
     mixed-off z mixed =
         let e = unit *ℤ (pos a *ℤ (highs i -ℤ lows i) +ℤ pos b *ℤ (highs (suc i) -ℤ lows (suc i))) in
         let s = subst₂ (λ w v. Close e w v z) (sym power) (sym (values-up d most cs n hn (pos P) (pos R)))
-        (mixed-close pieces d D (rowsOf pieces d) (nodeValues d cs n) least some-D i a b P R (place-at pieces i a b hi)
-        (enclosure-between pieces d pieces-have-rows least most (pos D) (pos-lt some-D) (nodeValues d cs n) i a b hi) z mixed) in
+        (mixed-close m d D (rowsOf m d) (nodeValues d cs n) least some-D i a b P R (place-at m i a b hi)
+        (enclosure-between m d rows least most (pos D) (pos-lt some-D) (nodeValues d cs n) i a b hi) z mixed) in
         square-within (s .below) (s .above)
 
 -- ---- both coordinates: boxes with a diagonal within T have mixtures with one within T, since 2 × w₀ × w₁ ≤ w₀² + w₁²
@@ -192,37 +197,40 @@ mixed-squares k a b T w₀ h₀ w₁ h₁ first second = le-by (k ∷ pos a ∷ 
     (search sides depth 40 fits 9999) refl
 
 -- the width of a coordinate of node n at break point i
-abbrev pub widthAt : ℕ → List ℤ → ℕ → ℕ → ℤ
-widthAt d cs n i = highOf standard d (depth n) (nodeValues d cs n) i -ℤ lowOf standard d (depth n) (nodeValues d cs n) i
+abbrev pub widthAt : Setting → ℕ → List ℤ → ℕ → ℕ → ℤ
+widthAt σ d cs n i = highOf σ d (depth n) (nodeValues d cs n) i -ℤ lowOf σ d (depth n) (nodeValues d cs n) i
 
-module _ (c : Curve) (least : 1 ≤ c .degree) (most : c .degree ≤ 3) (n : ℕ) (hn : 0 < n) (i a b : ℕ) (hi : i < pieces) (T x y : ℤ) where
+module _ (σ : Setting) (rows : HasRows (σ .pieces)) (c : Curve) (least : 1 ≤ c .degree) (most : c .degree ≤ 3) (n : ℕ) (hn : 0 < n)
+    (i a b : ℕ) (hi : i < σ .pieces) (T x y : ℤ) where
   abbrev w : ℕ → ℤ
-  w = widthAt (c .degree) (c .x) n
+  w = widthAt σ (c .degree) (c .x) n
 
   abbrev h : ℕ → ℤ
-  h = widthAt (c .degree) (c .y) n
+  h = widthAt σ (c .degree) (c .y) n
 
   abbrev lowX : ℕ → ℤ
-  lowX = lowOf standard (c .degree) (depth n) (nodeValues (c .degree) (c .x) n)
+  lowX = lowOf σ (c .degree) (depth n) (nodeValues (c .degree) (c .x) n)
 
   abbrev highX : ℕ → ℤ
-  highX = highOf standard (c .degree) (depth n) (nodeValues (c .degree) (c .x) n)
+  highX = highOf σ (c .degree) (depth n) (nodeValues (c .degree) (c .x) n)
 
   abbrev lowY : ℕ → ℤ
-  lowY = lowOf standard (c .degree) (depth n) (nodeValues (c .degree) (c .y) n)
+  lowY = lowOf σ (c .degree) (depth n) (nodeValues (c .degree) (c .y) n)
 
   abbrev highY : ℕ → ℤ
-  highY = highOf standard (c .degree) (depth n) (nodeValues (c .degree) (c .y) n)
+  highY = highOf σ (c .degree) (depth n) (nodeValues (c .degree) (c .y) n)
 
   pub mixed-within : (squared (w i) +ℤ squared (h i)) ≤ℤ squared T → (squared (w (suc i)) +ℤ squared (h (suc i))) ≤ℤ squared T
       → Mixed a b (lowX i) (highX i) (lowX (suc i)) (highX (suc i)) x → Mixed a b (lowY i) (highY i) (lowY (suc i)) (highY (suc i)) y
-      → Within T c (upP n i a b) (upR n i a b) x y
+      → Within T c (upP (σ .pieces) n i a b) (upR (σ .pieces) n i a b) x y
   mixed-within first second in-x in-y = record {
     distance = ≤ℤ-trans
-        (+ℤ-mono (mixed-off (c .degree) least most (c .x) n hn i a b hi x in-x) (mixed-off (c .degree) least most (c .y) n hn i a b hi y in-y))
+        (+ℤ-mono (mixed-off σ rows (c .degree) least most (c .x) n hn i a b hi x in-x)
+        (mixed-off σ rows (c .degree) least most (c .y) n hn i a b hi y in-y))
         (subst (λ z. (squared (k *ℤ (pos a *ℤ w i +ℤ pos b *ℤ w (suc i))) +ℤ squared (k *ℤ (pos a *ℤ h i +ℤ pos b *ℤ h (suc i)))) ≤ℤ squared (z *ℤ T))
-        (sym (unit-power (c .degree) least most (c .x) n hn i a b hi)) (mixed-squares k a b T (w i) (h i) (w (suc i)) (h (suc i)) first second));
+        (sym (unit-power σ rows (c .degree) least most (c .x) n hn i a b hi))
+        (mixed-squares k a b T (w i) (h i) (w (suc i)) (h (suc i)) first second));
   }
     where
       k : ℤ
-      k = unit (c .degree) least most (c .x) n hn i a b hi
+      k = unit σ rows (c .degree) least most (c .x) n hn i a b hi

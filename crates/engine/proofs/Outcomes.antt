@@ -4,23 +4,25 @@ use mathlib.Core.Path.{_≡_, refl, sym, _∙_, ap, subst}
 use mathlib.Core.Bool.{Bool, true, false}
 use mathlib.Core.List.{List}
 use mathlib.Core.Option.{Option, none, some}
-use Prim.Native.Nat.{ℕ, _*_, _≤_, _<_}
+use Prim.Native.Nat.{ℕ, _+_, _*_, _/_, _≤_, _<_}
+use native.Mathlib.Nat.{mul-comm, div-lt-iff-lt-mul, le-div-iff-mul-le}
 use native.Mathlib.Omega.{arith}
 use lib.Dec.{ltb}
 use lib.ListN.{length, take}
 use lib.IntN.{ℤ}
 use Rattle.integers.proofs.Clash.{clash}
 use Rattle.refusals.specs.declared.Refusal.{Refusal}
-use Rattle.refusals.specs.declared.Refusal.the-variants.{Tolerance, TooFewRecords, PointX, PointY}
+use Rattle.refusals.specs.declared.Refusal.the-variants.{Tolerance, TooFewRecords, PointX, PointY, Pieces}
 use Rattle.curve_nodes.specs.declared.Curve.{Curve}
 use Rattle.boxes.specs.Ranges.{inRange}
-use Rattle.setting.specs.Setting.{Setting, recordLength}
+use Rattle.setting.specs.Setting.{Setting, lists, piecesFine, recordLength}
+use Rattle.setting.proofs.Pieces.{record-length-is}
 use Rattle.outline.specs.Checks.{toleranceFine, Outlined, curves, faulty, outlined}
 use Rattle.band_passes.specs.Leaves.{firstTooWide, leavesOf, nodesOf}
 use Rattle.band.specs.declared.banding.Banded.{Banded}
 use Rattle.band.specs.declared.banding.Banded.the-variants.{Done, Refused as NotBanded}
 use Rattle.band.specs.Banding.{bandCurves, bandOutlined, banded, written}
-use Rattle.band.proofs.Theorems.{few-exactly, done-exactly, written-some, written-sound}
+use Rattle.band.proofs.Theorems.{few-exactly, done-exactly, faultless-rows, written-some, written-sound}
 use Rattle.judge.specs.declared.judging.Judgement.{Judgement}
 use Rattle.judge.specs.Judging.{pointFault, judgingFault, Verdict, Judged}
 use Rattle.engine.specs.declared.Outcome.the-variants.{Refused, Judged as WithJudgement}
@@ -28,6 +30,16 @@ use Rattle.engine.specs.Outcomes.{writtenFor, Answered}
 use Rattle.engine.specs.Inside.{refusalOr}
 use Rattle.engine.proofs.Passing.{none-refused}
 use Rattle.engine.proofs.Demand3.{demand-3}
+
+-- ---- the room that code divides by a record's length
+module _ (m room l : ℕ) where
+  pub room-short : room / (6 + 4 * m) < l → room < recordLength (lists m) * l
+  room-short h = subst (λ (n : ℕ). room < n * l) (record-length-is m)
+      (rw (mul-comm (6 + 4 * m) l) (div-lt-iff-lt-mul {k = 6 + 4 * m} {x = room} {y = l} (omega arith) .0 h))
+
+  pub room-enough : l ≤ room / (6 + 4 * m) → recordLength (lists m) * l ≤ room
+  room-enough h = subst (λ (n : ℕ). n * l ≤ room) (record-length-is m)
+      (rw (mul-comm (6 + 4 * m) l) (le-div-iff-mul-le {k = 6 + 4 * m} {x = l} {y = room} (omega arith) .0 h))
 
 -- ---- banding with no number lent, by which a point out of range is refused
 module _ (σ : Setting) (T : ℤ) (ns : List ℤ) (room : ℕ) (point : Refusal) where
@@ -90,13 +102,17 @@ module _ (σ : Setting) (T : ℤ) (ns : List ℤ) (room : ℕ) (point : Refusal)
 
     pub other-again : banded σ T ns 0 ≡ NotBanded r → r ≡ refusalOr point (banded σ T ns room)
     unfolding banded
-    other-again e = ap (refusalOr point) (sym (go (toleranceFine T) (outlined (σ .most) ns) e))
+    other-again e = ap (refusalOr point) (sym (go (piecesFine (σ .pieces)) (toleranceFine T) (outlined (σ .most) ns) e))
       where
-        go : (fine : Bool) (o : Outlined) → elim fine [ false ↦ NotBanded Tolerance | true ↦ bandOutlined σ T o 0 ] ≡ NotBanded r
-            → elim fine [ false ↦ NotBanded Tolerance | true ↦ bandOutlined σ T o room ] ≡ NotBanded r
-        go false o h = h
-        go true (faulty q) h = h
-        go true (curves cs) h = curves-again cs h
+        answer : Bool → Bool → Outlined → ℕ → Banded
+        answer rows fine o n =
+            elim rows [ false ↦ NotBanded Pieces | true ↦ elim fine [ false ↦ NotBanded Tolerance | true ↦ bandOutlined σ T o n ] ]
+
+        go : (rows fine : Bool) (o : Outlined) → answer rows fine o 0 ≡ NotBanded r → answer rows fine o room ≡ NotBanded r
+        go false fine o h = h
+        go true false o h = h
+        go true true (faulty q) h = h
+        go true true (curves cs) h = curves-again cs h
 
 -- ---- the leaves of an outline that is banded: they have room, there is one, and judging refuses none of them
 pub done-room : (σ : Setting) (T : ℤ) (ns : List ℤ) (room : ℕ) {a b c : ℕ} → banded σ T ns room ≡ Done a b c → recordLength σ * b ≤ room
@@ -107,11 +123,11 @@ module _ (σ : Setting) (T : ℤ) (ns old : List ℤ) {a b c : ℕ} (e : banded 
   pub done-some : 0 < b
   done-some = let h = done-exactly σ T ns (length old) a b c .0 e in written-some σ T ns old (h .1) (h .2)
 
-  pub done-passes : σ .pieces ≡ 3 → (x y : ℤ) → inRange x ≡ true → inRange y ≡ true
+  pub done-passes : (x y : ℤ) → inRange x ≡ true → inRange y ≡ true
       → judgingFault σ (take (recordLength σ * b) (written σ T ns old)) x y ≡ none
-  done-passes three x y in-x in-y =
-      let h = done-exactly σ T ns (length old) a b c .0 e in none-refused σ three done-some
-      (written-sound σ T ns old (h .1) (h .2) three) x y in-x in-y
+  done-passes x y in-x in-y =
+      let h = done-exactly σ T ns (length old) a b c .0 e in
+      none-refused σ (faultless-rows (h .1)) done-some (written-sound σ T ns old (h .1) (h .2)) x y in-x in-y
 
 -- ---- banding and judging
 module _ (σ : Setting) (T : ℤ) (ns old : List ℤ) (x y : ℤ) {list : List ℤ} where
@@ -139,17 +155,17 @@ module _ (σ : Setting) (T : ℤ) (ns old : List ℤ) (x y : ℤ) {list : List �
         → (list ≡ writtenFor σ T ns x y old) × Answered σ T ns x y old (Refused r)
     not-banded e = (rw fine left, rw (e, Answered) refl)
 
-    pub banded-judged : σ .pieces ≡ 3 → {a b c : ℕ} → banded σ T ns (length old) ≡ Done a b c → (j : Judgement)
+    pub banded-judged : {a b c : ℕ} → banded σ T ns (length old) ≡ Done a b c → (j : Judgement)
         → Judged σ (take (recordLength σ * b) list) x y j
         → (list ≡ writtenFor σ T ns x y old) × Answered σ T ns x y old (WithJudgement a b c j)
-    banded-judged three {a} {b} {c} e j judged =
+    banded-judged {a} {b} {c} e j judged =
         let rs = take (recordLength σ * b) (written σ T ns old) in
         let of-leaves : Judged σ rs x y j = rw left at judged in (
           rw fine left,
           rw (e, Answered, fine) (record {
             judgement = j;
             is = refl;
-            judged = subst (λ f. Verdict σ f rs x y j) (done-passes σ T ns old e three x y in-x in-y) of-leaves;
-            demand-3 = demand-3 σ three T ns old a b c e x y j of-leaves;
+            judged = subst (λ f. Verdict σ f rs x y j) (done-passes σ T ns old e x y in-x in-y) of-leaves;
+            demand-3 = demand-3 σ T ns old a b c e x y j of-leaves;
           }),
         )

@@ -53,9 +53,9 @@ pub record Demand3 (σ : Setting) (T : ℤ) (cs : List Curve) (rs : List ℤ) (x
   -- for every point judged on there are one curve and one rational parameter at which that curve is within T
   pub every-on-near : IsOn answer → Somewhere T cs x y
   -- every leaf of a curve with largest second difference M has depth at most j, for every j with
-  -- 2 × (178 × M + 250 × 4^j)² ≤ (125 × T × 4^j)²
+  -- 2 × (16 × G × M + 20000 × 4^j)² ≤ (10000 × T × 4^j)²
   pub every-leaf-shallow : (i : ℕ) → recordLength σ * i < length rs → (k : ℕ) (c : Curve) → CurveOf cs k c
-      → entry rs (recordLength σ * i) ≡ pos k → (j : ℕ) → Flat T c j → Shallow σ rs i j
+      → entry rs (recordLength σ * i) ≡ pos k → (j : ℕ) → Flat σ T c j → Shallow σ rs i j
 
 -- The outline ns has no fault, and demand 3 holds of the curves that it describes.
 pub record OutlineDemand3 (σ : Setting) (T : ℤ) (ns rs : List ℤ) (x y : ℤ) (answer : Judgement) : Type 0 where

@@ -2,7 +2,7 @@
 // `specs/` and `proofs/`.
 ghost use mathlib.Core.Path.{_≡_};
 ghost use lib.ListN.{length};
-ghost use Rattle.setting.specs.Setting.{standard};
+ghost use Rattle.setting.specs.Setting.{lists};
 ghost use Rattle.band.specs.Banding.{banded};
 ghost use Rattle.engine.specs.Outcomes.{writtenFor, Answered};
 ghost use Rattle.engine.specs.Inside.{refusalOr};
@@ -22,26 +22,27 @@ pub enum Outcome {
     },
 }
 
-// Puts a band round an outline, writes the leaves' records to the front of the list, and judges the point (x, y)
-// against exactly these records. A refusal alters nothing, also that of the point.
+// Puts a band of m pieces a leaf round an outline, writes the leaves' records to the front of the list, and judges the
+// point (x, y) against exactly these records. A refusal alters nothing, also that of the point.
 pub fn band_and_judge(
     outline: &[i32],
     tolerance: i32,
+    m: u32,
     records: &mut [i32],
     x: i32,
     y: i32,
 ) -> Outcome
     ensures { λ r. ⌜ now (records .exit)
-        ≡ writtenFor standard tolerance (now (outline .entry)) x y (now (records .entry)) ⌝ }
-    ensures { λ r. ⌜ Answered standard tolerance (now (outline .entry)) x y (now (records .entry)) r ⌝ }
+        ≡ writtenFor (lists m) tolerance (now (outline .entry)) x y (now (records .entry)) ⌝ }
+    ensures { λ r. ⌜ Answered (lists m) tolerance (now (outline .entry)) x y (now (records .entry)) r ⌝ }
 {
     if !boxes::in_range(x) {
-        return Outcome::Refused(refusal_or(outline, tolerance, records, Refusal::PointX));
+        return Outcome::Refused(refusal_or(outline, tolerance, m, records, Refusal::PointX));
     }
     if !boxes::in_range(y) {
-        return Outcome::Refused(refusal_or(outline, tolerance, records, Refusal::PointY));
+        return Outcome::Refused(refusal_or(outline, tolerance, m, records, Refusal::PointY));
     }
-    let banded = band::band(outline, tolerance, records);
+    let banded = band::band(outline, tolerance, m, records);
     match banded {
         Banded::Refused(refusal) => Outcome::Refused(refusal),
         Banded::Done {
@@ -49,7 +50,8 @@ pub fn band_and_judge(
             leaves,
             nodes,
         } => {
-            let judgement = judge::judge(&records[..18 * leaves], x, y);
+            let record_length = 6 + 4 * (m as usize);
+            let judgement = judge::judge(&records[..record_length * leaves], m, x, y);
             Outcome::Judged {
                 curves,
                 leaves,
@@ -62,16 +64,23 @@ pub fn band_and_judge(
 
 // What a point out of range gets: banding's refusal, or where there is none that of the point. Banding is lent no
 // number of the list: so it writes none, and its 8 says how many leaves there are.
-fn refusal_or(ns: &[i32], tolerance: i32, records: &mut [i32], point: Refusal) -> Refusal
+fn refusal_or(ns: &[i32], tolerance: i32, m: u32, records: &mut [i32], point: Refusal) -> Refusal
     ensures { λ r. ⌜ now (records .exit) ≡ now (records .entry) ⌝ }
     ensures { λ r. ⌜ r
-        ≡ refusalOr point (banded standard tolerance (now (ns .entry)) (length (now (records .entry)))) ⌝ }
+        ≡ refusalOr point (banded (lists m) tolerance (now (ns .entry)) (length (now (records .entry)))) ⌝ }
 {
     let room = records.len();
-    let banded = band::band(ns, tolerance, &mut records[..0]);
+    let banded = band::band(ns, tolerance, m, &mut records[..0]);
     match banded {
         Banded::Refused(refusal) => match refusal {
-            Refusal::TooFewRecords(leaves) => { if room / 18 < leaves { refusal } else { point } }
+            Refusal::TooFewRecords(leaves) => {
+                let record_length = 6 + 4 * (m as usize);
+                if room / record_length < leaves {
+                    refusal
+                } else {
+                    point
+                }
+            }
             _ => refusal,
         },
         Banded::Done {

@@ -1,25 +1,24 @@
 -- A point beyond all boxes of a record on one side is held by none of its covers.
-use mathlib.Core.Path.{_≡_, refl, sym, ap, subst}
-use mathlib.Core.Bool.{Bool, true, false, not, _||_}
+use mathlib.Core.Path.{_≡_, refl, sym, subst}
+use mathlib.Core.Logic.{⊎-elim}
+use mathlib.Core.Bool.{Bool, true, false, _||_}
 use mathlib.Core.List.{List, [], _∷_}
-use Prim.Native.Nat.{ℕ, suc, _+_, _*_, _<_}
-use native.Mathlib.Nat.{zero-add}
+use Prim.Native.Nat.{ℕ, suc, _+_, _*_, _%_, _<_}
 use native.Mathlib.Omega.{arith}
 use lib.IntN.{ℤ, pos, _-ℤ_}
 use lib.Signed.{ltZ}
 use Rattle.integers.specs.Entry.{entry}
 use Rattle.integers.proofs.Ring.{sides}
-use Rattle.integers.proofs.Order.{gap<, lt-by}
+use Rattle.integers.proofs.Order.{gap<, lt-by, lt-or-ge}
 use Rattle.integers.proofs.Ranges.{lt-yes, yes-lt}
-use Rattle.integers.proofs.First.{bad-none}
 use Rattle.boxes.specs.declared.Box.{Box}
-use Rattle.boxes.specs.Ranges.{placeOr}
-use Rattle.setting.specs.Setting.{Setting, breakPoints, covers}
+use Rattle.setting.specs.Setting.{Setting, breakPoints, covers, recordLength}
 use Rattle.boxes.specs.Records.{boxAtIndex}
+use Rattle.boxes.proofs.Records.{record-next, one-record}
 use Rattle.judge_cover.specs.Deciding.{sidesOf, sidesX, outside, apart, held}
 use Rattle.judge_cover.proofs.Cuts.{apart-x, apart-y}
 use Rattle.judge.proofs.Passing.{pass-each}
-use Rattle.judge.specs.Inside.{heldAt, holderAt, belowAll, aboveAll, beyond}
+use Rattle.judge.specs.Inside.{heldAt, belowAll, aboveAll, beyond, apart as apartAt, ApartTo}
 
 -- ---- a cover
 below-out : (z a : ℤ) → ltZ z a ≡ true → ltZ (z -ℤ a) (pos 0) ≡ true
@@ -66,12 +65,23 @@ module _ (σ : Setting) (ns : List ℤ) (x y : ℤ) (at : ℕ) where
       go true f = sym (apart-x p q x y f)
       go false f = sym (apart-y p q x y f (beyond-apart σ ns (at + 4) y e i h (omega arith) (omega arith) (omega arith) (omega arith)))
 
-  none-held : ((i : ℕ) → i < covers σ → heldAt ns x y at i ≡ false) → covers σ ≡ placeOr (covers σ) (holderAt σ ns x y at)
-  unfolding holderAt
-  none-held f = sym (ap (placeOr (covers σ)) (bad-none (λ i. not (heldAt ns x y at i)) (covers σ) 0 (λ k h. rw (zero-add k, f k h))))
+  pub apart-held : apartAt σ x y ns at ≡ true → (i : ℕ) → i < covers σ → heldAt ns x y at i ≡ false
+  apart-held e = go (beyond σ x ns (at + 2)) refl e
+    where
+      go : (b : Bool) → beyond σ x ns (at + 2) ≡ b → (b || beyond σ y ns (at + 4)) ≡ true → (i : ℕ) → i < covers σ → heldAt ns x y at i ≡ false
+      go true f g = missed-x f
+      go false f g = missed-y g
 
-  pub beyond-x : beyond σ x ns (at + 2) ≡ true → covers σ ≡ placeOr (covers σ) (holderAt σ ns x y at)
-  beyond-x e = none-held (missed-x e)
+-- ---- records one after the other
+module _ {σ : Setting} {ns : List ℤ} {x y : ℤ} {from : ℕ} where
+  pub apart-here : from % recordLength σ ≡ 0 → ApartTo σ x y ns from from
+  apart-here e = record { whole = e; after = omega arith; each = λ k h l. absurd (omega arith) }
 
-  pub beyond-y : beyond σ y ns (at + 4) ≡ true → covers σ ≡ placeOr (covers σ) (holderAt σ ns x y at)
-  beyond-y e = none-held (missed-y e)
+  pub apart-more : {at : ℕ} → ApartTo σ x y ns from at → apartAt σ x y ns at ≡ true → ApartTo σ x y ns from (at + recordLength σ)
+  apart-more {at} a e = record {
+    whole = record-next (recordLength σ) at (a .whole);
+    after = let h = a .after in omega arith;
+    each = λ k h l. ⊎-elim (a .each k h)
+        (λ m. subst (λ n. apartAt σ x y ns n ≡ true) (sym (one-record (recordLength σ) k (a .whole) m l)) e)
+        (lt-or-ge (recordLength σ * k) at);
+  }

@@ -5,8 +5,16 @@ use mathlib.Core.Logic.{⊎-elim}
 use mathlib.Core.Bool.{Bool, true, false, not}
 use mathlib.Core.List.{List}
 use mathlib.Core.Option.{none, some}
-use Prim.Native.Nat.{ℕ, zero, suc, _+_, _*_, _-_, _%_, _≤_, _<_}
-use native.Mathlib.Nat.{zero-add, mul-zero, mul-mod-right, eq-or-lt-of-le, lt-of-mul-lt-mul-left}
+use Prim.Native.Nat.{ℕ, zero, suc, _+_, _*_, _-_, _/_, _%_, _≤_, _<_}
+use native.Mathlib.Nat.{
+  zero-add,
+  mul-zero,
+  mul-mod-right,
+  mul-le-mul-left,
+  mul-lt-mul-of-pos-left,
+  eq-or-lt-of-le,
+  lt-of-mul-lt-mul-left,
+}
 use native.Mathlib.Omega.{arith}
 use lib.ListN.{length}
 use lib.IntN.{ℤ, pos, negℤ, natAbs}
@@ -15,6 +23,7 @@ use borrow.Author.Tests.{not-true, not-false}
 use Rattle.integers.specs.Entry.{entry}
 use Rattle.integers.specs.First.{firstBad}
 use Rattle.integers.proofs.Clash.{clash}
+use Rattle.integers.proofs.Order.{lt-or-ge}
 use Rattle.integers.proofs.Size.{abs-within}
 use Rattle.integers.proofs.Between.{between-low, between-high}
 use Rattle.integers.proofs.First.{none-bad, bad-none, bad-is, bad-first}
@@ -23,7 +32,7 @@ use Rattle.boxes.specs.declared.Box.{Box}
 use Rattle.boxes.specs.Ranges.{farthest, inRange, lowFine, boxNumberFine, placeOr}
 use Rattle.setting.specs.Setting.{Setting, breakPoints, covers, recordLength}
 use Rattle.boxes.specs.Records.{boxIndex, boxAtIndex}
-use Rattle.boxes.proofs.Records.{record-left}
+use Rattle.boxes.proofs.Records.{record-left, whole-is}
 use Rattle.boxes.proofs.Faults.{place-some, place-none}
 use Rattle.judge_list.specs.Checks.{numberFault}
 use Rattle.judge_list.specs.Inside.{fineAt, recordFaultAt}
@@ -34,7 +43,8 @@ use Rattle.judge_cover.specs.Inside.{BoxInRange}
 use Rattle.judge_cover.proofs.Deciding.{held-exactly}
 use Rattle.judge.specs.declared.judging.Judgement.the-variants.{On, Off}
 use Rattle.judge.specs.Judging.{Passed, Verdict}
-use Rattle.judge.specs.Inside.{RecordAt, heldAt, holderAt}
+use Rattle.judge.specs.Inside.{RecordAt, heldAt, holderAt, ApartTo}
+use Rattle.judge.proofs.Apart.{apart-held}
 use Rattle.judge.proofs.Judgements.{whole-of}
 
 pub range-size : (z : ℤ) → inRange z ≡ true → natAbs z ≤ farthest
@@ -168,6 +178,26 @@ module _ {σ : Setting} {ns : List ℤ} {x y : ℤ} {at leaf : ℕ} (s : Searche
       last k i m e =
           let a : at ≡ recordLength σ * k = s .begins ∙ ap (λ n. recordLength σ * n) (sym e) in
           holder-none σ ns x y (recordLength σ * k) (subst (λ b. covers σ ≤ placeOr (covers σ) (holderAt σ ns x y b)) a h) i m
+
+  -- records that the point is apart from are searched as well
+  pub searched-over : {to : ℕ} → ApartTo σ x y ns at to → Searched σ ns x y to (to / recordLength σ)
+  searched-over {to} a =
+      let e = whole-is (recordLength σ) to (a .whole) in
+      record {
+        begins = e;
+        no-cover = λ k i l m. ⊎-elim
+            (λ n. s .no-cover k i n m)
+            (λ n. apart-held σ ns x y (recordLength σ * k) (a .each k (from k n) (before k l e)) i m)
+            (lt-or-ge k leaf);
+      }
+    where
+      from : (k : ℕ) → leaf ≤ k → at ≤ recordLength σ * k
+      from k n = let b = s .begins in omega (arith, mul-le-mul-left {m = leaf} {n = k} (recordLength σ) n)
+
+      before : (k : ℕ) → k < to / recordLength σ → to ≡ recordLength σ * (to / recordLength σ) → recordLength σ * k < to
+      before k l e =
+          let p : 0 < recordLength σ = omega arith in
+          omega (arith, mul-lt-mul-of-pos-left {m = k} {n = to / recordLength σ} l p)
 
   pub found-on : (i : ℕ) → at < length ns → i ≡ placeOr (covers σ) (holderAt σ ns x y at) → i < covers σ → Verdict σ none ns x y (On leaf i)
   found-on i h e l =

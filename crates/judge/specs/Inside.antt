@@ -4,7 +4,7 @@ use mathlib.Core.Bool.{Bool, true, not, _&&_, _||_}
 use mathlib.Core.List.{List}
 use mathlib.Core.Option.{Option, none}
 use mathlib.Core.Path.{_≡_}
-use Prim.Native.Nat.{ℕ, zero, suc, _+_, _*_, _≤_}
+use Prim.Native.Nat.{ℕ, zero, suc, _+_, _*_, _%_, _≤_, _<_}
 use lib.ListN.{length}
 use lib.IntN.{ℤ, natAbs}
 use lib.Signed.{ltZ}
@@ -49,3 +49,13 @@ aboveAll σ z ns at = allPass (λ high. ltZ high z) ns at (breakPoints σ)
 -- the first low of the coordinate stands at index `at`
 abbrev pub beyond : Setting → ℤ → List ℤ → ℕ → Bool
 beyond σ z ns at = belowAll σ z ns at || aboveAll σ z ns (at + 1)
+
+-- the record begins at index `at`: its boxes' numbers in x from index at + 2 on, in y from at + 4 on
+abbrev pub apart : Setting → (x y : ℤ) → List ℤ → ℕ → Bool
+apart σ x y ns at = beyond σ x ns (at + 2) || beyond σ y ns (at + 4)
+
+-- a record begins at index `to` or the list ends there, and every record from index `from` to there is apart
+pub record ApartTo (σ : Setting) (x y : ℤ) (ns : List ℤ) (from to : ℕ) : Type 0 where
+  pub whole : to % recordLength σ ≡ 0
+  pub after : from ≤ to
+  pub each : (k : ℕ) → from ≤ recordLength σ * k → recordLength σ * k < to → apart σ x y ns (recordLength σ * k) ≡ true

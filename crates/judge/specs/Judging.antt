@@ -8,9 +8,9 @@ use Prim.Native.Nat.{ℕ, _*_, _<_}
 use lib.ListN.{length}
 use lib.IntN.{ℤ}
 use Rattle.refusals.specs.declared.Refusal.{Refusal}
-use Rattle.refusals.specs.declared.Refusal.the-variants.{LeafListLength, LeafListNumber, PointX, PointY}
+use Rattle.refusals.specs.declared.Refusal.the-variants.{Pieces, LeafListLength, LeafListNumber, PointX, PointY}
 use Rattle.boxes.specs.Ranges.{inRange}
-use Rattle.setting.specs.Setting.{Setting, covers, recordLength}
+use Rattle.setting.specs.Setting.{Setting, piecesFine, covers, recordLength}
 use Rattle.judge_list.specs.Checks.{lengthFine, numberFault}
 use Rattle.judge_cover.specs.Covers.{CoverHolds}
 use Rattle.judge.specs.declared.judging.Judgement.{Judgement}
@@ -24,12 +24,15 @@ pointFault x y =
       | true ↦ elim (inRange y) [ false ↦ some PointY | true ↦ none ]
     ]
 
--- ---- 9, 10 and 11 in this order
+-- ---- 18, 9, 10 and 11 in this order
 unfoldable pub judgingFault : Setting → List ℤ → (x y : ℤ) → Option Refusal
 judgingFault σ ns x y =
-    elim (lengthFine σ (length ns)) [
-      | false ↦ some (LeafListLength (length ns))
-      | true ↦ elim (numberFault σ ns) [ some i ↦ some (LeafListNumber i) | none ↦ pointFault x y ]
+    elim (piecesFine (σ .pieces)) [
+      | false ↦ some Pieces
+      | true ↦ elim (lengthFine σ (length ns)) [
+        | false ↦ some (LeafListLength (length ns))
+        | true ↦ elim (numberFault σ ns) [ some i ↦ some (LeafListNumber i) | none ↦ pointFault x y ]
+      ]
     ]
 
 -- a list that passes 9 and 10

@@ -1,17 +1,17 @@
-// A point beyond all boxes of a record on one side: a few comparisons turn the record away.
+// A point apart from a record, beyond all its boxes on one side: a few comparisons turn the record away.
 ghost use mathlib.Core.Path.{_≡_};
-ghost use Prim.Native.Nat.{_+_, _≤_};
+ghost use Prim.Native.Nat.{_+_, _*_, _%_, _≤_};
 ghost use lib.ListN.{length};
-ghost use Rattle.setting.specs.Setting.{standard};
-ghost use Rattle.judge.specs.Inside.{belowAll, aboveAll, beyond};
+ghost use Rattle.setting.specs.Setting.{lists, HasRows, recordLength};
+ghost use Rattle.judge.specs.Inside.{belowAll, aboveAll, beyond, apart, ApartTo};
 
-// Whether z is below the four numbers that stand four apart from index `at` on.
-fn below_all(leaves: &[i32], at: usize, z: i64) -> bool
-    requires { ⌜ at + 13 ≤ length (now leaves) ⌝ }
-    ensures { λ r. ⌜ r ≡ belowAll standard z (now (leaves .entry)) at ⌝ }
+// Whether z is below the m + 1 numbers that stand four apart from index `at` on.
+fn below_all(leaves: &[i32], m: usize, at: usize, z: i64) -> bool
+    requires { ⌜ at + (4 * m + 1) ≤ length (now leaves) ⌝ }
+    ensures { λ r. ⌜ r ≡ belowAll (lists m) z (now (leaves .entry)) at ⌝ }
 {
     let mut i: usize = 0;
-    while i < 4 {
+    while i <= m {
         let low = leaves[at + 4 * i] as i64;
         if low <= z {
             return false;
@@ -21,13 +21,13 @@ fn below_all(leaves: &[i32], at: usize, z: i64) -> bool
     true
 }
 
-// Whether z is above the four numbers that stand four apart from index `at` on.
-fn above_all(leaves: &[i32], at: usize, z: i64) -> bool
-    requires { ⌜ at + 13 ≤ length (now leaves) ⌝ }
-    ensures { λ r. ⌜ r ≡ aboveAll standard z (now (leaves .entry)) at ⌝ }
+// Whether z is above the m + 1 numbers that stand four apart from index `at` on.
+fn above_all(leaves: &[i32], m: usize, at: usize, z: i64) -> bool
+    requires { ⌜ at + (4 * m + 1) ≤ length (now leaves) ⌝ }
+    ensures { λ r. ⌜ r ≡ aboveAll (lists m) z (now (leaves .entry)) at ⌝ }
 {
     let mut i: usize = 0;
-    while i < 4 {
+    while i <= m {
         let high = leaves[at + 4 * i] as i64;
         if z <= high {
             return false;
@@ -37,13 +37,63 @@ fn above_all(leaves: &[i32], at: usize, z: i64) -> bool
     true
 }
 
-// Whether z is below every low of a record's boxes, the first of which stands at index `at`, or above every high.
-pub fn beyond(leaves: &[i32], at: usize, z: i64) -> bool
-    requires { ⌜ at + 14 ≤ length (now leaves) ⌝ }
-    ensures { λ r. ⌜ r ≡ beyond standard z (now (leaves .entry)) at ⌝ }
+// Whether z is below every low of the boxes of a record of m pieces, the first of which stands at index `at`, or above
+// every high.
+fn beyond(leaves: &[i32], m: usize, at: usize, z: i64) -> bool
+    requires { ⌜ at + (4 * m + 2) ≤ length (now leaves) ⌝ }
+    ensures { λ r. ⌜ r ≡ beyond (lists m) z (now (leaves .entry)) at ⌝ }
 {
-    if below_all(leaves, at, z) {
+    if below_all(leaves, m, at, z) {
         return true;
     }
-    above_all(leaves, at + 1, z)
+    above_all(leaves, m, at + 1, z)
+}
+
+// Whether the point (x, y) is apart from the record of m pieces that begins at index `at`: beyond all its boxes on one
+// side.
+fn apart(leaves: &[i32], m: usize, at: usize, x: i64, y: i64) -> bool
+    requires { ⌜ at + recordLength (lists m) ≤ length (now leaves) ⌝ }
+    ensures { λ r. ⌜ r ≡ apart (lists m) x y (now (leaves .entry)) at ⌝ }
+{
+    if beyond(leaves, m, at + 2, x) {
+        return true;
+    }
+    beyond(leaves, m, at + 4, y)
+}
+
+// The index of the first record of m pieces from index `from` on that the point (x, y) is not apart from, or one past
+// the last record.
+fn near_from(leaves: &[i32], m: usize, from: usize, x: i64, y: i64) -> usize
+    requires { ⌜ (HasRows m) × (length (now leaves) % recordLength (lists m) ≡ 0)
+        × (from % recordLength (lists m) ≡ 0) ⌝ }
+    ensures { λ r. ⌜ ApartTo (lists m) x y (now (leaves .entry)) from r ⌝ }
+{
+    let record_length = 6 + 4 * m;
+    let mut at = from;
+    while at < leaves.len() {
+        if !apart(leaves, m, at, x, y) {
+            return at;
+        }
+        at += record_length;
+    }
+    at
+}
+
+// The index of the first record of m pieces from index `from` on that the point (x, y) is not apart from, or one past
+// the last record. Each m has a call of its own, so that the compiler knows how many boxes a record has.
+pub fn next_near(leaves: &[i32], m: usize, from: usize, x: i64, y: i64) -> usize
+    requires { ⌜ (HasRows m) × (length (now leaves) % recordLength (lists m) ≡ 0)
+        × (from % recordLength (lists m) ≡ 0) ⌝ }
+    ensures { λ r. ⌜ ApartTo (lists m) x y (now (leaves .entry)) from r ⌝ }
+{
+    match m {
+        1 => near_from(leaves, 1, from, x, y),
+        2 => near_from(leaves, 2, from, x, y),
+        3 => near_from(leaves, 3, from, x, y),
+        4 => near_from(leaves, 4, from, x, y),
+        5 => near_from(leaves, 5, from, x, y),
+        6 => near_from(leaves, 6, from, x, y),
+        7 => near_from(leaves, 7, from, x, y),
+        _ => near_from(leaves, 8, from, x, y),
+    }
 }

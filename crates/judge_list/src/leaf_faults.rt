@@ -2,7 +2,7 @@
 ghost use mathlib.Core.Path.{_≡_};
 ghost use Prim.Native.Nat.{_+_, _≤_, _%_};
 ghost use lib.ListN.{length};
-ghost use Rattle.setting.specs.Setting.{standard, recordLength};
+ghost use Rattle.setting.specs.Setting.{lists, HasRows, recordLength};
 ghost use Rattle.boxes.specs.Ranges.{placeOr};
 ghost use Rattle.boxes.specs.Records.{boxAtIndex};
 ghost use Rattle.judge_list.specs.Checks.{numberFault};
@@ -27,26 +27,26 @@ pub fn box_in(leaves: &[i32], at: usize) -> Box
     }
 }
 
-// The place of the first bad number of the four boxes from index `at` on, or 16.
-fn boxes_fault(leaves: &[i32], at: usize) -> usize
-    requires { ⌜ at + inBoxes standard ≤ length (now leaves) ⌝ }
-    ensures { λ r. ⌜ r ≡ placeOr (inBoxes standard) (boxesFaultAt (now (leaves .entry)) at (inBoxes standard)) ⌝ }
+// The place of the first bad number of the m + 1 boxes from index `at` on, or 4m + 4.
+fn boxes_fault(leaves: &[i32], m: usize, at: usize) -> usize
+    requires { ⌜ at + inBoxes (lists m) ≤ length (now leaves) ⌝ }
+    ensures { λ r. ⌜ r ≡ placeOr (inBoxes (lists m)) (boxesFaultAt (now (leaves .entry)) at (inBoxes (lists m))) ⌝ }
 {
     let mut i: usize = 0;
-    while i < 4 {
+    while i <= m {
         let place = box_in(leaves, at + 4 * i).fault();
         if place < 4 {
             return 4 * i + place;
         }
         i += 1;
     }
-    16
+    4 * m + 4
 }
 
-// The place of the first bad number of the record that begins at index `at`, or 18.
-fn record_fault(leaves: &[i32], at: usize) -> usize
-    requires { ⌜ at + recordLength standard ≤ length (now leaves) ⌝ }
-    ensures { λ r. ⌜ r ≡ placeOr (recordLength standard) (recordFaultAt standard (now (leaves .entry)) at) ⌝ }
+// The place of the first bad number of the record of m pieces that begins at index `at`, or 4m + 6.
+fn record_fault(leaves: &[i32], m: usize, at: usize) -> usize
+    requires { ⌜ at + recordLength (lists m) ≤ length (now leaves) ⌝ }
+    ensures { λ r. ⌜ r ≡ placeOr (recordLength (lists m)) (recordFaultAt (lists m) (now (leaves .entry)) at) ⌝ }
 {
     let curve = leaves[at];
     if curve < 0 {
@@ -62,33 +62,35 @@ fn record_fault(leaves: &[i32], at: usize) -> usize
     if 511 < node {
         return 1;
     }
-    2 + boxes_fault(leaves, at + 2)
+    2 + boxes_fault(leaves, m, at + 2)
 }
 
-// The index of the first bad number of a list of whole records, or the list's length, looked for record by record.
-fn first_fault(leaves: &[i32]) -> usize
-    requires { ⌜ length (now leaves) % recordLength standard ≡ 0 ⌝ }
-    ensures { λ r. ⌜ r ≡ placeOr (length (now (leaves .entry))) (numberFault standard (now (leaves .entry))) ⌝ }
+// The index of the first bad number of a list of whole records of m pieces, or the list's length, looked for record by
+// record.
+fn first_fault(leaves: &[i32], m: usize) -> usize
+    requires { ⌜ (HasRows m) × (length (now leaves) % recordLength (lists m) ≡ 0) ⌝ }
+    ensures { λ r. ⌜ r ≡ placeOr (length (now (leaves .entry))) (numberFault (lists m) (now (leaves .entry))) ⌝ }
 {
+    let record_length = 6 + 4 * m;
     let mut at: usize = 0;
     while at < leaves.len() {
-        let place = record_fault(leaves, at);
-        if place < 18 {
+        let place = record_fault(leaves, m, at);
+        if place < record_length {
             return at + place;
         }
-        at += 18;
+        at += record_length;
     }
     leaves.len()
 }
 
-// The index of the first bad number of a list of whole records, or the list's length. The numbers are looked at one by
-// one only in a list that has a bad one.
-pub fn number_fault(leaves: &[i32]) -> usize
-    requires { ⌜ length (now leaves) % recordLength standard ≡ 0 ⌝ }
-    ensures { λ r. ⌜ r ≡ placeOr (length (now (leaves .entry))) (numberFault standard (now (leaves .entry))) ⌝ }
+// The index of the first bad number of a list of whole records of m pieces, or the list's length. The numbers are
+// looked at one by one only in a list that has a bad one.
+pub fn number_fault(leaves: &[i32], m: usize) -> usize
+    requires { ⌜ (HasRows m) × (length (now leaves) % recordLength (lists m) ≡ 0) ⌝ }
+    ensures { λ r. ⌜ r ≡ placeOr (length (now (leaves .entry))) (numberFault (lists m) (now (leaves .entry))) ⌝ }
 {
-    if list_fine(leaves) {
+    if list_fine(leaves, m) {
         return leaves.len();
     }
-    first_fault(leaves)
+    first_fault(leaves, m)
 }

@@ -1,7 +1,7 @@
 // Callers of the functions that `contour` exports to programs in other languages.
 ghost use mathlib.Core.Path.{_≡_};
 ghost use lib.ListN.{length};
-ghost use Rattle.setting.specs.Setting.{standard};
+ghost use Rattle.setting.specs.Setting.{lists};
 ghost use Rattle.band.specs.Banding.{banded, written};
 ghost use Rattle.draw.specs.Drawing.{drawn, drawnInto};
 ghost use Rattle.contour.specs.Numbers.{bandAnswerOf};
@@ -14,32 +14,34 @@ use contour::c_answers::Answer;
 use contour::c_answers::Drawing;
 use contour::c_answers::JudgingAnswer;
 
-pub fn contour_band(outline: &[i32], tolerance: i32, records: &mut [i32]) -> Answer
+pub fn contour_band(outline: &[i32], tolerance: i32, m: u32, records: &mut [i32]) -> Answer
     ensures { λ r. ⌜ r
-        ≡ bandAnswerOf (banded standard tolerance (now (outline .entry)) (length (now (records .entry)))) ⌝ }
-    ensures { λ r. ⌜ now (records .exit) ≡ written standard tolerance (now (outline .entry)) (now (records .entry)) ⌝ }
+        ≡ bandAnswerOf (banded (lists m) tolerance (now (outline .entry)) (length (now (records .entry)))) ⌝ }
+    ensures { λ r. ⌜ now (records .exit)
+        ≡ written (lists m) tolerance (now (outline .entry)) (now (records .entry)) ⌝ }
 {
-    contour::contour_band(outline, tolerance, records)
+    contour::contour_band(outline, tolerance, m, records)
 }
 
-pub fn contour_judge(leaves: &[i32], x: i32, y: i32) -> JudgingAnswer
-    ensures { λ r. ⌜ JudgedInNumbers (now (leaves .entry)) x y r ⌝ }
+pub fn contour_judge(leaves: &[i32], m: u32, x: i32, y: i32) -> JudgingAnswer
+    ensures { λ r. ⌜ JudgedInNumbers (lists m) (now (leaves .entry)) x y r ⌝ }
 {
-    contour::contour_judge(leaves, x, y)
+    contour::contour_judge(leaves, m, x, y)
 }
 
 pub fn contour_band_and_judge(
     outline: &[i32],
     tolerance: i32,
+    m: u32,
     records: &mut [i32],
     x: i32,
     y: i32,
 ) -> OutcomeAnswer
     ensures { λ r. ⌜ now (records .exit)
-        ≡ writtenFor standard tolerance (now (outline .entry)) x y (now (records .entry)) ⌝ }
-    ensures { λ r. ⌜ AnsweredInNumbers tolerance (now (outline .entry)) x y (now (records .entry)) r ⌝ }
+        ≡ writtenFor (lists m) tolerance (now (outline .entry)) x y (now (records .entry)) ⌝ }
+    ensures { λ r. ⌜ AnsweredInNumbers (lists m) tolerance (now (outline .entry)) x y (now (records .entry)) r ⌝ }
 {
-    contour::contour_band_and_judge(outline, tolerance, records, x, y)
+    contour::contour_band_and_judge(outline, tolerance, m, records, x, y)
 }
 
 pub fn contour_draw(first: Box, second: Box, vertices: &mut [i32]) -> Drawing

@@ -1,9 +1,8 @@
 // Callers of banding, judging and drawing.
 ghost use mathlib.Core.Path.{_≡_};
 ghost use lib.ListN.{length};
-ghost use Rattle.setting.specs.Setting.{standard};
+ghost use Rattle.setting.specs.Setting.{lists};
 ghost use Rattle.band.specs.Banding.{banded, written};
-ghost use Rattle.setting.specs.Setting.{standard};
 ghost use Rattle.judge.specs.Judging.{Judged};
 ghost use Rattle.draw.specs.Drawing.{drawn, drawnInto};
 use band::banding::Banded;
@@ -11,17 +10,18 @@ use boxes::Box;
 use draw::drawing::Drawn;
 use judge::judging::Judgement;
 
-pub fn band(outline: &[i32], tolerance: i32, records: &mut [i32]) -> Banded
-    ensures { λ r. ⌜ r ≡ banded standard tolerance (now (outline .entry)) (length (now (records .entry))) ⌝ }
-    ensures { λ r. ⌜ now (records .exit) ≡ written standard tolerance (now (outline .entry)) (now (records .entry)) ⌝ }
+pub fn band(outline: &[i32], tolerance: i32, m: u32, records: &mut [i32]) -> Banded
+    ensures { λ r. ⌜ r ≡ banded (lists m) tolerance (now (outline .entry)) (length (now (records .entry))) ⌝ }
+    ensures { λ r. ⌜ now (records .exit)
+        ≡ written (lists m) tolerance (now (outline .entry)) (now (records .entry)) ⌝ }
 {
-    band::band(outline, tolerance, records)
+    band::band(outline, tolerance, m, records)
 }
 
-pub fn judge(leaves: &[i32], x: i32, y: i32) -> Judgement
-    ensures { λ r. ⌜ Judged standard (now (leaves .entry)) x y r ⌝ }
+pub fn judge(leaves: &[i32], m: u32, x: i32, y: i32) -> Judgement
+    ensures { λ r. ⌜ Judged (lists m) (now (leaves .entry)) x y r ⌝ }
 {
-    judge::judge(leaves, x, y)
+    judge::judge(leaves, m, x, y)
 }
 
 pub fn draw(first: Box, second: Box, vertices: &mut [i32]) -> Drawn

@@ -1,4 +1,4 @@
--- The number and the spot of each refusal (document 01, "Place of each check"; 17 is request 03's).
+-- The number and the spot of each refusal (document 01, "Place of each check"; 17 is request 03's, 18 request 05's).
 use Prim.Native.Nat.{ℕ, _+_, _*_}
 use Rattle.refusals.specs.declared.Refusal.{Refusal}
 use Rattle.refusals.specs.declared.Refusal.the-variants.{
@@ -20,6 +20,7 @@ use Rattle.refusals.specs.declared.Refusal.the-variants.{
   OutOfOrder,
   TextTooLong,
   Gap,
+  Pieces,
 }
 
 abbrev pub numberOf : Refusal → ℕ
@@ -41,6 +42,7 @@ numberOf (NotAForm line) = 14
 numberOf (OutOfOrder line) = 15
 numberOf (TextTooLong first) = 16
 numberOf (Gap index) = 17
+numberOf Pieces = 18
 
 -- a curve and a node of it as one number
 abbrev pub nodeSpot : ℕ → ℕ → ℕ
@@ -65,3 +67,4 @@ spotOf (NotAForm line) = line
 spotOf (OutOfOrder line) = line
 spotOf (TextTooLong first) = first
 spotOf (Gap index) = index
+spotOf Pieces = 0

@@ -39,6 +39,8 @@ pub enum Refusal {
     TextTooLong(usize),
     // 17: a curve does not begin where the one before it ends, its degree at this index.
     Gap(usize),
+    // 18: the number of pieces is outside its range.
+    Pieces,
 }
 
 impl Refusal {
@@ -65,6 +67,7 @@ impl Refusal {
             Refusal::OutOfOrder(_) => 15,
             Refusal::TextTooLong(_) => 16,
             Refusal::Gap(_) => 17,
+            Refusal::Pieces => 18,
         }
     }
 
@@ -91,6 +94,7 @@ impl Refusal {
             Refusal::OutOfOrder(line) => line,
             Refusal::TextTooLong(first) => first,
             Refusal::Gap(index) => index,
+            Refusal::Pieces => 0,
         }
     }
 }

@@ -1,6 +1,8 @@
 -- What the operations leave open, in one record, and the sizes that follow from it (document 01). Definitions take a
 -- setting; an operation's contract says which.
+use mathlib.Core.Bool.{Bool, _&&_}
 use Prim.Native.Nat.{ℕ, suc, _+_, _*_, _≤_}
+use lib.Dec.{leb}
 
 pub record Setting : Type 0 where
   -- the most curves that an outline may have
@@ -8,11 +10,19 @@ pub record Setting : Type 0 where
   -- how many pieces a leaf has, so that its break points are 0 to this number
   pub pieces : ℕ
 
--- document 01's
-abbrev pub standard : Setting
-standard = record { most = 64; pieces = 3 }
+-- that of a caller who gives lists and the number of pieces, m (request 05)
+abbrev pub lists : ℕ → Setting
+lists m = record { most = 64; pieces = m }
 
--- the numbers of pieces that there are rows for
+-- that of texts, document 01's
+abbrev pub standard : Setting
+standard = lists 3
+
+-- 18: the number of pieces is 1 to 8
+abbrev pub piecesFine : ℕ → Bool
+piecesFine m = leb 1 m && leb m 8
+
+-- the same in words: there are rows for so many pieces
 pub record HasRows (m : ℕ) : Type 0 where
   pub least : 1 ≤ m
   pub most : m ≤ 8

@@ -1,3 +1,2 @@
 -- Laws of the walk of a curve. Each file opens with what it holds.
 pub mod Parts
-pub mod Thirds

@@ -1,9 +1,11 @@
 // The walk of a curve in parameter order, from its root on: where it stands, its steps, and a curve walked.
 ghost use mathlib.Core.Path.{_≡_};
 ghost use Prim.Native.Nat.{_<_, _^_};
-ghost use Rattle.setting.specs.Setting.{standard, deepest};
+ghost use Rattle.setting.specs.Setting.{lists, deepest};
 ghost use Rattle.curve_nodes.specs.Bounds.{Sized};
+ghost use Rattle.bound_node.specs.Inside.{Ready};
 ghost use Rattle.walk_curve.specs.Inside.{Standing, leftPart, AfterOf, walkedOf};
+use bound_node::pieces::Pieces;
 use curve_nodes::Curve;
 
 // Where a walk stands: a node, with the node's own curve. Every step follows from it alone, so no walk keeps a stack.
@@ -49,17 +51,17 @@ pub enum Walked {
     WideNode(u32),
 }
 
-// The leaves of a curve, counted.
-pub fn walk(curve: Curve, t: i64) -> Walked
-    requires { ⌜ Sized 0 curve ⌝ }
-    ensures { λ r. ⌜ r ≡ walkedOf standard t curve ⌝ }
+// The leaves of a curve, counted. The rows lent are those of the number of pieces.
+pub fn walk(rows: &[i64], pieces: Pieces, curve: Curve, t: i64) -> Walked
+    requires { ⌜ (Ready pieces (now rows)) × (Sized 0 curve) ⌝ }
+    ensures { λ r. ⌜ r ≡ walkedOf (lists (pieces .m)) t curve ⌝ }
 {
     let mut part = Part { node: 1, curve };
     let mut leaves: usize = 0;
     loop {
         let node = part.node;
         let own = part.curve;
-        if bound_node::node_test::meets(own, curve_nodes::depth(node), t) {
+        if bound_node::tolerance::meets(rows, pieces, own, curve_nodes::depth(node), t) {
             leaves += 1;
             part = part.after();
             if part.node == 1 {

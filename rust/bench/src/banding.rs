@@ -2,6 +2,7 @@
 
 use crate::times::{by_turns, heading};
 use bench::outlines::{cubics, nominal};
+use contour_band::record_length;
 use std::hint::black_box;
 
 /// Prints the table of proved time over plain time.
@@ -11,32 +12,35 @@ pub fn run() {
     println!(
         "Banding. Times are medians in microseconds, with the least in brackets; both engines take turns."
     );
-    println!("{:<28} {:>6} {:>7} {:>7} {}  buffers", "input", "curves", "leaves", "nodes", heading("plain"));
-    for tolerance in [3, 16, 256, 65_536] {
-        row(&format!("64 cubic curves, T {tolerance}"), &cubics, tolerance);
-    }
-    for tolerance in [3, 16] {
-        row(&format!("nominal, 20 curves, T {tolerance}"), &nominal, tolerance);
+    println!("{:<32} {:>6} {:>7} {:>7} {}  buffers", "input", "curves", "leaves", "nodes", heading("plain"));
+    for m in [3, 1, 8] {
+        // With one piece the cubic curves are refused at T 3.
+        for tolerance in [3, 16, 256, 65_536].into_iter().skip(usize::from(m == 1)) {
+            row(&format!("64 cubic curves, T {tolerance}, m {m}"), &cubics, tolerance, m);
+        }
+        for tolerance in [3, 16] {
+            row(&format!("nominal, 20 curves, T {tolerance}, m {m}"), &nominal, tolerance, m);
+        }
     }
 }
 
 /// Times both engines on one input and prints a line.
-fn row(name: &str, outline: &[i32], tolerance: i32) {
-    let room = 18 * 256 * 64;
+fn row(name: &str, outline: &[i32], tolerance: i32, m: u32) {
+    let room = record_length(m) * 256 * 64;
     let (mut by_plain, mut by_proved) = (vec![-1; room], vec![-1; room]);
     let (times, plain, proved) = by_turns(
-        || plain::band(black_box(outline), tolerance, black_box(&mut by_plain)),
-        || contour_band::band(black_box(outline), tolerance, black_box(&mut by_proved)),
+        || plain::band(black_box(outline), tolerance, m, black_box(&mut by_plain)),
+        || contour_band::band(black_box(outline), tolerance, m, black_box(&mut by_proved)),
     );
     let (Ok(plain), Ok(proved)) = (plain, proved) else {
         panic!("{name}: the outline is refused");
     };
     let report = (plain.curves, plain.leaves, plain.nodes);
     let same = report == (proved.curves, proved.leaves, proved.nodes) && by_plain == by_proved;
-    let written = 18 * report.1 as usize;
+    let written = record_length(m) * report.1 as usize;
     let untouched = by_proved[written..].iter().all(|&n| n == -1);
     println!(
-        "{:<28} {:>6} {:>7} {:>7} {}  {}, rest {}",
+        "{:<32} {:>6} {:>7} {:>7} {}  {}, rest {}",
         name,
         report.0,
         report.1,

@@ -1,43 +1,46 @@
 //! Judging: the table.
 
 use crate::times::{by_turns, heading};
-use bench::points::{beside, far, leaves, mixed, near, refused, Point, LEAVES, POINTS};
+use bench::points::{beside, far, leaves, mixed, near, refused, Leaves, Point, LEAVES, POINTS};
 use std::hint::black_box;
 
 /// Prints the table of proved time over plain time.
 pub fn run() {
-    let leaves = leaves();
     println!(
         "Judging {POINTS} points against {LEAVES} leaves. Times are medians in microseconds for all points, with the \
          least in brackets; both engines take turns."
     );
-    println!("{:<28} {:>7} {:>7} {}  answers", "points", "on", "off", heading("plain"));
-    row("on the band", &leaves, &near(&leaves));
-    row("beside the band", &leaves, &beside(&leaves));
-    row("far from the band", &leaves, &far());
-    row("a third of each", &leaves, &mixed(&leaves));
-    row("refused, leaves checked", &leaves, &refused());
+    println!("{:<32} {:>7} {:>7} {}  answers", "points", "on", "off", heading("plain"));
+    for m in [3, 1, 8] {
+        let leaves = leaves(m);
+        row(&format!("on the band, m {m}"), &leaves, &near(&leaves));
+        row(&format!("beside the band, m {m}"), &leaves, &beside(&leaves));
+        row(&format!("far from the band, m {m}"), &leaves, &far());
+        row(&format!("a third of each, m {m}"), &leaves, &mixed(&leaves));
+        row(&format!("refused, leaves checked, m {m}"), &leaves, &refused());
+    }
 }
 
 /// Times both engines on the same points and prints a line.
-fn row(name: &str, leaves: &[i32], points: &[Point]) {
+fn row(name: &str, leaves: &Leaves, points: &[Point]) {
+    let Leaves { ref records, m } = *leaves;
     let (times, plain, proved) = by_turns(
         || {
             judge_all(points, |x, y| {
-                let judged = plain::judge(black_box(leaves), x, y).ok()?;
+                let judged = plain::judge(black_box(records), m, x, y).ok()?;
                 Some(matches!(judged, plain::Judgement::On { .. }))
             })
         },
         || {
             judge_all(points, |x, y| {
-                contour_band::judge(black_box(leaves), x, y).ok().map(|judged| judged.is_on())
+                contour_band::judge(black_box(records), m, x, y).ok().map(|judged| judged.is_on())
             })
         },
     );
     let count = |answer| plain.iter().filter(|&&is_on| is_on == Some(answer)).count();
     let same = plain == proved;
     println!(
-        "{:<28} {:>7} {:>7} {}  {}",
+        "{:<32} {:>7} {:>7} {}  {}",
         name,
         count(true),
         count(false),

@@ -2,8 +2,8 @@
 
 use std::f64::consts::TAU;
 
-/// 64 cubic curves round a circle that swing in and out, nearly as far as T 3 accepts: at T 3 most
-/// leaves are at depth 8.
+/// 64 cubic curves round a circle that swing in and out, nearly as far as T 3 accepts with three pieces: at
+/// T 3 most leaves are then at depth 8. With one piece T 16 is accepted, and T 3 is not.
 pub fn cubics() -> Vec<i32> {
     let mut outline = Vec::new();
     for i in 0..64 {
@@ -20,7 +20,7 @@ pub fn cubics() -> Vec<i32> {
     outline
 }
 
-/// 64 quadratic arches whose leaves at T 44 are all at one depth, 0 to 8. A halving makes the second
+/// 64 quadratic arches whose leaves at T 44 are all at one depth, 0 to 8, with three pieces. A halving makes the second
 /// difference of a quadratic a quarter of what it was, everywhere alike.
 pub fn arches(depth: u32) -> Vec<i32> {
     let height = 15 * 4_i32.pow(depth);

@@ -1,6 +1,7 @@
 //! The leaves and the points that the engines judge.
 
 use crate::outlines::cubics;
+use contour_band::record_length;
 
 /// How many leaves the points are judged against.
 pub const LEAVES: usize = 1_000;
@@ -8,25 +9,38 @@ pub const LEAVES: usize = 1_000;
 /// How many points are judged.
 pub const POINTS: usize = 10_000;
 
-/// The tolerance of the band, in sixteenths of a stage unit.
-const TOLERANCE: i32 = 188;
+/// The tolerance of the band, in sixteenths of a stage unit, with m pieces. At each the 64 cubic curves
+/// have about as many leaves.
+fn tolerance(m: u32) -> i32 {
+    [1_551, 402, 188, 101, 65, 46, 35, 28][m as usize - 1]
+}
+
+/// Leaf records of m pieces.
+pub struct Leaves {
+    /// The records.
+    pub records: Vec<i32>,
+    /// The number of pieces of each.
+    pub m: u32,
+}
 
 /// A point in sixteenths of a stage unit.
 pub type Point = (i32, i32);
 
-/// The first records of 64 cubic curves, which have 1,152.
-pub fn leaves() -> Vec<i32> {
-    let mut records = vec![0; 18 * 256 * 64];
-    let report = contour_band::band(&cubics(), TOLERANCE, &mut records).expect("the outline is accepted");
-    assert_eq!(report.leaves, 1_152);
-    records.truncate(18 * LEAVES);
-    records
+/// The first records of 64 cubic curves with m pieces.
+pub fn leaves(m: u32) -> Leaves {
+    let mut records = vec![0; record_length(m) * 256 * 64];
+    let report =
+        contour_band::band(&cubics(), tolerance(m), m, &mut records).expect("the outline is accepted");
+    assert!(report.leaves >= LEAVES as u64, "{} leaves with m {m}", report.leaves);
+    records.truncate(record_length(m) * LEAVES);
+    Leaves { records, m }
 }
 
 /// A mixture of two boxes of a leaf. Leaves, covers and fractions change with `i` in great steps.
-fn mixture(leaves: &[i32], i: usize) -> [i32; 4] {
-    let record = &leaves[18 * (617 * i % LEAVES)..][..18];
-    let start = 2 + 4 * (i % 3);
+fn mixture(leaves: &Leaves, i: usize) -> [i32; 4] {
+    let length = record_length(leaves.m);
+    let record = &leaves.records[length * (617 * i % LEAVES)..][..length];
+    let start = 2 + 4 * (i % leaves.m as usize);
     let part = (7_919 * i % 1_001) as i64;
     [0, 1, 2, 3].map(|n| {
         let (from, to) = (i64::from(record[start + n]), i64::from(record[start + n + 4]));
@@ -35,7 +49,7 @@ fn mixture(leaves: &[i32], i: usize) -> [i32; 4] {
 }
 
 /// Points in the middle of a cover.
-pub fn near(leaves: &[i32]) -> Vec<Point> {
+pub fn near(leaves: &Leaves) -> Vec<Point> {
     let middle = |i| {
         let [x_low, x_high, y_low, y_high] = mixture(leaves, i);
         ((x_low + x_high) / 2, (y_low + y_high) / 2)
@@ -45,10 +59,10 @@ pub fn near(leaves: &[i32]) -> Vec<Point> {
 
 /// Points beside a cover: to the right of it and above it by up to twice the tolerance. Some of them
 /// are on another cover.
-pub fn beside(leaves: &[i32]) -> Vec<Point> {
+pub fn beside(leaves: &Leaves) -> Vec<Point> {
     let off = |i| {
         let [_, x_high, _, y_high] = mixture(leaves, i);
-        let by = 1 + (i as i32 * 31) % (2 * TOLERANCE);
+        let by = 1 + (i as i32 * 31) % (2 * tolerance(leaves.m));
         (x_high + by, y_high + by)
     };
     (0..POINTS).map(off).collect()
@@ -61,7 +75,7 @@ pub fn far() -> Vec<Point> {
 }
 
 /// Every third point of each.
-pub fn mixed(leaves: &[i32]) -> Vec<Point> {
+pub fn mixed(leaves: &Leaves) -> Vec<Point> {
     let each = [near(leaves), beside(leaves), far()];
     (0..POINTS).map(|i| each[i % 3][i]).collect()
 }

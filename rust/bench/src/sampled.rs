@@ -6,6 +6,12 @@
 //! parameter. The band of a piece is its chord, moved by the least and by the largest deviation of the
 //! samples in it.
 
+/// The number of straight pieces of a leaf: three, as the method has it.
+pub const M: u32 = 3;
+
+/// How many numbers its records have.
+pub const RECORD: usize = contour_band::record_length(M);
+
 /// How many parameters each curve is sampled at, from 0 to 1.
 pub const SAMPLES: usize = 1_000;
 
@@ -22,7 +28,7 @@ pub enum Packing {
 /// checks, and the records have room.
 pub fn band(outline: &[i32], leaves: &[usize], packing: Packing, records: &mut [i32]) {
     let mut rest = outline;
-    let mut records = records.chunks_exact_mut(18);
+    let mut records = records.chunks_exact_mut(RECORD);
     let mut pieces = Pieces::default();
     for (number, &leaves) in leaves.iter().enumerate() {
         let (points, after) = rest[1..].split_at(2 * (rest[0] as usize + 1));

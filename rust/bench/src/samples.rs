@@ -2,8 +2,7 @@
 
 use crate::times::{by_turns, heading};
 use bench::outlines::{cubics, nominal};
-use bench::sampled::{self, Packing, SAMPLES};
-use contour_band::RECORD;
+use bench::sampled::{self, Packing, M, RECORD, SAMPLES};
 use differential::covers::witness_at;
 use differential::curves::{curves, Curve};
 use differential::outlines;
@@ -70,14 +69,14 @@ fn row(name: &str, outline: &[i32], tolerance: i32) {
     let mut by_samples = records.clone();
     let (times, (), _) = by_turns(
         || sampled::band(black_box(outline), &leaves, Packing::TowardsZero, black_box(&mut by_samples)),
-        || contour_band::band(black_box(outline), tolerance, black_box(&mut records)),
+        || contour_band::band(black_box(outline), tolerance, M, black_box(&mut records)),
     );
     println!("{:<28} {:>7} {}", name, leaves.iter().sum::<usize>(), times);
 }
 
 /// Bands an outline, and counts the leaves of each curve. Nothing where it is refused.
 fn banded(outline: &[i32], tolerance: i32, records: &mut [i32]) -> Option<Vec<usize>> {
-    let report = contour_band::band(outline, tolerance, records).ok()?;
+    let report = contour_band::band(outline, tolerance, M, records).ok()?;
     let mut leaves = vec![0; report.curves as usize];
     for record in records.chunks_exact(RECORD).take(report.leaves as usize) {
         leaves[record[0] as usize] += 1;

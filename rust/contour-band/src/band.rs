@@ -19,38 +19,45 @@ pub struct Report {
 /// `outline` has for each curve its degree d (1, 2 or 3), then x and y of its d + 1 control points
 /// in stage units, each from −1,048,576 to 1,048,576. There are 1 to 64 curves, and each begins where
 /// the one before it ends; the outline may stay open at its ends. `tolerance` is the greatest diagonal
-/// of a box, 2 to 1,048,576 sixteenths of a unit.
+/// of a box, 2 to 1,048,576 sixteenths of a unit. `m` is how many straight pieces a leaf has, 1 to 8: the
+/// more, the fewer leaves there are as a rule, and the longer is a record.
 ///
-/// The leaves are written to the front of `records`, [`RECORD`](crate::RECORD) numbers each, by
-/// curve and then by parameter; [`leaves`](crate::leaves) reads them. The numbers past them stay
-/// as they were. A list of 18 × 256 numbers for each curve is always long enough.
+/// The leaves are written to the front of `records`, [`record_length(m)`](crate::record_length) numbers
+/// each, by curve and then by parameter; [`leaves`](crate::leaves) reads them. The numbers past them stay
+/// as they were. A list of `record_length(m)` × 256 numbers for each curve is always long enough.
 ///
 /// ```
-/// use contour_band::{band, leaves, Refusal, RECORD};
+/// use contour_band::{band, leaves, record_length, Refusal};
 ///
 /// let outline = [3, 0, 0, 10, 30, 20, 30, 30, 0];
+/// let m = 3;
 /// // An empty list asks how many leaves there are, and then there is a list for just so many.
-/// assert_eq!(band(&outline, 43, &mut []), Err(Refusal::TooFewRecords { leaves: 2 }));
-/// let mut records = [0; 2 * RECORD];
-/// let report = band(&outline, 43, &mut records)?;
+/// assert_eq!(band(&outline, 43, m, &mut []), Err(Refusal::TooFewRecords { leaves: 2 }));
+/// let mut records = vec![0; 2 * record_length(m)];
+/// let report = band(&outline, 43, m, &mut records)?;
 /// assert_eq!((report.curves, report.leaves, report.nodes), (1, 2, 3));
-/// let nodes: Vec<i32> = leaves(&records).map(|leaf| leaf.node).collect();
+/// let nodes: Vec<i32> = leaves(&records, m).map(|leaf| leaf.node).collect();
 /// assert_eq!(nodes, [2, 3]);
 ///
-/// let refusal = band(&[4, 0, 0], 43, &mut records).unwrap_err();
+/// // With eight pieces the boxes are narrower, and the whole curve is one leaf down to a tolerance of 7.
+/// let mut records = vec![0; record_length(8)];
+/// assert_eq!(band(&outline, 7, 8, &mut records)?.leaves, 1);
+///
+/// let refusal = band(&[4, 0, 0], 43, m, &mut records).unwrap_err();
 /// assert_eq!(refusal, Refusal::Degree { index: 0 });
 /// assert_eq!((refusal.number(), refusal.spot()), (2, 0));
+/// assert_eq!(band(&outline, 43, 9, &mut records), Err(Refusal::Pieces));
 /// # Ok::<(), Refusal>(())
 /// ```
 ///
 /// # Errors
 ///
-/// A [`Refusal`] where the tolerance or the outline breaks a bound, a stretch is too wide after
-/// the last halving, or `records` is too short. It is the first in document 01's order, and
+/// A [`Refusal`] where `m`, the tolerance or the outline breaks a bound, a stretch is too wide after
+/// the last halving, or `records` is too short. It is the first in the documents' order, and
 /// `records` is then unaltered. An empty list therefore asks how many leaves there are: the answer
 /// is [`Refusal::TooFewRecords`] for any outline that is otherwise accepted.
-pub fn band(outline: &[i32], tolerance: i32, records: &mut [i32]) -> Result<Report, Refusal> {
-    let answer = library::band(outline, tolerance, records);
+pub fn band(outline: &[i32], tolerance: i32, m: u32, records: &mut [i32]) -> Result<Report, Refusal> {
+    let answer = library::band(outline, tolerance, m, records);
     if answer.refusal != 0 {
         return Err(Refusal::new(answer.refusal, answer.spot));
     }

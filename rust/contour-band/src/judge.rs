@@ -15,7 +15,7 @@ pub enum Judgement {
     On {
         /// The number of the first record of the list that holds it, from 0.
         leaf: usize,
-        /// The lowest cover of that record that holds it, 0 to 2.
+        /// The lowest cover of that record that holds it, 0 to m − 1.
         cover: usize,
     },
     /// No cover of any record holds the point.
@@ -37,38 +37,39 @@ impl Judgement {
     }
 }
 
-/// Judges a point, in sixteenths of a stage unit, against a list of leaf records.
+/// Judges a point, in sixteenths of a stage unit, against a list of leaf records of `m` pieces, 1 to 8.
 ///
-/// A record has covers 0, 1 and 2. Cover i is every point that lies, for some fraction s from 0 to
+/// A record has covers 0 to m − 1. Cover i is every point that lies, for some fraction s from 0 to
 /// 1, in the box (1 − s) × box i + s × box i + 1. A point is on where some cover of some record
 /// holds it. The first record of the list that does is named, and in it the lowest cover.
 ///
 /// `leaves` is any list of records that passes the checks, in any order. To judge against a band,
-/// give it the records that [`band`](crate::band) wrote, without the rest of the lent list. Then
-/// every point of the outline's curves is on, and every point that is on lies within the tolerance
-/// of one of them.
+/// give it the records that [`band`](crate::band) wrote, without the rest of the lent list, and the same
+/// `m`. Then every point of the outline's curves is on, and every point that is on lies within the
+/// tolerance of one of them.
 ///
 /// ```
-/// use contour_band::{band, judge, Judgement, Refusal, RECORD};
+/// use contour_band::{band, judge, record_length, Judgement, Refusal};
 ///
 /// // A line from (0 0) to (0 1), in a list with room for more.
-/// let mut records = [0; 10 * RECORD];
-/// let report = band(&[1, 0, 0, 0, 1], 2, &mut records)?;
-/// let leaves = &records[..RECORD * report.leaves as usize];
+/// let m = 3;
+/// let mut records = vec![0; 10 * record_length(m)];
+/// let report = band(&[1, 0, 0, 0, 1], 2, m, &mut records)?;
+/// let leaves = &records[..record_length(m) * report.leaves as usize];
 ///
-/// assert_eq!(judge(leaves, 0, 3), Ok(Judgement::On { leaf: 0, cover: 0 }));
-/// assert_eq!(judge(leaves, 0, 17), Ok(Judgement::Off));
+/// assert_eq!(judge(leaves, m, 0, 3), Ok(Judgement::On { leaf: 0, cover: 0 }));
+/// assert_eq!(judge(leaves, m, 0, 17), Ok(Judgement::Off));
 /// // The rest of the list has no records: its nodes are 0.
-/// assert_eq!(judge(&records, 0, 3), Err(Refusal::LeafListNumber { index: 19 }));
+/// assert_eq!(judge(&records, m, 0, 3), Err(Refusal::LeafListNumber { index: 19 }));
 /// # Ok::<(), Refusal>(())
 /// ```
 ///
 /// # Errors
 ///
-/// [`Refusal::LeafListLength`], [`Refusal::LeafListNumber`], [`Refusal::PointX`] and
+/// [`Refusal::Pieces`], [`Refusal::LeafListLength`], [`Refusal::LeafListNumber`], [`Refusal::PointX`] and
 /// [`Refusal::PointY`], the first in this order.
-pub fn judge(leaves: &[i32], x: i32, y: i32) -> Result<Judgement, Refusal> {
-    let answer = library::judge(leaves, x, y);
+pub fn judge(leaves: &[i32], m: u32, x: i32, y: i32) -> Result<Judgement, Refusal> {
+    let answer = library::judge(leaves, m, x, y);
     if answer.refusal != 0 {
         return Err(Refusal::new(answer.refusal, answer.spot));
     }
@@ -92,13 +93,13 @@ pub struct Outcome {
 ///
 /// let outline = [3, 0, 0, 10, 30, 20, 30, 30, 0];
 /// let mut records = [0; 100];
-/// let outcome = band_and_judge(&outline, 44, &mut records, 240, 363)?;
+/// let outcome = band_and_judge(&outline, 44, 3, &mut records, 240, 363)?;
 /// assert_eq!(outcome.report.leaves, 1);
 /// assert_eq!(outcome.judgement, Judgement::On { leaf: 0, cover: 1 });
 ///
 /// // A point out of range is refused as well, and leaves the list as it was.
 /// let mut records = [0; 100];
-/// assert_eq!(band_and_judge(&outline, 44, &mut records, i32::MAX, 0), Err(Refusal::PointX));
+/// assert_eq!(band_and_judge(&outline, 44, 3, &mut records, i32::MAX, 0), Err(Refusal::PointX));
 /// assert_eq!(records, [0; 100]);
 /// # Ok::<(), Refusal>(())
 /// ```
@@ -110,11 +111,12 @@ pub struct Outcome {
 pub fn band_and_judge(
     outline: &[i32],
     tolerance: i32,
+    m: u32,
     records: &mut [i32],
     x: i32,
     y: i32,
 ) -> Result<Outcome, Refusal> {
-    let outcome = library::band_and_judge(outline, tolerance, records, x, y);
+    let outcome = library::band_and_judge(outline, tolerance, m, records, x, y);
     if outcome.refusal != 0 {
         return Err(Refusal::new(outcome.refusal, outcome.spot));
     }

@@ -1,13 +1,22 @@
 //! Leaf records as values.
 
-/// How many break points a leaf has: 0, 1, 2 and 3, in thirds of its stretch.
-pub const BREAK_POINTS: usize = 4;
+use std::slice;
 
-/// How many numbers a leaf record has: curve, node and four boxes.
-pub const RECORD: usize = 2 + 4 * BREAK_POINTS;
+/// How many numbers a leaf record of m pieces has: the curve, the node, and the four numbers of a box at
+/// each of m + 1 break points.
+///
+/// ```
+/// use contour_band::record_length;
+///
+/// assert_eq!([1, 3, 8].map(record_length), [10, 18, 38]);
+/// ```
+pub const fn record_length(m: u32) -> usize {
+    6 + 4 * m as usize
+}
 
 /// A low and a high of one coordinate, in sixteenths of a stage unit.
 #[derive(Debug, Clone, Copy, PartialEq, Eq, Hash)]
+#[repr(C)]
 pub struct Bounds {
     /// Rounded down.
     pub low: i32,
@@ -17,6 +26,7 @@ pub struct Bounds {
 
 /// The bounds of both coordinates at a break point.
 #[derive(Debug, Clone, Copy, PartialEq, Eq, Hash)]
+#[repr(C)]
 pub struct BoxBounds {
     /// Bounds of x.
     pub x: Bounds,
@@ -31,32 +41,51 @@ impl From<[i32; 4]> for BoxBounds {
     }
 }
 
-/// A leaf: a stretch of a curve and the boxes that enclose it.
+impl BoxBounds {
+    /// The boxes that stand one after the other in a record, four numbers each.
+    fn slice(numbers: &[i32]) -> &[BoxBounds] {
+        // Safety: in C's layout a box is its four numbers in this order and nothing else, so as many boxes
+        // as there are whole fours lie inside the slice, aligned as its numbers are.
+        unsafe { slice::from_raw_parts(numbers.as_ptr().cast(), numbers.len() / 4) }
+    }
+}
+
+/// A leaf: a stretch of a curve and the boxes that enclose it, which are those of a record.
 #[derive(Debug, Clone, Copy, PartialEq, Eq, Hash)]
-pub struct Leaf {
+pub struct Leaf<'a> {
     /// The number of the curve in its outline, from 0.
     pub curve: i32,
     /// The node. Node 1 is the whole curve, and node n has the halves 2n and 2n + 1.
     pub node: i32,
-    /// The box at each break point.
-    pub boxes: [BoxBounds; BREAK_POINTS],
+    /// The box at each of the m + 1 break points, the m-ths of the stretch. Cover i is of boxes i and i + 1.
+    pub boxes: &'a [BoxBounds],
 }
 
-impl Leaf {
-    /// The leaf that a record holds.
-    pub fn from_record(record: &[i32; RECORD]) -> Leaf {
-        let at = |i: usize| [0, 1, 2, 3].map(|n| record[2 + 4 * i + n]).into();
-        Leaf { curve: record[0], node: record[1], boxes: std::array::from_fn(at) }
-    }
-}
-
-/// The leaves of a list of records, in order. Numbers after the last whole record are left out;
-/// give it exactly the records that [`band`](crate::band) reported.
-pub fn leaves(records: &[i32]) -> impl Iterator<Item = Leaf> + '_ {
-    records.chunks_exact(RECORD).map(|record| {
-        let record = record.try_into().expect("a chunk has the length of a record");
-        Leaf::from_record(record)
-    })
+/// The leaves of a list of records of m pieces, in order. Numbers after the last whole record are left
+/// out; give it exactly the records that [`band`](crate::band) reported, and the same m.
+///
+/// ```
+/// use contour_band::{band, draw, leaves, record_length, Refusal, VERTEX_ROOM};
+///
+/// let m = 4;
+/// let mut records = vec![0; 256 * record_length(m)];
+/// let report = band(&[2, 0, 0, 0, 18, 0, 0], 10, m, &mut records)?;
+/// records.truncate(record_length(m) * report.leaves as usize);
+///
+/// let leaf = leaves(&records, m).next().unwrap();
+/// assert_eq!((leaf.curve, leaf.node, leaf.boxes.len()), (0, 1, 5));
+/// assert_eq!((leaf.boxes[2].y.low, leaf.boxes[2].y.high), (144, 153));
+///
+/// // Two neighbours make a cover, which can be drawn.
+/// let mut vertices = [0; VERTEX_ROOM];
+/// for neighbours in leaf.boxes.windows(2) {
+///     assert_eq!(draw(neighbours[0], neighbours[1], &mut vertices)?, 2);
+/// }
+/// # Ok::<(), Refusal>(())
+/// ```
+pub fn leaves(records: &[i32], m: u32) -> impl Iterator<Item = Leaf<'_>> {
+    let records = records.chunks_exact(record_length(m));
+    records.map(|record| Leaf { curve: record[0], node: record[1], boxes: BoxBounds::slice(&record[2..]) })
 }
 
 #[cfg(test)]
@@ -65,13 +94,27 @@ mod tests {
 
     #[test]
     fn a_record_is_read_in_order() {
-        let numbers: Vec<i32> = (0..40).collect();
-        let read: Vec<Leaf> = leaves(&numbers).collect();
-        assert_eq!(read.len(), 2);
-        assert_eq!((read[1].curve, read[1].node), (18, 19));
-        for (i, b) in read[1].boxes.iter().enumerate() {
-            let first = 20 + 4 * i as i32;
-            assert_eq!((b.x.low, b.x.high, b.y.low, b.y.high), (first, first + 1, first + 2, first + 3));
+        let numbers: Vec<i32> = (0..80).collect();
+        for m in 1..=8 {
+            let length = record_length(m) as i32;
+            let read: Vec<Leaf> = leaves(&numbers, m).collect();
+            // What is left of the list is no record.
+            assert_eq!(read.len() as i32, 80 / length);
+            assert_eq!((read[1].curve, read[1].node), (length, length + 1));
+            assert_eq!(read[1].boxes.len() as u32, m + 1);
+            for (i, b) in (0..).zip(read[1].boxes) {
+                let first = length + 2 + 4 * i;
+                assert_eq!(*b, BoxBounds::from([first, first + 1, first + 2, first + 3]));
+            }
+        }
+    }
+
+    #[test]
+    fn every_m_can_be_asked_for() {
+        for m in [0, 9, u32::MAX] {
+            for leaf in leaves(&[7; 100], m) {
+                assert_eq!(leaf.boxes.len() as u32, m + 1);
+            }
         }
     }
 }

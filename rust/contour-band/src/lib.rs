@@ -2,9 +2,10 @@
 //!
 //! An outline is a list of numbers: for each curve its degree d (1, 2 or 3), then x and y of its
 //! d + 1 control points in stage units. [`band`] encloses it in boxes whose diagonals are at most a
-//! tolerance long, and writes them to a list that the caller lends. [`leaves`] reads them. [`judge`]
-//! says of a measured point whether it lies on what the boxes cover, and [`band_and_judge`] does both.
-//! [`draw`] draws the convex hull of two boxes.
+//! tolerance long, and writes them to a list that the caller lends: for each leaf, which is a stretch of a
+//! curve, m straight pieces with a box at each of their m + 1 ends. The caller chooses m, 1 to 8. [`leaves`]
+//! reads them. [`judge`] says of a measured point whether it lies on what the boxes cover, and
+//! [`band_and_judge`] does both. [`draw`] draws the convex hull of two boxes.
 //!
 //! Two lines at the root of the repository build the archive that is linked, and run a program with it:
 //!
@@ -15,26 +16,29 @@
 //!
 //! The engine takes any numbers and any lengths and always returns. It allocates nothing and keeps nothing:
 //! every list is the caller's, and calls from several threads do not disturb one another. What breaks a
-//! bound is a [`Refusal`], with the number and the spot that document 01 gives.
+//! bound is a [`Refusal`], with the number and the spot that documents 01 and 02 give.
 //!
 //! ```
-//! use contour_band::{band, judge, leaves, Judgement, Refusal};
+//! use contour_band::{band, judge, leaves, record_length, Judgement, Refusal};
+//!
+//! /// How many straight pieces a leaf has.
+//! const M: u32 = 3;
 //!
 //! let outline = [3, 0, 0, 10, 30, 20, 30, 30, 0];
-//! let mut records = [0; 18];
-//! let report = band(&outline, 44, &mut records)?;
+//! let mut records = [0; record_length(M)];
+//! let report = band(&outline, 44, M, &mut records)?;
 //! assert_eq!((report.curves, report.leaves, report.nodes), (1, 1, 1));
 //!
-//! let leaf = leaves(&records).next().unwrap();
+//! let leaf = leaves(&records, M).next().unwrap();
 //! assert_eq!((leaf.curve, leaf.node), (0, 1));
 //! assert_eq!((leaf.boxes[1].y.low, leaf.boxes[1].y.high), (319, 363));
 //!
 //! // The leaf's middle cover holds one point, and the next is outside.
-//! assert_eq!(judge(&records, 240, 363), Ok(Judgement::On { leaf: 0, cover: 1 }));
-//! assert_eq!(judge(&records, 240, 364), Ok(Judgement::Off));
+//! assert_eq!(judge(&records, M, 240, 363), Ok(Judgement::On { leaf: 0, cover: 1 }));
+//! assert_eq!(judge(&records, M, 240, 364), Ok(Judgement::Off));
 //!
 //! // At 43 there are two leaves, and a refusal leaves the list as it was.
-//! assert_eq!(band(&outline, 43, &mut records), Err(Refusal::TooFewRecords { leaves: 2 }));
+//! assert_eq!(band(&outline, 43, M, &mut records), Err(Refusal::TooFewRecords { leaves: 2 }));
 //! assert_eq!(records[0..2], [0, 1]);
 //! # Ok::<(), Refusal>(())
 //! ```
@@ -49,5 +53,5 @@ mod refusal;
 pub use band::{band, Report};
 pub use cover::{draw, VERTEX_ROOM};
 pub use judge::{band_and_judge, judge, Judgement, Outcome, FARTHEST};
-pub use leaf::{leaves, Bounds, BoxBounds, Leaf, BREAK_POINTS, RECORD};
+pub use leaf::{leaves, record_length, Bounds, BoxBounds, Leaf};
 pub use refusal::Refusal;

@@ -67,16 +67,18 @@ extern "C" {
         outline: *const i32,
         outline_length: usize,
         tolerance: i32,
+        m: u32,
         records: *mut i32,
         records_length: usize,
     ) -> Answer;
 
-    fn contour_judge(leaves: *const i32, leaves_length: usize, x: i32, y: i32) -> Judgement;
+    fn contour_judge(leaves: *const i32, leaves_length: usize, m: u32, x: i32, y: i32) -> Judgement;
 
     fn contour_band_and_judge(
         outline: *const i32,
         outline_length: usize,
         tolerance: i32,
+        m: u32,
         records: *mut i32,
         records_length: usize,
         x: i32,
@@ -87,27 +89,37 @@ extern "C" {
 }
 
 /// The answer for an outline. Writes to `records` as the header says.
-pub fn band(outline: &[i32], tolerance: i32, records: &mut [i32]) -> Answer {
+pub fn band(outline: &[i32], tolerance: i32, m: u32, records: &mut [i32]) -> Answer {
     // Safety: the slices give valid, aligned, separate parts of memory, and the function is
     // proved to stay inside them for all contents and lengths.
-    unsafe { contour_band(outline.as_ptr(), outline.len(), tolerance, records.as_mut_ptr(), records.len()) }
+    unsafe {
+        contour_band(outline.as_ptr(), outline.len(), tolerance, m, records.as_mut_ptr(), records.len())
+    }
 }
 
 /// The judgement of a point against a list of leaf records.
-pub fn judge(leaves: &[i32], x: i32, y: i32) -> Judgement {
+pub fn judge(leaves: &[i32], m: u32, x: i32, y: i32) -> Judgement {
     // Safety: the slice gives a valid, aligned part of memory, and the function is proved to stay
     // inside it for all contents and lengths.
-    unsafe { contour_judge(leaves.as_ptr(), leaves.len(), x, y) }
+    unsafe { contour_judge(leaves.as_ptr(), leaves.len(), m, x, y) }
 }
 
 /// The outcome for an outline and a point. Writes to `records` as the header says.
-pub fn band_and_judge(outline: &[i32], tolerance: i32, records: &mut [i32], x: i32, y: i32) -> Outcome {
+pub fn band_and_judge(
+    outline: &[i32],
+    tolerance: i32,
+    m: u32,
+    records: &mut [i32],
+    x: i32,
+    y: i32,
+) -> Outcome {
     // Safety: as for `band`.
     unsafe {
         contour_band_and_judge(
             outline.as_ptr(),
             outline.len(),
             tolerance,
+            m,
             records.as_mut_ptr(),
             records.len(),
             x,
@@ -130,7 +142,7 @@ mod tests {
     #[test]
     fn an_accepted_outline_has_no_spot() {
         let mut records = [0; 18];
-        let answer = band(&[1, 0, 0, 0, 1], 2, &mut records);
+        let answer = band(&[1, 0, 0, 0, 1], 2, 3, &mut records);
         let expected = Answer { refusal: 0, spot: 0, curves: 1, leaves: 1, nodes: 1 };
         assert_eq!(answer, expected);
     }
@@ -141,15 +153,20 @@ mod tests {
         let line = [1, 0, 0, 0, 1];
         let steep = [3, 0, 0, 0, 1_048_576, 0, 1_048_576, 0, 0];
         let mut records = [0; 18];
-        assert_eq!(band(&line, 1, &mut records), refused(1, 0));
-        assert_eq!(band(&[4], 2, &mut records), refused(2, 0));
-        assert_eq!(band(&[1, 0], 2, &mut records), refused(3, 2));
-        assert_eq!(band(&[1, 0, 0, 1_048_577, 0], 2, &mut records), refused(4, 3));
-        assert_eq!(band(&[1, 0, 0, 0, 0].repeat(65), 2, &mut records), refused(5, 320));
-        assert_eq!(band(&line.repeat(65), 2, &mut records), refused(17, 5));
-        assert_eq!(band(&[], 2, &mut records), refused(6, 0));
-        assert_eq!(band(&steep, 2, &mut records), refused(7, 256));
-        assert_eq!(band(&line, 2, &mut []), refused(8, 1));
+        for m in [0, 9, u32::MAX] {
+            assert_eq!(band(&line, 2, m, &mut records), refused(18, 0));
+            assert_eq!(band(&[], 1, m, &mut []), refused(18, 0));
+        }
+        assert_eq!(band(&line, 1, 3, &mut records), refused(1, 0));
+        assert_eq!(band(&[4], 2, 3, &mut records), refused(2, 0));
+        assert_eq!(band(&[1, 0], 2, 3, &mut records), refused(3, 2));
+        assert_eq!(band(&[1, 0, 0, 1_048_577, 0], 2, 3, &mut records), refused(4, 3));
+        assert_eq!(band(&[1, 0, 0, 0, 0].repeat(65), 2, 3, &mut records), refused(5, 320));
+        assert_eq!(band(&line.repeat(65), 2, 3, &mut records), refused(17, 5));
+        assert_eq!(band(&[], 2, 3, &mut records), refused(6, 0));
+        assert_eq!(band(&steep, 2, 3, &mut records), refused(7, 256));
+        assert_eq!(band(&line, 2, 3, &mut []), refused(8, 1));
+        assert_eq!(band(&line, 2, 4, &mut records), refused(8, 1));
         assert_eq!(records, [0; 18]);
     }
 
@@ -164,11 +181,11 @@ mod tests {
     #[test]
     fn only_a_point_that_is_on_names_a_record_and_a_cover() {
         let on = |leaf, cover| Judgement { refusal: 0, spot: 0, on: 1, leaf, cover };
-        assert_eq!(judge(&LEAVES, 4, 0), on(0, 0));
-        assert_eq!(judge(&LEAVES, 9, 4), on(1, 2));
+        assert_eq!(judge(&LEAVES, 3, 4, 0), on(0, 0));
+        assert_eq!(judge(&LEAVES, 3, 9, 4), on(1, 2));
         let off = Judgement { refusal: 0, spot: 0, on: 0, leaf: 0, cover: 0 };
-        assert_eq!(judge(&LEAVES, 10, 0), off);
-        assert_eq!(judge(&LEAVES, FAR, -FAR), off);
+        assert_eq!(judge(&LEAVES, 3, 10, 0), off);
+        assert_eq!(judge(&LEAVES, 3, FAR, -FAR), off);
     }
 
     #[test]
@@ -176,11 +193,16 @@ mod tests {
         let refused = |refusal, spot| Judgement { refusal, spot, on: 0, leaf: 0, cover: 0 };
         let mut bad = LEAVES;
         bad[1] = 512;
-        assert_eq!(judge(&[], 4, 0), refused(9, 0));
-        assert_eq!(judge(&LEAVES[..19], 4, 0), refused(9, 19));
-        assert_eq!(judge(&bad, 4, 0), refused(10, 1));
-        assert_eq!(judge(&LEAVES, -FAR - 1, FAR + 1), refused(11, 0));
-        assert_eq!(judge(&LEAVES, 4, FAR + 1), refused(11, 1));
+        for m in [0, 9, u32::MAX] {
+            assert_eq!(judge(&LEAVES, m, 4, 0), refused(18, 0));
+            assert_eq!(judge(&[], m, FAR + 1, 0), refused(18, 0));
+        }
+        assert_eq!(judge(&[], 3, 4, 0), refused(9, 0));
+        assert_eq!(judge(&LEAVES[..19], 3, 4, 0), refused(9, 19));
+        assert_eq!(judge(&LEAVES, 4, 4, 0), refused(9, 36));
+        assert_eq!(judge(&bad, 3, 4, 0), refused(10, 1));
+        assert_eq!(judge(&LEAVES, 3, -FAR - 1, FAR + 1), refused(11, 0));
+        assert_eq!(judge(&LEAVES, 3, 4, FAR + 1), refused(11, 1));
     }
 
     #[test]
@@ -189,17 +211,19 @@ mod tests {
         let mut records = [0; 18];
         let nothing =
             Outcome { refusal: 0, spot: 0, curves: 0, leaves: 0, nodes: 0, on: 0, leaf: 0, cover: 0 };
+        let refused = Outcome { refusal: 18, ..nothing };
+        assert_eq!(band_and_judge(&line, 1, 9, &mut records, 0, 0), refused);
         let refused = Outcome { refusal: 1, ..nothing };
-        assert_eq!(band_and_judge(&line, 1, &mut records, 0, 0), refused);
+        assert_eq!(band_and_judge(&line, 1, 3, &mut records, 0, 0), refused);
         // Refusals of banding come first.
         let refused = Outcome { refusal: 8, spot: 1, ..nothing };
-        assert_eq!(band_and_judge(&line, 2, &mut records[..17], FAR + 1, 0), refused);
+        assert_eq!(band_and_judge(&line, 2, 3, &mut records[..17], FAR + 1, 0), refused);
         let refused = Outcome { refusal: 11, spot: 1, ..nothing };
-        assert_eq!(band_and_judge(&line, 2, &mut records, 0, FAR + 1), refused);
+        assert_eq!(band_and_judge(&line, 2, 3, &mut records, 0, FAR + 1), refused);
         assert_eq!(records, [0; 18]);
         let off = Outcome { curves: 1, leaves: 1, nodes: 1, ..nothing };
-        assert_eq!(band_and_judge(&line, 2, &mut records, 0, 17), off);
+        assert_eq!(band_and_judge(&line, 2, 3, &mut records, 0, 17), off);
         let on = Outcome { on: 1, cover: 2, ..off };
-        assert_eq!(band_and_judge(&line, 2, &mut records, 0, 15), on);
+        assert_eq!(band_and_judge(&line, 2, 3, &mut records, 0, 15), on);
     }
 }

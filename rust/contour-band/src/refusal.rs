@@ -7,6 +7,8 @@ use std::fmt;
 #[derive(Debug, Clone, Copy, PartialEq, Eq, Hash)]
 #[non_exhaustive]
 pub enum Refusal {
+    /// 18: m is not 1 to 8.
+    Pieces,
     /// 1: the tolerance is not 2 to 1,048,576.
     Tolerance,
     /// 2: a degree is not 1, 2 or 3.
@@ -45,10 +47,10 @@ pub enum Refusal {
     },
     /// 8: the lent list has fewer numbers than the leaves need.
     TooFewRecords {
-        /// How many leaves the outline has; each needs [`RECORD`](crate::RECORD) numbers.
+        /// How many leaves the outline has; each needs [`record_length`](crate::record_length) numbers.
         leaves: usize,
     },
-    /// 9: the leaf list is empty, or its length is no multiple of [`RECORD`](crate::RECORD).
+    /// 9: the leaf list is empty, or its length is no multiple of [`record_length`](crate::record_length).
     LeafListLength {
         /// The leaf list's length.
         length: usize,
@@ -77,7 +79,7 @@ pub enum Refusal {
 }
 
 impl Refusal {
-    /// The refusal's number in document 01.
+    /// The refusal's number in documents 01 and 02.
     pub fn number(self) -> u32 {
         match self {
             Refusal::Tolerance => 1,
@@ -94,13 +96,14 @@ impl Refusal {
             Refusal::BoxNumber { .. } => 12,
             Refusal::TooFewVertices { .. } => 13,
             Refusal::Gap { .. } => 17,
+            Refusal::Pieces => 18,
         }
     }
 
-    /// The spot that document 01 gives beside the number.
+    /// The spot that the documents give beside the number.
     pub fn spot(self) -> u64 {
         match self {
-            Refusal::Tolerance | Refusal::EmptyOutline | Refusal::PointX => 0,
+            Refusal::Pieces | Refusal::Tolerance | Refusal::EmptyOutline | Refusal::PointX => 0,
             Refusal::PointY => 1,
             Refusal::Degree { index }
             | Refusal::Coordinate { index }
@@ -138,6 +141,7 @@ impl Refusal {
             12 => Refusal::BoxNumber { place },
             13 => Refusal::TooFewVertices { length: place },
             17 => Refusal::Gap { index: place },
+            18 => Refusal::Pieces,
             _ => panic!("the library answered refusal {number} at {spot}, which does not exist"),
         }
     }
@@ -147,6 +151,7 @@ impl fmt::Display for Refusal {
     fn fmt(&self, f: &mut fmt::Formatter<'_>) -> fmt::Result {
         write!(f, "refused {} {}: ", self.number(), self.spot())?;
         match self {
+            Refusal::Pieces => write!(f, "the number of pieces is not 1 to 8"),
             Refusal::Tolerance => write!(f, "the tolerance is outside its range"),
             Refusal::Degree { .. } => write!(f, "a degree is not 1, 2 or 3"),
             Refusal::CutShort { .. } => write!(f, "the outline ends inside a curve"),
@@ -193,7 +198,7 @@ mod tests {
                 assert_eq!((refusal.number(), refusal.spot()), (number, spot));
             }
         }
-        for (number, spot) in [(1, 0), (11, 0), (11, 1)] {
+        for (number, spot) in [(1, 0), (11, 0), (11, 1), (18, 0)] {
             let refusal = Refusal::new(number, spot);
             assert_eq!((refusal.number(), refusal.spot()), (number, spot));
         }

@@ -1,7 +1,7 @@
 //! What the header says of every call: the archive needs no other library, and calls from several threads
 //! do not disturb one another.
 
-use contour_band::{band, judge, Judgement, RECORD};
+use contour_band::{band, judge, record_length, Judgement};
 use std::env;
 use std::path::{Path, PathBuf};
 use std::process::Command;
@@ -30,15 +30,16 @@ fn the_archive_calls_no_other_library() {
     assert_eq!(listed("--defined-only").lines().find(written), None);
 }
 
-/// A band of 64 curves that differs with the number of the thread, and how many of some points are on it.
+/// A band of 64 curves that differs with the number of the thread, as its m does, and how many of some points are on it.
 fn inspected(thread: i32) -> (Vec<i32>, usize) {
     let outline: Vec<i32> = (0..64)
         .flat_map(|i| [3, 100 * i, thread, 100 * i + 30, 900 + i, 100 * i + 60, -700, 100 * i + 100, thread])
         .collect();
-    let mut records = vec![0; 64 * 256 * RECORD];
-    let report = band(&outline, 10 + thread, &mut records).expect("the outline is accepted");
-    records.truncate(RECORD * report.leaves as usize);
-    let is_on = |&i: &i32| matches!(judge(&records, 100 * i, 9 * i), Ok(Judgement::On { .. }));
+    let m = 2 + thread as u32;
+    let mut records = vec![0; 64 * 256 * record_length(m)];
+    let report = band(&outline, 10 + thread, m, &mut records).expect("the outline is accepted");
+    records.truncate(record_length(m) * report.leaves as usize);
+    let is_on = |&i: &i32| matches!(judge(&records, m, 100 * i, 9 * i), Ok(Judgement::On { .. }));
     let on = (0..500).filter(is_on).count();
     (records, on)
 }

@@ -1,18 +1,29 @@
-//! The measured examples of document 01 that banding, judging and drawing reach, through the public functions.
+//! The measured examples of document 01 that banding, judging and drawing reach, and the like with other
+//! numbers of pieces, through the public functions.
 
 use contour_band::{
-    band, band_and_judge, draw, judge, leaves, Judgement, Outcome, Refusal, Report, FARTHEST, RECORD,
+    band, band_and_judge, draw, judge, leaves, record_length, Judgement, Outcome, Refusal, Report, FARTHEST,
 };
 
 const CURVE_A: [i32; 9] = [3, 0, 0, 10, 30, 20, 30, 30, 0];
 
+/// The number of pieces of document 01.
+const M: u32 = 3;
+
+/// The length of its records.
+const RECORD: usize = record_length(M);
+
 /// The numbers written for an outline that is accepted, out of a longer list whose rest stays.
-fn written(outline: &[i32], tolerance: i32) -> (Report, Vec<i32>) {
-    let mut records = vec![-5; 4 * RECORD];
-    let report = band(outline, tolerance, &mut records).expect("the outline is accepted");
-    let rest = records.split_off(RECORD * report.leaves as usize);
+fn written_in(m: u32, outline: &[i32], tolerance: i32) -> (Report, Vec<i32>) {
+    let mut records = vec![-5; 4 * record_length(m)];
+    let report = band(outline, tolerance, m, &mut records).expect("the outline is accepted");
+    let rest = records.split_off(record_length(m) * report.leaves as usize);
     assert!(rest.iter().all(|&n| n == -5));
     (report, records)
+}
+
+fn written(outline: &[i32], tolerance: i32) -> (Report, Vec<i32>) {
+    written_in(M, outline, tolerance)
 }
 
 #[test]
@@ -22,7 +33,7 @@ fn curve_a() {
     assert_eq!(records, [0, 1, 0, 0, 0, 38, 160, 160, 319, 363, 320, 320, 319, 363, 480, 480, 0, 38]);
     let (report, records) = written(&CURVE_A, 43);
     assert_eq!(report, Report { curves: 1, leaves: 2, nodes: 3 });
-    assert_eq!(leaves(&records).map(|leaf| leaf.node).collect::<Vec<_>>(), [2, 3]);
+    assert_eq!(leaves(&records, M).map(|leaf| leaf.node).collect::<Vec<_>>(), [2, 3]);
     assert_eq!(
         records[..RECORD],
         [0, 2, 0, 0, 0, 10, 80, 80, 199, 211, 160, 160, 319, 331, 240, 240, 360, 370]
@@ -30,10 +41,10 @@ fn curve_a() {
 }
 
 /// The y bounds of the first leaf's boxes.
-fn y_bounds(outline: &[i32], tolerance: i32) -> [(i32, i32); 4] {
+fn y_bounds(outline: &[i32], tolerance: i32) -> Vec<(i32, i32)> {
     let (_, records) = written(outline, tolerance);
-    let leaf = leaves(&records).next().expect("there is a leaf");
-    leaf.boxes.map(|b| (b.y.low, b.y.high))
+    let leaf = leaves(&records, M).next().expect("there is a leaf");
+    leaf.boxes.iter().map(|b| (b.y.low, b.y.high)).collect()
 }
 
 #[test]
@@ -47,10 +58,39 @@ fn bounds_of_y() {
 }
 
 #[test]
+fn curve_a_in_pieces() {
+    // The least tolerance at which it is one leaf, with 1 to 8 pieces.
+    for (m, tolerance) in (1..=8).zip([360, 94, 44, 24, 16, 12, 10, 7]) {
+        let (report, records) = written_in(m, &CURVE_A, tolerance);
+        assert_eq!(report, Report { curves: 1, leaves: 1, nodes: 1 });
+        let leaf = leaves(&records, m).next().expect("there is a leaf");
+        assert_eq!((leaf.node, leaf.boxes.len() as u32), (1, m + 1));
+        assert_eq!(written_in(m, &CURVE_A, tolerance - 1).0.leaves, 2);
+        // The last point of the curve is on the last cover.
+        assert_eq!(judge(&records, m, 480, 0), Ok(Judgement::On { leaf: 0, cover: m as usize - 1 }));
+    }
+    assert_eq!(written_in(1, &CURVE_A, 360).1, [0, 1, 0, 0, 0, 360, 480, 480, 0, 360]);
+    assert_eq!(written_in(2, &CURVE_A, 94).1, [0, 1, 0, 0, 0, 94, 240, 240, 360, 454, 480, 480, 0, 94]);
+}
+
+#[test]
+fn pieces_out_of_range() {
+    let mut lent = [7; 100];
+    for m in [0, 9, u32::MAX] {
+        // Before the tolerance, and before the length of a leaf list.
+        assert_eq!(band(&CURVE_A, 1, m, &mut lent), Err(Refusal::Pieces));
+        assert_eq!(band(&[], 44, m, &mut []), Err(Refusal::Pieces));
+        assert_eq!(judge(&[], m, 0, i32::MAX), Err(Refusal::Pieces));
+        assert_eq!(band_and_judge(&CURVE_A, 44, m, &mut lent, 0, i32::MAX), Err(Refusal::Pieces));
+    }
+    assert_eq!(lent, [7; 100]);
+}
+
+#[test]
 fn limits_and_refusals() {
     let mut records = [7; RECORD];
     let mut refused = |outline: &[i32], tolerance| {
-        let refusal = band(outline, tolerance, &mut records).expect_err("the outline is refused");
+        let refusal = band(outline, tolerance, M, &mut records).expect_err("the outline is refused");
         assert_eq!(records, [7; RECORD]);
         refusal
     };
@@ -69,13 +109,13 @@ fn limits_and_refusals() {
 fn points_of_curve_a() {
     let (report, records) = written(&CURVE_A, 44);
     let on = Judgement::On { leaf: 0, cover: 1 };
-    assert_eq!(judge(&records, 240, 363), Ok(on));
+    assert_eq!(judge(&records, M, 240, 363), Ok(on));
     assert!(on.is_on());
-    assert_eq!(judge(&records, 240, 364), Ok(Judgement::Off));
+    assert_eq!(judge(&records, M, 240, 364), Ok(Judgement::Off));
     assert!(!Judgement::Off.is_on());
     let together = |x, y| {
         let mut lent = [0; 100];
-        let outcome = band_and_judge(&CURVE_A, 44, &mut lent, x, y);
+        let outcome = band_and_judge(&CURVE_A, 44, M, &mut lent, x, y);
         assert_eq!(lent[..RECORD], if outcome.is_ok() { records[..].to_vec() } else { vec![0; RECORD] });
         assert_eq!(lent[RECORD..], [0; 100 - RECORD]);
         outcome
@@ -90,18 +130,18 @@ fn points_of_curve_a() {
 #[test]
 fn refusals_of_judging() {
     let (_, mut records) = written(&CURVE_A, 43);
-    assert_eq!(judge(&[], 0, 0), Err(Refusal::LeafListLength { length: 0 }));
-    assert_eq!(judge(&records[1..], 0, 0), Err(Refusal::LeafListLength { length: 35 }));
+    assert_eq!(judge(&[], M, 0, 0), Err(Refusal::LeafListLength { length: 0 }));
+    assert_eq!(judge(&records[1..], M, 0, 0), Err(Refusal::LeafListLength { length: 35 }));
     records[RECORD] = 64;
-    assert_eq!(judge(&records, FARTHEST + 1, 0), Err(Refusal::LeafListNumber { index: 18 }));
+    assert_eq!(judge(&records, M, FARTHEST + 1, 0), Err(Refusal::LeafListNumber { index: 18 }));
     records[RECORD] = 63;
-    assert_eq!(judge(&records, FARTHEST + 1, 0), Err(Refusal::PointX));
-    assert_eq!(judge(&records, 0, -FARTHEST - 1), Err(Refusal::PointY));
+    assert_eq!(judge(&records, M, FARTHEST + 1, 0), Err(Refusal::PointX));
+    assert_eq!(judge(&records, M, 0, -FARTHEST - 1), Err(Refusal::PointY));
     // Refusals of banding come before those of the point, and leave the list as it was.
     let mut lent = [7; RECORD];
-    let refused = band_and_judge(&CURVE_A, 43, &mut lent, FARTHEST + 1, 0);
+    let refused = band_and_judge(&CURVE_A, 43, M, &mut lent, FARTHEST + 1, 0);
     assert_eq!(refused, Err(Refusal::TooFewRecords { leaves: 2 }));
-    assert_eq!(band_and_judge(&[], 44, &mut lent, FARTHEST + 1, 0), Err(Refusal::EmptyOutline));
+    assert_eq!(band_and_judge(&[], 44, M, &mut lent, FARTHEST + 1, 0), Err(Refusal::EmptyOutline));
     assert_eq!(lent, [7; RECORD]);
 }
 

@@ -3,6 +3,9 @@
 
 #include <stdio.h>
 
+/* How many pieces a leaf has. */
+#define M 3
+
 static void print(struct contour_band_answer answer) {
     printf("%u %llu %llu %llu %llu\n", (unsigned)answer.refusal, (unsigned long long)answer.spot,
            (unsigned long long)answer.curves, (unsigned long long)answer.leaves, (unsigned long long)answer.nodes);
@@ -21,20 +24,22 @@ static void print_outcome(struct contour_band_outcome outcome) {
 }
 
 static void judge(const int32_t *leaves, size_t leaves_length) {
-    print_judgement(contour_judge(leaves, leaves_length, 240, 363));
-    print_judgement(contour_judge(leaves, leaves_length, 240, 364));
-    print_judgement(contour_judge(leaves, leaves_length, 0, CONTOUR_BAND_FARTHEST));
-    print_judgement(contour_judge(leaves, leaves_length, -CONTOUR_BAND_FARTHEST - 1, 0));
-    print_judgement(contour_judge(leaves, leaves_length, 0, CONTOUR_BAND_FARTHEST + 1));
-    print_judgement(contour_judge(leaves, leaves_length + 1, 240, 363));
-    print_judgement(contour_judge(leaves + 1, leaves_length, 240, 363));
+    print_judgement(contour_judge(leaves, leaves_length, M, 240, 363));
+    print_judgement(contour_judge(leaves, leaves_length, M, 240, 364));
+    print_judgement(contour_judge(leaves, leaves_length, M, 0, CONTOUR_BAND_FARTHEST));
+    print_judgement(contour_judge(leaves, leaves_length, M, -CONTOUR_BAND_FARTHEST - 1, 0));
+    print_judgement(contour_judge(leaves, leaves_length, M, 0, CONTOUR_BAND_FARTHEST + 1));
+    print_judgement(contour_judge(leaves, leaves_length + 1, M, 240, 363));
+    print_judgement(contour_judge(leaves + 1, leaves_length, M, 240, 363));
+    print_judgement(contour_judge(leaves, leaves_length, CONTOUR_BAND_PIECES_MAX + 1, 240, 363));
 }
 
 static void band_and_judge(const int32_t *outline, int32_t *records) {
-    print_outcome(contour_band_and_judge(outline, 9, 43, records, CONTOUR_BAND_RECORD, 240, 363));
-    print_outcome(contour_band_and_judge(outline, 9, 43, records, 2 * CONTOUR_BAND_RECORD, 300, 340));
-    print_outcome(contour_band_and_judge(outline, 9, 43, records, 2 * CONTOUR_BAND_RECORD, 240, 371));
-    print_outcome(contour_band_and_judge(outline, 9, 43, records, 2 * CONTOUR_BAND_RECORD, 0, CONTOUR_BAND_FARTHEST + 1));
+    print_outcome(contour_band_and_judge(outline, 9, 43, M, records, CONTOUR_BAND_RECORD(M), 240, 363));
+    print_outcome(contour_band_and_judge(outline, 9, 43, M, records, 2 * CONTOUR_BAND_RECORD(M), 300, 340));
+    print_outcome(contour_band_and_judge(outline, 9, 43, M, records, 2 * CONTOUR_BAND_RECORD(M), 240, 371));
+    print_outcome(contour_band_and_judge(outline, 9, 43, M, records, 2 * CONTOUR_BAND_RECORD(M), 0, CONTOUR_BAND_FARTHEST + 1));
+    print_outcome(contour_band_and_judge(outline, 9, 43, 0, records, 2 * CONTOUR_BAND_RECORD(M), 240, 371));
 }
 
 static void draw(struct contour_band_box first, struct contour_band_box second, size_t length) {
@@ -49,19 +54,30 @@ static void draw(struct contour_band_box first, struct contour_band_box second, 
 
 int main(void) {
     const int32_t outline[9] = {3, 0, 0, 10, 30, 20, 30, 30, 0};
-    int32_t records[2 * CONTOUR_BAND_RECORD] = {0};
-    records[CONTOUR_BAND_RECORD] = -1;
-    print(contour_band(outline, 9, 44, records, CONTOUR_BAND_RECORD + 1));
-    for (int i = 0; i <= CONTOUR_BAND_RECORD; i++) {
-        printf(i < CONTOUR_BAND_RECORD ? "%d " : "%d\n", (int)records[i]);
+    int32_t records[2 * CONTOUR_BAND_RECORD(M)] = {0};
+    records[CONTOUR_BAND_RECORD(M)] = -1;
+    print(contour_band(outline, 9, 44, M, records, CONTOUR_BAND_RECORD(M) + 1));
+    for (int i = 0; i <= CONTOUR_BAND_RECORD(M); i++) {
+        printf(i < CONTOUR_BAND_RECORD(M) ? "%d " : "%d\n", (int)records[i]);
     }
-    print(contour_band(outline, 9, CONTOUR_BAND_TOLERANCE_MIN - 1, records, CONTOUR_BAND_RECORD));
-    print(contour_band(outline, 8, 44, records, CONTOUR_BAND_RECORD));
-    print(contour_band(outline, 9, 43, records, CONTOUR_BAND_RECORD));
+    print(contour_band(outline, 9, CONTOUR_BAND_TOLERANCE_MIN - 1, M, records, CONTOUR_BAND_RECORD(M)));
+    print(contour_band(outline, 8, 44, M, records, CONTOUR_BAND_RECORD(M)));
+    print(contour_band(outline, 9, 43, M, records, CONTOUR_BAND_RECORD(M)));
     const int32_t apart[10] = {1, 0, 0, 0, 1, 1, 0, 0, 0, 1};
-    print(contour_band(apart, 10, 44, records, CONTOUR_BAND_RECORD));
-    judge(records, CONTOUR_BAND_RECORD);
+    print(contour_band(apart, 10, 44, M, records, CONTOUR_BAND_RECORD(M)));
+    print(contour_band(outline, 9, 44, CONTOUR_BAND_PIECES_MIN - 1, records, CONTOUR_BAND_RECORD(M)));
+    print(contour_band(outline, 9, 44, CONTOUR_BAND_PIECES_MAX + 1, records, CONTOUR_BAND_RECORD(M)));
+    /* A negative number becomes a large one. */
+    const int negative = -3;
+    print(contour_band(outline, 9, 44, negative, records, CONTOUR_BAND_RECORD(M)));
+    judge(records, CONTOUR_BAND_RECORD(M));
     band_and_judge(outline, records);
+
+    for (uint32_t m = CONTOUR_BAND_PIECES_MIN; m <= CONTOUR_BAND_PIECES_MAX; m++) {
+        int32_t whole[CONTOUR_BAND_RECORD(CONTOUR_BAND_PIECES_MAX)] = {0};
+        print(contour_band(outline, 9, 360, m, whole, CONTOUR_BAND_RECORD(m)));
+        print_judgement(contour_judge(whole, CONTOUR_BAND_RECORD(m), m, 480, 0));
+    }
 
     const struct contour_band_box near = {0, 1, 0, 1}, far = {3, 4, 3, 4};
     const struct contour_band_box beyond = {0, 0, 0, CONTOUR_BAND_FARTHEST + 1};

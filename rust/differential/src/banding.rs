@@ -1,15 +1,16 @@
-//! One outline, tolerance and lent list to both engines, and what they answer compared.
+//! One outline, tolerance, m and lent list to both engines, and what they answer compared.
 
 use crate::random::Random;
 use crate::refusals::Refusals;
+use plain::record_length;
 use std::fmt;
 use std::io::Write;
 
 /// Numbers on each side of a lent list, which no engine may touch.
 const MARGIN: usize = 20;
 
-/// Enough numbers for the leaves of any outline, with some to spare.
-const LONGEST: usize = 18 * 64 * 256 + 1_000;
+/// Enough numbers for the leaves of any outline with eight pieces, with some to spare.
+const LONGEST: usize = record_length(8) * 64 * 256 + 1_000;
 
 /// What an engine answers.
 #[derive(Debug, Clone, Copy, PartialEq, Eq)]
@@ -35,6 +36,8 @@ pub struct Comparison {
     noise: Vec<i32>,
     proved: Vec<i32>,
     plain: Vec<i32>,
+    /// How many numbers at the front of the lent list were last written.
+    written: usize,
     random: Random,
     /// What was compared so far.
     pub tally: Tally,
@@ -49,8 +52,8 @@ pub struct Tally {
     pub answers: u64,
     /// Numbers of lent lists, their margins and the rest past the records included.
     pub numbers: u64,
-    /// Answers that accept.
-    pub accepted: u64,
+    /// Answers that accept, by m from 1.
+    pub accepted: [u64; 8],
     /// Answers that refuse, by the refusal's number.
     pub refused: Refusals,
     /// Leaves, by depth.
@@ -68,7 +71,7 @@ impl Comparison {
             })
             .collect();
         let tally = Tally::default();
-        Comparison { name, noise, proved: Vec::new(), plain: Vec::new(), random, tally }
+        Comparison { name, noise, proved: Vec::new(), plain: Vec::new(), written: 0, random, tally }
     }
 
     /// Bands with both engines into lists of `length` numbers. Returns the answer that they share.
@@ -77,7 +80,7 @@ impl Comparison {
     ///
     /// Where an answer or a number differs, or a number that was not to be written has changed.
     /// Prints the input and both answers.
-    pub fn band(&mut self, outline: &[i32], tolerance: i32, length: usize) -> Answer {
+    pub fn band(&mut self, outline: &[i32], tolerance: i32, m: u32, length: usize) -> Answer {
         // Other noise at the same place from call to call.
         let start = self.random.below(LONGEST.saturating_sub(length) + 1);
         let noise = &self.noise[start..][..length + 2 * MARGIN];
@@ -87,45 +90,45 @@ impl Comparison {
         }
         let lent = MARGIN..MARGIN + length;
         let given = outline.to_vec();
-        let proved = by_proved(&given, tolerance, &mut self.proved[lent.clone()]);
-        let plain = by_plain(outline, tolerance, &mut self.plain[lent]);
-        let leaves = match plain {
-            Accepted { leaves, .. } => leaves as usize,
+        let proved = by_proved(&given, tolerance, m, &mut self.proved[lent.clone()]);
+        let plain = by_plain(outline, tolerance, m, &mut self.plain[lent]);
+        self.written = match plain {
+            Accepted { leaves, .. } => record_length(m) * leaves as usize,
             Refused(..) => 0,
         };
-        let written = MARGIN..MARGIN + 18 * leaves;
+        let written = MARGIN..MARGIN + self.written;
         let stays = |list: &[i32]| {
             list[..written.start] == noise[..written.start] && list[written.end..] == noise[written.end..]
         };
         let alike = proved == plain && self.proved == self.plain && given == outline;
         if !alike || !stays(&self.proved) {
-            self.fail(outline, &given, tolerance, length, proved, plain);
+            self.fail(outline, &given, (tolerance, m), length, proved, plain);
         }
-        self.count(plain, leaves);
+        self.count(plain, m);
         plain
     }
 
     /// Bands into an empty list, one a number short, an exact one and a longer one, as far as the
     /// outline has leaves. Returns the answer for the longer one.
-    pub fn band_into_every_length(&mut self, outline: &[i32], tolerance: i32) -> Answer {
-        let empty = self.band(outline, tolerance, 0);
+    pub fn band_into_every_length(&mut self, outline: &[i32], tolerance: i32, m: u32) -> Answer {
+        let empty = self.band(outline, tolerance, m, 0);
         let Refused(8, leaves) = empty else {
             let some = self.random.below(100);
-            assert_eq!(self.band(outline, tolerance, some), empty);
+            assert_eq!(self.band(outline, tolerance, m, some), empty);
             return empty;
         };
-        let exact = 18 * leaves as usize;
-        assert_eq!(self.band(outline, tolerance, exact - 1), empty);
-        let accepted = self.band(outline, tolerance, exact);
+        let exact = record_length(m) * leaves as usize;
+        assert_eq!(self.band(outline, tolerance, m, exact - 1), empty);
+        let accepted = self.band(outline, tolerance, m, exact);
         assert!(matches!(accepted, Accepted { .. }));
         let longer = exact + 1 + self.random.below(60);
-        assert_eq!(self.band(outline, tolerance, longer), accepted);
+        assert_eq!(self.band(outline, tolerance, m, longer), accepted);
         accepted
     }
 
     /// The records that were last written: both engines wrote the same.
-    pub fn records(&self, leaves: u64) -> &[i32] {
-        &self.plain[MARGIN..MARGIN + 18 * leaves as usize]
+    pub fn records(&self) -> &[i32] {
+        &self.plain[MARGIN..MARGIN + self.written]
     }
 
     /// Prints what was compared, also where the test runner keeps a test's output to itself.
@@ -134,14 +137,14 @@ impl Comparison {
         writeln!(out, "{}: {}", self.name, self.tally).expect("standard output takes a line");
     }
 
-    fn count(&mut self, answer: Answer, leaves: usize) {
+    fn count(&mut self, answer: Answer, m: u32) {
         self.tally.answers += 1;
         self.tally.numbers += self.plain.len() as u64;
         match answer {
-            Accepted { .. } => self.tally.accepted += 1,
+            Accepted { .. } => self.tally.accepted[m as usize - 1] += 1,
             Refused(number, _) => self.tally.refused.count(number),
         }
-        for record in self.plain[MARGIN..][..18 * leaves].chunks_exact(18) {
+        for record in self.plain[MARGIN..][..self.written].chunks_exact(record_length(m)) {
             self.tally.leaves[record[1].ilog2() as usize] += 1;
         }
     }
@@ -150,13 +153,13 @@ impl Comparison {
         &self,
         outline: &[i32],
         given: &[i32],
-        tolerance: i32,
+        (tolerance, m): (i32, u32),
         length: usize,
         proved: Answer,
         plain: Answer,
     ) -> ! {
         let mut message = format!("{}: the engines differ, or a number changed\n", self.name);
-        message += &format!("outline {outline:?}\ntolerance {tolerance}\nlent numbers {length}\n");
+        message += &format!("outline {outline:?}\ntolerance {tolerance}\nm {m}\nlent numbers {length}\n");
         message += &format!("proved answers {proved:?}\nplain answers {plain:?}\n");
         if given != outline {
             message += &format!("outline after the proved engine {given:?}\n");
@@ -171,15 +174,15 @@ impl Comparison {
     }
 }
 
-fn by_proved(outline: &[i32], tolerance: i32, records: &mut [i32]) -> Answer {
-    match contour_band::band(outline, tolerance, records) {
+fn by_proved(outline: &[i32], tolerance: i32, m: u32, records: &mut [i32]) -> Answer {
+    match contour_band::band(outline, tolerance, m, records) {
         Ok(contour_band::Report { curves, leaves, nodes }) => Accepted { curves, leaves, nodes },
         Err(refusal) => Refused(refusal.number(), refusal.spot()),
     }
 }
 
-fn by_plain(outline: &[i32], tolerance: i32, records: &mut [i32]) -> Answer {
-    match plain::band(outline, tolerance, records) {
+fn by_plain(outline: &[i32], tolerance: i32, m: u32, records: &mut [i32]) -> Answer {
+    match plain::band(outline, tolerance, m, records) {
         Ok(plain::Report { curves, leaves, nodes }) => Accepted { curves, leaves, nodes },
         Err(refusal) => Refused(refusal.number(), refusal.spot()),
     }
@@ -189,7 +192,7 @@ impl fmt::Display for Tally {
     fn fmt(&self, f: &mut fmt::Formatter<'_>) -> fmt::Result {
         write!(
             f,
-            "{} outlines, {} answers and {} numbers compared; accepted {}, refused by number {}, leaves by depth {:?}",
+            "{} outlines, {} answers and {} numbers compared; accepted by m {:?}, refused by number {}, leaves by depth {:?}",
             self.outlines,
             self.answers,
             self.numbers,

@@ -1,6 +1,8 @@
 //! Whether a cover holds a point, decided in a way of its own: by trying every fraction at which the
 //! answer can change.
 
+use plain::record_length;
+
 /// A fraction from 0 to 1.
 #[derive(Debug, Clone, Copy)]
 pub struct Fraction {
@@ -58,10 +60,12 @@ pub fn witness_of(record: &[i32], cover: usize, x: i32, y: i32) -> Option<Fracti
     witness(&record[start..start + 4], &record[start + 4..start + 8], x, y)
 }
 
-/// Every record and cover of a list that hold the point, by record and then by cover.
-pub fn holders(leaves: &[i32], x: i32, y: i32) -> impl Iterator<Item = (usize, usize)> + '_ {
-    let all = (0..leaves.len() / 18).flat_map(|leaf| (0..3).map(move |cover| (leaf, cover)));
-    all.filter(move |&(leaf, cover)| witness_of(&leaves[18 * leaf..][..18], cover, x, y).is_some())
+/// Every record and cover of a list of records of m pieces that hold the point, by record and then by cover.
+pub fn holders(leaves: &[i32], m: u32, x: i32, y: i32) -> impl Iterator<Item = (usize, usize)> + '_ {
+    let records = leaves.chunks_exact(record_length(m)).enumerate();
+    let all = records.flat_map(move |(leaf, record)| (0..m as usize).map(move |cover| (leaf, record, cover)));
+    let held = all.filter(move |&(_, record, cover)| witness_of(record, cover, x, y).is_some());
+    held.map(|(leaf, _, cover)| (leaf, cover))
 }
 
 #[cfg(test)]

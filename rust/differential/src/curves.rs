@@ -60,11 +60,12 @@ impl Curve<'_> {
 }
 
 /// The parameter p/q of a node's curve at which a cover's s stands, in lowest terms. A node at depth k
-/// covers the parameters from (node − 2^k)/2^k on for 1/2^k, and each of its covers a third of them.
-pub fn parameter(node: i32, cover: usize, s: Fraction) -> (i128, i128) {
+/// covers the parameters from (node − 2^k)/2^k on for 1/2^k, and each of its m covers an m-th of them.
+pub fn parameter(node: i32, m: u32, cover: usize, s: Fraction) -> (i128, i128) {
     let depth = node.ilog2();
-    let thirds = 3 * (i128::from(node) - (1 << depth)) + cover as i128;
-    let (p, q) = (thirds * s.below + s.above, (3 * s.below) << depth);
+    let m = i128::from(m);
+    let pieces = m * (i128::from(node) - (1 << depth)) + cover as i128;
+    let (p, q) = (pieces * s.below + s.above, (m * s.below) << depth);
     let common = gcd(p, q);
     (p / common, q / common)
 }
@@ -120,10 +121,12 @@ mod tests {
     #[test]
     fn parameters_follow_the_document() {
         let half = Fraction { above: 1, below: 2 };
-        assert_eq!(parameter(1, 0, Fraction { above: 0, below: 5 }), (0, 1));
-        assert_eq!(parameter(1, 1, half), (1, 2));
-        assert_eq!(parameter(3, 0, Fraction { above: 0, below: 1 }), (1, 2));
-        assert_eq!(parameter(511, 2, Fraction { above: 1, below: 1 }), (1, 1));
-        assert_eq!(parameter(6, 1, half), (5, 8));
+        assert_eq!(parameter(1, 3, 0, Fraction { above: 0, below: 5 }), (0, 1));
+        assert_eq!(parameter(1, 3, 1, half), (1, 2));
+        assert_eq!(parameter(3, 3, 0, Fraction { above: 0, below: 1 }), (1, 2));
+        assert_eq!(parameter(511, 3, 2, Fraction { above: 1, below: 1 }), (1, 1));
+        assert_eq!(parameter(6, 3, 1, half), (5, 8));
+        assert_eq!(parameter(1, 8, 5, half), (11, 16));
+        assert_eq!(parameter(3, 1, 0, half), (3, 4));
     }
 }

@@ -1,7 +1,9 @@
 //! Random leaf lists that pass every check, whether or not banding would write them, points near
 //! their covers, and ways to damage both.
 
+use crate::pieces::{self, pieces};
 use crate::random::Random;
+use plain::record_length;
 
 /// The largest box number and coordinate of a point. 1 more is out of range.
 pub const FARTHEST: i32 = 536_870_912;
@@ -30,29 +32,32 @@ const WIDTHS: [Width; 4] = [Width::None, Width::Thin, Width::Any, Width::Extreme
 pub struct LeafList {
     /// The records.
     pub numbers: Vec<i32>,
+    /// The number of pieces of each.
+    pub m: u32,
     step: i32,
 }
 
-/// Mostly 1 to 4 records, at times up to 60.
+/// Mostly 1 to 4 records, at times up to 60, of any number of pieces.
 pub fn leaf_list(random: &mut Random) -> LeafList {
+    let m = pieces(random);
     let records = if random.one_in(40) { random.between(5, 60) } else { random.between(1, 4) };
     let step = if random.one_in(2) { 1 } else { random.magnitude() };
     let mut numbers = Vec::new();
     for _ in 0..records {
         numbers.push(random.pick(&[0, 1, 31, 63]));
         numbers.push(random.between(1, 511));
-        boxes(random, step, &mut numbers);
+        boxes(random, m, step, &mut numbers);
     }
-    LeafList { numbers, step }
+    LeafList { numbers, m, step }
 }
 
-/// The four boxes of a record.
-fn boxes(random: &mut Random, step: i32, numbers: &mut Vec<i32>) {
+/// The boxes of a record.
+fn boxes(random: &mut Random, m: u32, step: i32, numbers: &mut Vec<i32>) {
     let widths = [random.pick(&WIDTHS), random.pick(&WIDTHS)];
     // Up to 2^29, each power of two as likely as the others, in steps.
     let size = (FARTHEST / step).min(1 << random.below(30));
     let base = random.between(-(FARTHEST - step * size), FARTHEST - step * size);
-    for i in 0..4 {
+    for i in 0..=m {
         if i > 0 && random.one_in(6) {
             // The box before once more.
             numbers.extend_from_within(numbers.len() - 4..);
@@ -77,8 +82,8 @@ fn boxes(random: &mut Random, step: i32, numbers: &mut Vec<i32>) {
 
 impl LeafList {
     /// A list as banding wrote it.
-    pub fn new(numbers: Vec<i32>) -> LeafList {
-        LeafList { numbers, step: 1 }
+    pub fn new(numbers: Vec<i32>, m: u32) -> LeafList {
+        LeafList { numbers, m, step: 1 }
     }
 
     /// A point in range: mostly on an edge or a corner of a mixture of two boxes, or one or two off it.
@@ -90,8 +95,9 @@ impl LeafList {
         if random.one_in(32) {
             return (random.pick(&EXTREMES), random.pick(&EXTREMES));
         }
-        let record = 18 * random.below(self.numbers.len() / 18);
-        let start = record + 2 + 4 * random.below(3);
+        let length = record_length(self.m);
+        let record = length * random.below(self.numbers.len() / length);
+        let start = record + 2 + 4 * random.below(self.m as usize);
         let boxes = &self.numbers[start..start + 8];
         // s is part / parts.
         let parts = match random.below(4) {
@@ -139,11 +145,11 @@ pub const AWKWARD: [i32; 16] = [
     i32::MAX,
 ];
 
-/// Damages a list and a point in one to three places. What results may still pass.
-pub fn damage(random: &mut Random, leaves: &mut Vec<i32>, x: &mut i32, y: &mut i32) {
+/// Damages a list, m and a point in one to three places. What results may still pass.
+pub fn damage(random: &mut Random, leaves: &mut Vec<i32>, m: &mut u32, x: &mut i32, y: &mut i32) {
     for _ in 0..random.between(1, 3) {
         let length = leaves.len();
-        match random.below(12) {
+        match random.below(13) {
             0..=3 if length > 0 => leaves[random.below(length)] = random.pick(&AWKWARD),
             4 if length > 0 => leaves[random.below(length)] = random.bits() as i32,
             5 | 6 if length > 3 => {
@@ -155,7 +161,8 @@ pub fn damage(random: &mut Random, leaves: &mut Vec<i32>, x: &mut i32, y: &mut i
             8 => *y = random.pick(&AWKWARD),
             9 if random.one_in(3) => leaves.truncate(random.below(length + 1)),
             10 if random.one_in(3) => leaves.push(random.pick(&AWKWARD)),
-            11 if random.one_in(3) && length > 0 => {
+            11 => pieces::damage(random, m),
+            12 if random.one_in(3) && length > 0 => {
                 leaves.remove(random.below(length));
             }
             _ => (*x, *y) = (random.bits() as i32, random.bits() as i32),
@@ -176,7 +183,7 @@ mod tests {
             longest = longest.max(list.numbers.len());
             for _ in 0..4 {
                 let (x, y) = list.point(&mut random);
-                match plain::judge(&list.numbers, x, y).expect("nothing is refused") {
+                match plain::judge(&list.numbers, list.m, x, y).expect("nothing is refused") {
                     plain::Judgement::On { .. } => on += 1,
                     plain::Judgement::Off => off += 1,
                 }
@@ -184,6 +191,6 @@ mod tests {
         }
         // Neither answer is rare.
         assert!(on > 15_000 && off > 15_000, "{on} on, {off} off");
-        assert!(longest > 18 * 50);
+        assert!(longest > record_length(8) * 50);
     }
 }

@@ -10,6 +10,7 @@ pub mod drawing;
 pub mod judging;
 pub mod leaf_lists;
 pub mod outlines;
+pub mod pieces;
 pub mod program;
 pub mod random;
 pub mod refusals;

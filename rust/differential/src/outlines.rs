@@ -1,5 +1,6 @@
 //! Random outlines that pass every check, of many shapes, and ways to damage them.
 
+use crate::pieces;
 use crate::random::Random;
 
 /// The largest coordinate and its negative are in range, 1 more is not.
@@ -32,20 +33,25 @@ pub fn tolerance(random: &mut Random) -> i32 {
     random.magnitude().max(2)
 }
 
-/// 64 cubics, each from where the one before ends, with 256 leaves at a tolerance of 3: their second
-/// differences are 0 and 0 in x, -40,000 and -40,000 in y.
-pub fn deepest(random: &mut Random) -> Vec<i32> {
+/// A second difference D for each m from 1: with two of them a box at depth j is some 3.5 × 4^(7 − j)
+/// sixteenths high, before it is rounded. It is 16 × G × D / 10000 at depth 0.
+const STEEP: [i32; 8] = [4_740, 18_300, 40_000, 74_500, 117_000, 168_000, 229_000, 296_000];
+
+/// 64 cubics, each from where the one before ends, with 256 leaves of m pieces at a tolerance of 3: their
+/// second differences are 0 and 0 in x, −D and −D in y.
+pub fn deepest(random: &mut Random, m: u32) -> Vec<i32> {
+    let steep = STEEP[m as usize - 1];
+    let highest = EDGE - steep - 20_000;
     let mut outline: Vec<i32> = Vec::new();
     while outline.len() < 9 * 64 {
         let (x, y) = match outline[..] {
             [.., x, y] => (x, y),
-            _ => (random.between(-EDGE, EDGE), random.between(-EDGE, EDGE - 100_000)),
+            _ => (random.between(-EDGE, EDGE), random.between(-EDGE, highest)),
         };
         let (u, v) = (random.between(-30_000, 30_000), random.between(-10_000, 10_000));
-        let up = v + 40_000;
-        let curve = [3, x, y, x + u, y + up, x + 2 * u, y + 2 * up - 40_000, x + 3 * u, y + 3 * up - 120_000];
+        let curve = [3, x, y, x + u, y + v + steep, x + 2 * u, y + 2 * v + steep, x + 3 * u, y + 3 * v];
         // The end leaves room above for the next.
-        if curve.iter().all(|&n| in_range(n)) && curve[8] <= EDGE - 100_000 {
+        if curve.iter().all(|&n| in_range(n)) && curve[8] <= highest {
             outline.extend(curve);
         }
     }
@@ -141,11 +147,11 @@ fn values(random: &mut Random, shape: Shape, degree: i32) -> Vec<i32> {
 pub const AWKWARD: [i32; 15] =
     [i32::MIN, i32::MIN + 1, -EDGE - 1, -EDGE, -1, 0, 1, 2, 3, 4, 5, EDGE, EDGE + 1, i32::MAX - 1, i32::MAX];
 
-/// Damages an outline and its tolerance in one to three places. What results may still pass.
-pub fn damage(random: &mut Random, outline: &mut Vec<i32>, tolerance: &mut i32) {
+/// Damages an outline, its tolerance and m in one to three places. What results may still pass.
+pub fn damage(random: &mut Random, outline: &mut Vec<i32>, tolerance: &mut i32, m: &mut u32) {
     for _ in 0..random.between(1, 3) {
         let length = outline.len();
-        match random.below(9) {
+        match random.below(10) {
             0 => *tolerance = random.pick(&AWKWARD),
             1 | 2 if length > 0 => outline[random.below(length)] = random.pick(&AWKWARD),
             3 if length > 0 => outline[random.below(length)] = random.bits() as i32,
@@ -154,7 +160,8 @@ pub fn damage(random: &mut Random, outline: &mut Vec<i32>, tolerance: &mut i32) 
             6 if length > 0 => {
                 outline.remove(random.below(length));
             }
-            7 if starts(outline).len() > 1 => part(random, outline),
+            7 => pieces::damage(random, m),
+            8 if starts(outline).len() > 1 => part(random, outline),
             _ => {
                 // Past 64 curves, with or without an end inside the last one.
                 let [x, y] = if let [.., x, y] = outline[..] { [x, y] } else { [0, 0] };
@@ -205,10 +212,11 @@ mod tests {
         let mut random = Random::new(5);
         let mut lengths = Vec::new();
         for _ in 0..20_000 {
+            let m = pieces::pieces(&mut random);
             let outline = outline(&mut random);
             assert!(outline.iter().all(|&n| in_range(n)));
             // At the widest tolerance nothing else is refused than the missing list.
-            let refusal = plain::band(&outline, EDGE, &mut []).unwrap_err();
+            let refusal = plain::band(&outline, EDGE, m, &mut []).unwrap_err();
             assert_eq!(refusal.number(), 8);
             lengths.push(outline.len());
         }

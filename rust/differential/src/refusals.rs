@@ -9,6 +9,11 @@ use std::ops::{AddAssign, Index};
 pub struct Refusals(BTreeMap<u32, u64>);
 
 impl Refusals {
+    /// Whether none was answered.
+    pub fn is_empty(&self) -> bool {
+        self.0.is_empty()
+    }
+
     /// Counts the refusal with a number once more.
     pub fn count(&mut self, number: u32) {
         *self.0.entry(number).or_default() += 1;

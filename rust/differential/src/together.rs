@@ -3,6 +3,7 @@
 use crate::judging::Answer;
 use crate::random::Random;
 use crate::refusals::Refusals;
+use plain::record_length;
 use std::fmt;
 use std::io::Write;
 
@@ -31,7 +32,7 @@ pub struct Comparison {
 /// Counts of what was compared.
 #[derive(Debug, Clone, Default)]
 pub struct Tally {
-    /// Calls, each with an outline, a tolerance, a lent list and a point.
+    /// Calls, each with an outline, a tolerance, an m, a lent list and a point.
     pub calls: u64,
     /// Numbers of lent lists, their margins and the rest past the records included.
     pub numbers: u64,
@@ -59,6 +60,7 @@ impl Comparison {
         &mut self,
         outline: &[i32],
         tolerance: i32,
+        m: u32,
         length: usize,
         x: i32,
         y: i32,
@@ -67,19 +69,22 @@ impl Comparison {
         let lent = MARGIN..MARGIN + length;
         let (mut one, mut two, mut plain) = (noise.clone(), noise.clone(), noise.clone());
         let given = outline.to_vec();
-        let together = together(&given, tolerance, &mut one[lent.clone()], x, y);
-        let apart = apart(outline, tolerance, &mut two[lent.clone()], x, y);
-        let by_plain = by_plain(outline, tolerance, &mut plain[lent], x, y);
+        let together = together(&given, tolerance, m, &mut one[lent.clone()], x, y);
+        let apart = apart(outline, tolerance, m, &mut two[lent.clone()], x, y);
+        let by_plain = by_plain(outline, tolerance, m, &mut plain[lent], x, y);
         // A plain list has noise wherever nothing is to be written.
         let same_lists = one == two && one == plain && given == outline;
         let right = match together {
-            Banded([_, leaves, _], answer) => answer.is_right(&plain[MARGIN..][..18 * leaves as usize], x, y),
+            Banded([_, leaves, _], answer) => {
+                let written = record_length(m) * leaves as usize;
+                answer.is_right(&plain[MARGIN..][..written], m, x, y)
+            }
             Refused(..) => one == noise,
         };
         if !(same_lists && right && together == apart && together == by_plain) {
             panic!(
                 "{}: the outcomes differ, an answer is wrong, or a number changed\noutline {outline:?}\n\
-                 tolerance {tolerance}\nlent numbers {length}\npoint ({x} {y})\ntogether {together:?}\n\
+                 tolerance {tolerance}\nm {m}\nlent numbers {length}\npoint ({x} {y})\ntogether {together:?}\n\
                  one after the other {apart:?}\nplain {by_plain:?}\nthe lists are the same: {same_lists}",
                 self.name
             );
@@ -106,8 +111,8 @@ impl Comparison {
 }
 
 /// The proved engine in one call.
-fn together(outline: &[i32], tolerance: i32, records: &mut [i32], x: i32, y: i32) -> Outcome {
-    match contour_band::band_and_judge(outline, tolerance, records, x, y) {
+fn together(outline: &[i32], tolerance: i32, m: u32, records: &mut [i32], x: i32, y: i32) -> Outcome {
+    match contour_band::band_and_judge(outline, tolerance, m, records, x, y) {
         Ok(contour_band::Outcome { report, judgement }) => {
             Banded([report.curves, report.leaves, report.nodes], Ok(judgement).into())
         }
@@ -116,13 +121,13 @@ fn together(outline: &[i32], tolerance: i32, records: &mut [i32], x: i32, y: i32
 }
 
 /// The proved engine in two calls, the first into a list of its own.
-fn apart(outline: &[i32], tolerance: i32, records: &mut [i32], x: i32, y: i32) -> Outcome {
+fn apart(outline: &[i32], tolerance: i32, m: u32, records: &mut [i32], x: i32, y: i32) -> Outcome {
     let mut changed = records.to_vec();
-    let report = match contour_band::band(outline, tolerance, &mut changed) {
+    let report = match contour_band::band(outline, tolerance, m, &mut changed) {
         Ok(report) => report,
         Err(refusal) => return Refused(refusal.number(), refusal.spot()),
     };
-    match contour_band::judge(&changed[..18 * report.leaves as usize], x, y).into() {
+    match contour_band::judge(&changed[..record_length(m) * report.leaves as usize], m, x, y).into() {
         Answer::Refused(number, spot) => Refused(number, spot),
         answer => {
             records.copy_from_slice(&changed);
@@ -132,8 +137,8 @@ fn apart(outline: &[i32], tolerance: i32, records: &mut [i32], x: i32, y: i32) -
 }
 
 /// The plain engine in one call.
-fn by_plain(outline: &[i32], tolerance: i32, records: &mut [i32], x: i32, y: i32) -> Outcome {
-    match plain::band_and_judge(outline, tolerance, records, x, y) {
+fn by_plain(outline: &[i32], tolerance: i32, m: u32, records: &mut [i32], x: i32, y: i32) -> Outcome {
+    match plain::band_and_judge(outline, tolerance, m, records, x, y) {
         Ok((report, judgement)) => Banded([report.curves, report.leaves, report.nodes], Ok(judgement).into()),
         Err(refusal) => Refused(refusal.number(), refusal.spot()),
     }

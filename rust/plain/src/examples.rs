@@ -1,30 +1,41 @@
-//! The measured examples of document 01 that banding reaches, and laws of its reports.
+//! The measured examples of document 01 that banding reaches, the like with other numbers of pieces, and laws
+//! of banding's reports.
 
-use crate::{band, Refusal, Report, RECORD};
+use crate::documented::by_pieces;
+use crate::{band, exact, record_length, Refusal, Report};
+
+/// The length of a record of three pieces.
+const RECORD: usize = 18;
 
 /// Stands where nothing was written.
 const UNTOUCHED: i32 = -77_777_777;
 
-/// Room for every leaf that an outline can have.
-fn room() -> Vec<i32> {
-    vec![UNTOUCHED; RECORD * 64 * 256]
-}
-
-/// The report and the records of an outline that is accepted. Checks that nothing else was written.
-fn accepted(outline: &[i32], tolerance: i32) -> (Report, Vec<i32>) {
-    let mut records = room();
-    let report = band(outline, tolerance, &mut records).expect("the outline is accepted");
-    let rest = records.split_off(RECORD * report.leaves as usize);
+/// The report and the records of an outline that is accepted with m pieces. Checks that nothing else was
+/// written.
+fn accepted_in(m: u32, outline: &[i32], tolerance: i32) -> (Report, Vec<i32>) {
+    let length = record_length(m);
+    // Room for every leaf that an outline can have.
+    let mut records = vec![UNTOUCHED; length * 64 * 256];
+    let report = band(outline, tolerance, m, &mut records).expect("the outline is accepted");
+    let rest = records.split_off(length * report.leaves as usize);
     assert!(rest.iter().all(|&n| n == UNTOUCHED));
     (report, records)
 }
 
-/// The refusal of an outline. Checks that nothing was written.
-fn refused(outline: &[i32], tolerance: i32, length: usize) -> Refusal {
+fn accepted(outline: &[i32], tolerance: i32) -> (Report, Vec<i32>) {
+    accepted_in(3, outline, tolerance)
+}
+
+/// The refusal of an outline with m pieces. Checks that nothing was written.
+fn refused_in(m: u32, outline: &[i32], tolerance: i32, length: usize) -> Refusal {
     let mut records = vec![UNTOUCHED; length];
-    let refusal = band(outline, tolerance, &mut records).expect_err("the outline is refused");
+    let refusal = band(outline, tolerance, m, &mut records).expect_err("the outline is refused");
     assert!(records.iter().all(|&n| n == UNTOUCHED));
     refusal
+}
+
+fn refused(outline: &[i32], tolerance: i32, length: usize) -> Refusal {
+    refused_in(3, outline, tolerance, length)
 }
 
 fn number_and_spot(refusal: Refusal) -> (u32, u64) {
@@ -38,10 +49,14 @@ fn upright(y: &[i32]) -> Vec<i32> {
     outline
 }
 
-/// The y bounds of every box of every record.
+/// The y bounds of every box of every record of m pieces.
+fn y_bounds_in(m: u32, records: &[i32]) -> Vec<(i32, i32)> {
+    let records = records.chunks_exact(record_length(m));
+    records.flat_map(|record| record[2..].chunks_exact(4)).map(|b| (b[2], b[3])).collect()
+}
+
 fn y_bounds(records: &[i32]) -> Vec<(i32, i32)> {
-    let boxes = records.chunks_exact(RECORD).flat_map(|record| record[2..].chunks_exact(4));
-    boxes.map(|b| (b[2], b[3])).collect()
+    y_bounds_in(3, records)
 }
 
 const CURVE_A: [i32; 9] = [3, 0, 0, 10, 30, 20, 30, 30, 0];
@@ -86,6 +101,121 @@ fn a_line_0_1() {
     let (report, records) = accepted(&upright(&[0, 1]), 2);
     assert_eq!(report, Report { curves: 1, leaves: 1, nodes: 1 });
     assert_eq!(y_bounds(&records), [(0, 0), (5, 6), (10, 11), (16, 16)]);
+}
+
+/// The least tolerance at which curve A is one leaf, with m pieces from 1 to 8.
+const CURVE_A_WHOLE: [(u32, i32); 8] =
+    [(1, 360), (2, 94), (3, 44), (4, 24), (5, 16), (6, 12), (7, 10), (8, 7)];
+
+#[test]
+fn curve_a_in_pieces() {
+    for (m, tolerance) in CURVE_A_WHOLE {
+        let whole = accepted_in(m, &CURVE_A, tolerance).0;
+        assert_eq!(whole, Report { curves: 1, leaves: 1, nodes: 1 });
+        let halved = accepted_in(m, &CURVE_A, tolerance - 1).0;
+        assert_eq!(halved, Report { curves: 1, leaves: 2, nodes: 3 });
+    }
+    // A's second differences are 0 in x, and −30 twice in y: at a break point, y is 0.048 times the sum of
+    // both rows, turned positive.
+    #[rustfmt::skip]
+    let leaves: [(u32, &[i32]); 4] = [
+        // 0.048 × 7500 = 360.
+        (1, &[0, 1, 0, 0, 0, 360, 480, 480, 0, 360]),
+        // 0.048 × 1943 = 93.264; 0.048 × 7500 = 360 and 0.048 × 9444 = 453.312.
+        (2, &[0, 1, 0, 0, 0, 94, 240, 240, 360, 454, 480, 480, 0, 94]),
+        // 0.048 × 477 = 22.896; 0.048 × 5624 = 269.952 and 0.048 × 6101 = 292.848; 360 and
+        // 0.048 × 7970 = 382.56.
+        (4, &[
+            0, 1, 0, 0, 0, 23, 120, 120, 269, 293, 240, 240, 360, 383, 360, 360, 269, 293, 480, 480, 0, 23,
+        ]),
+        // 0.048 × 118 = 5.664; 0.048 × 3280 = 157.44 and 0.048 × 3400 = 163.2; 0.048 × 5624 = 269.952 and
+        // 0.048 × 5744 = 275.712; 0.048 × 7030 = 337.44 and 0.048 × 7149 = 343.152; 360 and
+        // 0.048 × 7618 = 365.664.
+        (8, &[
+            0, 1, 0, 0, 0, 6, 60, 60, 157, 164, 120, 120, 269, 276, 180, 180, 337, 344, 240, 240, 360, 366,
+            300, 300, 337, 344, 360, 360, 269, 276, 420, 420, 157, 164, 480, 480, 0, 6,
+        ]),
+    ];
+    for (m, leaf) in leaves {
+        assert_eq!(accepted_in(m, &CURVE_A, 1_000).1, leaf);
+    }
+}
+
+#[test]
+fn a_quadratic_0_18_0_in_pieces() {
+    // 0.0576 times the row, turned positive.
+    for (m, bounds) in [
+        (1, &[(0, 144), (0, 144)][..]),
+        (2, &[(0, 36), (144, 180), (0, 36)]),
+        (4, &[(0, 9), (108, 118), (144, 153), (108, 118), (0, 9)]),
+        (5, &[(0, 6), (92, 98), (138, 144), (138, 144), (92, 98), (0, 6)]),
+    ] {
+        let (report, records) = accepted_in(m, &upright(&[0, 18, 0]), 144);
+        assert_eq!(report, Report { curves: 1, leaves: 1, nodes: 1 });
+        assert_eq!(y_bounds_in(m, &records), bounds);
+    }
+}
+
+#[test]
+fn a_line_0_1_in_pieces() {
+    for m in 1..=8 {
+        let (report, records) = accepted_in(m, &upright(&[0, 1]), 2);
+        assert_eq!(report, Report { curves: 1, leaves: 1, nodes: 1 });
+        let parts = m as i32;
+        let expected: Vec<_> = (0..=parts).map(|i| (16 * i / parts, (16 * i + parts - 1) / parts)).collect();
+        assert_eq!(y_bounds_in(m, &records), expected);
+    }
+}
+
+#[test]
+fn records_are_those_in_exact_fractions() {
+    let edge = 1_048_576;
+    let steep = [3, -edge, edge, edge, -edge, edge, edge, -edge, -edge];
+    let swing = [2, edge, 0, -edge, edge, edge - 1, 1];
+    let outlines = [&CURVE_A[..], &lively(), &steep, &swing];
+    for m in 1..=8 {
+        for (outline, tolerance) in outlines.iter().flat_map(|outline| {
+            [2, 3, 7, 16, 45, 1_000, 50_000, 1_048_576].map(|tolerance| (*outline, tolerance))
+        }) {
+            let length = record_length(m);
+            match exact::records(outline, tolerance, m as usize) {
+                Ok(expected) => {
+                    let (report, records) = accepted_in(m, outline, tolerance);
+                    assert_eq!(report.leaves as usize, expected.len() / length);
+                    assert_eq!(records, expected);
+                }
+                Err(spot) => {
+                    let refusal = refused_in(m, outline, tolerance, length * 256);
+                    assert_eq!(number_and_spot(refusal), (7, spot));
+                }
+            }
+        }
+    }
+}
+
+#[test]
+fn pieces_out_of_range_are_refused_before_the_tolerance() {
+    for m in [0, 9, 1 << 31, u32::MAX] {
+        assert_eq!(number_and_spot(refused_in(m, &CURVE_A, 44, 100)), (18, 0));
+        assert_eq!(number_and_spot(refused_in(m, &[], 1, 0)), (18, 0));
+    }
+    for m in 1..=8 {
+        assert_eq!(number_and_spot(refused_in(m, &[], 1, 0)), (1, 0));
+    }
+}
+
+#[test]
+fn a_list_has_room_by_the_length_of_a_record() {
+    for (m, whole) in CURVE_A_WHOLE {
+        let (report, records) = accepted_in(m, &CURVE_A, whole - 1);
+        assert_eq!(records.len(), 2 * (6 + 4 * m as usize));
+        for length in [0, 1, records.len() - 1] {
+            assert_eq!(number_and_spot(refused_in(m, &CURVE_A, whole - 1, length)), (8, 2));
+        }
+        let mut exact = vec![UNTOUCHED; records.len()];
+        assert_eq!(band(&CURVE_A, whole - 1, m, &mut exact), Ok(report));
+        assert_eq!(exact, records);
+    }
 }
 
 #[test]
@@ -136,7 +266,7 @@ fn a_list_one_number_short_is_refused_with_all_leaves_counted() {
     assert_eq!(number_and_spot(refused(&CURVE_A, 43, 35)), (8, 2));
     assert_eq!(number_and_spot(refused(&CURVE_A, 43, 0)), (8, 2));
     let mut exact = [UNTOUCHED; 36];
-    assert!(band(&CURVE_A, 43, &mut exact).is_ok());
+    assert!(band(&CURVE_A, 43, 3, &mut exact).is_ok());
     assert_ne!(exact[35], UNTOUCHED);
 }
 
@@ -149,10 +279,22 @@ fn lively() -> Vec<i32> {
     outline
 }
 
+/// Numbers of pieces, each with tolerances at which these curves are accepted.
+fn settings() -> impl Iterator<Item = (u32, i32)> {
+    // A band of fewer pieces is wider, and refused sooner.
+    let least = |m| match m {
+        1 => 16,
+        2 => 5,
+        _ => 3,
+    };
+    let each = |m| [3, 5, 16, 100, 1_000, 100_000].map(|tolerance| (m, tolerance));
+    (1..=8).flat_map(each).filter(move |&(m, tolerance)| tolerance >= least(m))
+}
+
 #[test]
 fn nodes_are_twice_the_leaves_less_the_curves() {
-    for tolerance in [3, 5, 16, 100, 1_000, 100_000] {
-        let (report, _) = accepted(&lively(), tolerance);
+    for (m, tolerance) in settings() {
+        let (report, _) = accepted_in(m, &lively(), tolerance);
         assert_eq!(report.curves, 4);
         assert_eq!(report.nodes, 2 * report.leaves - report.curves);
     }
@@ -160,38 +302,41 @@ fn nodes_are_twice_the_leaves_less_the_curves() {
 
 #[test]
 fn leaves_follow_one_another_by_the_documents_rule() {
-    let (_, records) = accepted(&lively(), 7);
-    let (mut curve, mut node) = (0, 1);
-    for leaf in records.chunks_exact(RECORD) {
-        assert_eq!(leaf[0], curve);
-        // From a node down to the leaf it begins with: halve to the left.
-        while node < leaf[1] {
-            node *= 2;
+    for (m, tolerance) in settings() {
+        let (_, records) = accepted_in(m, &lively(), tolerance);
+        let (mut curve, mut node) = (0, 1);
+        for leaf in records.chunks_exact(record_length(m)) {
+            assert_eq!(leaf[0], curve);
+            // From a node down to the leaf it begins with: halve to the left.
+            while node < leaf[1] {
+                node *= 2;
+            }
+            assert_eq!(leaf[1], node);
+            node = (node + 1) >> (node + 1).trailing_zeros();
+            if node == 1 {
+                curve += 1;
+            }
         }
-        assert_eq!(leaf[1], node);
-        node = (node + 1) >> (node + 1).trailing_zeros();
-        if node == 1 {
-            curve += 1;
-        }
+        assert_eq!((curve, node), (4, 1));
     }
-    assert_eq!((curve, node), (4, 1));
 }
 
 #[test]
 fn no_leaf_is_deeper_than_its_second_differences_say() {
-    for tolerance in [3, 5, 16, 100, 1_000, 100_000] {
-        let (_, records) = accepted(&lively(), tolerance);
-        // The largest second difference of each curve, over both coordinates.
-        let largest: [i64; 4] = [40_000, 0, 60_000, 30];
-        for leaf in records.chunks_exact(RECORD) {
+    for (m, tolerance) in settings() {
+        let (_, records) = accepted_in(m, &lively(), tolerance);
+        // The degree of each curve, and its largest second difference over both coordinates.
+        let curves: [(usize, i128); 4] = [(3, 40_000), (1, 0), (2, 60_000), (3, 30)];
+        for leaf in records.chunks_exact(record_length(m)) {
             let depth = (leaf[1] as u32).ilog2();
-            let m = largest[leaf[0] as usize];
+            let (degree, largest) = curves[leaf[0] as usize];
+            let g = if degree == 1 { 0 } else { by_pieces(degree, "G")[m as usize - 1] };
             let allows = |j: u32| {
-                let bound = 178 * i128::from(m) + 250 * 4_i128.pow(j);
-                2 * bound.pow(2) <= (125 * i128::from(tolerance) * 4_i128.pow(j)).pow(2)
+                let bound = 16 * g * largest + 20_000 * 4_i128.pow(j);
+                2 * bound.pow(2) <= (10_000 * i128::from(tolerance) * 4_i128.pow(j)).pow(2)
             };
             let least = (0..=8).find(|&j| allows(j)).unwrap_or(8);
-            assert!(depth <= least, "depth {depth} of curve {} at {tolerance}", leaf[0]);
+            assert!(depth <= least, "depth {depth} of curve {} at {tolerance}, m {m}", leaf[0]);
         }
     }
 }

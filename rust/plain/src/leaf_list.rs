@@ -1,6 +1,6 @@
 //! The checks of a leaf list and a point.
 
-use crate::band::RECORD;
+use crate::pieces::record_length;
 use crate::refusal::Refusal;
 use std::ops::RangeInclusive;
 
@@ -13,22 +13,22 @@ const NODES: RangeInclusive<i32> = 1..=511;
 /// Box numbers and point coordinates that are taken, in sixteenths of a stage unit.
 const SIXTEENTHS: RangeInclusive<i32> = -536_870_912..=536_870_912;
 
-/// The records of a leaf list.
-pub fn records(leaves: &[i32]) -> impl Iterator<Item = &[i32; RECORD]> {
-    leaves.chunks_exact(RECORD).map(|record| record.try_into().expect("a chunk has the length of a record"))
+/// The records of a leaf list with B break points to a leaf.
+pub fn records<const B: usize>(leaves: &[i32]) -> impl Iterator<Item = &[i32]> {
+    leaves.chunks_exact(record_length(B as u32 - 1))
 }
 
-/// Check 9, then check 10.
-pub fn check_leaves(leaves: &[i32]) -> Result<(), Refusal> {
-    let length = leaves.len();
-    if length == 0 || length % RECORD != 0 {
+/// Check 9, then check 10, of a leaf list with B break points to a leaf.
+pub fn check_leaves<const B: usize>(leaves: &[i32]) -> Result<(), Refusal> {
+    let (length, of_record) = (leaves.len(), record_length(B as u32 - 1));
+    if length == 0 || length % of_record != 0 {
         return Err(Refusal::LeafListLength { length });
     }
-    match records(leaves).position(|record| !is_good(record)) {
+    match records::<B>(leaves).position(|record| !is_good(record)) {
         None => Ok(()),
         Some(leaf) => {
-            let record = &leaves[RECORD * leaf..][..RECORD];
-            Err(Refusal::LeafListNumber { index: RECORD * leaf + first_bad(record) })
+            let start = of_record * leaf;
+            Err(Refusal::LeafListNumber { index: start + first_bad(&leaves[start..][..of_record]) })
         }
     }
 }
@@ -46,7 +46,7 @@ pub fn check_point(x: i32, y: i32) -> Result<(), Refusal> {
 
 /// Whether a record has no bad number. A low that is not above its high needs only its lower limit
 /// looked at, and the high its upper one; nothing here branches.
-fn is_good(record: &[i32; RECORD]) -> bool {
+fn is_good(record: &[i32]) -> bool {
     let boxes = record[2..].chunks_exact(2).fold(true, |good, bounds| {
         let (low, high) = (bounds[0], bounds[1]);
         good & (*SIXTEENTHS.start() <= low) & (low <= high) & (high <= *SIXTEENTHS.end())
@@ -61,92 +61,114 @@ fn first_bad(record: &[i32]) -> usize {
         1 => !NODES.contains(&record[1]),
         _ => !SIXTEENTHS.contains(&record[place]) || place % 2 == 0 && record[place] > record[place + 1],
     };
-    (0..RECORD).find(is_bad).expect("the record has a bad number")
+    (0..record.len()).find(is_bad).expect("the record has a bad number")
 }
 
 #[cfg(test)]
 mod tests {
     use super::*;
+    use crate::pieces::for_pieces;
 
     const FARTHEST: i32 = 536_870_912;
-    const RECORDS: [i32; 36] = [
-        0, 1, 0, 0, 0, 38, 160, 160, 319, 363, 320, 320, 319, 363, 480, 480, 0, 38, //
-        63, 511, -9, -8, -7, -6, -5, -4, -3, -2, -1, 0, 1, 2, 3, 4, 5, 6,
-    ];
+
+    /// Two records of m pieces, with the first and the last curve and node, and bounds that rise.
+    fn two_records(m: u32) -> Vec<i32> {
+        let numbers = 4 * (m as i32 + 1);
+        let first = [0, 1].into_iter().chain((0..numbers).map(|n| n - 9));
+        first.chain([63, 511]).chain((0..numbers).map(|n| 5 * n - 40)).collect()
+    }
+
+    fn check(m: u32, leaves: &[i32]) -> Result<(), Refusal> {
+        for_pieces!(m, check_leaves)(leaves)
+    }
 
     /// The answer with another number at an index.
-    fn with(index: usize, number: i32) -> Result<(), Refusal> {
-        let mut leaves = RECORDS;
+    fn with(m: u32, index: usize, number: i32) -> Result<(), Refusal> {
+        let mut leaves = two_records(m);
         leaves[index] = number;
-        check_leaves(&leaves)
+        check(m, &leaves)
+    }
+
+    fn bad(index: usize) -> Result<(), Refusal> {
+        Err(Refusal::LeafListNumber { index })
+    }
+
+    /// The index of each low of two records, with the numbers of the low and of its high.
+    fn lows(m: u32) -> Vec<(usize, i32, i32)> {
+        let (leaves, record) = (two_records(m), record_length(m));
+        let lows = (0..leaves.len()).step_by(2).filter(|i| i % record != 0);
+        lows.map(|low| (low, leaves[low], leaves[low + 1])).collect()
     }
 
     #[test]
-    fn a_length_is_a_multiple_of_18_and_not_0() {
-        for length in 0..=RECORDS.len() {
-            let answer = check_leaves(&RECORDS[..length]);
-            let expected = match length {
-                18 | 36 => Ok(()),
-                _ => Err(Refusal::LeafListLength { length }),
-            };
-            assert_eq!(answer, expected);
+    fn a_length_is_a_multiple_of_a_records_and_not_0() {
+        for m in 1..=8 {
+            let leaves = two_records(m);
+            for length in 0..=leaves.len() {
+                let whole = [6 + 4 * m as usize, 12 + 8 * m as usize].contains(&length);
+                let expected = if whole { Ok(()) } else { Err(Refusal::LeafListLength { length }) };
+                assert_eq!(check(m, &leaves[..length]), expected, "m {m}");
+            }
         }
     }
 
     #[test]
     fn curves_and_nodes_have_their_ranges() {
-        for start in [0, RECORD] {
+        for (m, start) in (1..=8).flat_map(|m| [(m, 0), (m, record_length(m))]) {
             for curve in [i32::MIN, -1, 64, i32::MAX] {
-                assert_eq!(with(start, curve), Err(Refusal::LeafListNumber { index: start }));
+                assert_eq!(with(m, start, curve), bad(start));
             }
             for node in [i32::MIN, -1, 0, 512, i32::MAX] {
-                assert_eq!(with(start + 1, node), Err(Refusal::LeafListNumber { index: start + 1 }));
+                assert_eq!(with(m, start + 1, node), bad(start + 1));
             }
             for curve in [0, 1, 63] {
-                assert_eq!(with(start, curve), Ok(()));
+                assert_eq!(with(m, start, curve), Ok(()));
             }
             for node in [1, 2, 511] {
-                assert_eq!(with(start + 1, node), Ok(()));
+                assert_eq!(with(m, start + 1, node), Ok(()));
             }
         }
     }
 
     #[test]
     fn a_low_above_its_high_is_named_by_the_lows_index() {
-        for low in (2..RECORDS.len()).step_by(2).filter(|i| i % RECORD != 0) {
-            let named = Err(Refusal::LeafListNumber { index: low });
-            let (low_number, high_number) = (RECORDS[low], RECORDS[low + 1]);
-            assert_eq!(with(low, high_number + 1), named);
-            assert_eq!(with(low + 1, low_number - 1), named);
-            assert_eq!(with(low + 1, -FARTHEST - 1), named);
-            assert_eq!(with(low + 1, i32::MIN), named);
-            assert_eq!(with(low, high_number), Ok(()));
-            assert_eq!(with(low + 1, low_number), Ok(()));
+        for m in 1..=8 {
+            for (low, low_number, high_number) in lows(m) {
+                assert_eq!(with(m, low, high_number + 1), bad(low));
+                assert_eq!(with(m, low + 1, low_number - 1), bad(low));
+                assert_eq!(with(m, low + 1, -FARTHEST - 1), bad(low));
+                assert_eq!(with(m, low + 1, i32::MIN), bad(low));
+                assert_eq!(with(m, low, high_number), Ok(()));
+                assert_eq!(with(m, low + 1, low_number), Ok(()));
+            }
         }
     }
 
     #[test]
     fn a_box_number_beyond_the_range_is_named_by_its_own_index() {
-        for low in (2..RECORDS.len()).step_by(2).filter(|i| i % RECORD != 0) {
-            for beyond in [i32::MIN, -FARTHEST - 1, FARTHEST + 1, i32::MAX] {
-                assert_eq!(with(low, beyond), Err(Refusal::LeafListNumber { index: low }));
+        for m in 1..=8 {
+            for (low, ..) in lows(m) {
+                for beyond in [i32::MIN, -FARTHEST - 1, FARTHEST + 1, i32::MAX] {
+                    assert_eq!(with(m, low, beyond), bad(low));
+                }
+                for beyond in [FARTHEST + 1, i32::MAX] {
+                    assert_eq!(with(m, low + 1, beyond), bad(low + 1));
+                }
+                assert_eq!(with(m, low, -FARTHEST), Ok(()));
+                assert_eq!(with(m, low + 1, FARTHEST), Ok(()));
             }
-            for beyond in [FARTHEST + 1, i32::MAX] {
-                assert_eq!(with(low + 1, beyond), Err(Refusal::LeafListNumber { index: low + 1 }));
-            }
-            assert_eq!(with(low, -FARTHEST), Ok(()));
-            assert_eq!(with(low + 1, FARTHEST), Ok(()));
         }
     }
 
     #[test]
     fn the_first_of_several_bad_numbers_is_named() {
-        let mut leaves = RECORDS;
-        for index in (0..leaves.len()).rev() {
-            // Every number from here on is bad; a low as well as its high.
-            leaves[index] = i32::MAX;
-            let named = check_leaves(&leaves);
-            assert_eq!(named, Err(Refusal::LeafListNumber { index }));
+        for m in 1..=8 {
+            let mut leaves = two_records(m);
+            for index in (0..leaves.len()).rev() {
+                // Every number from here on is bad; a low as well as its high.
+                leaves[index] = i32::MAX;
+                assert_eq!(check(m, &leaves), bad(index));
+            }
         }
     }
 

@@ -1,18 +1,22 @@
-//! A plain engine for contour bands, written from document 01 alone. It shares nothing with the
+//! A plain engine for contour bands, written from documents 01 and 02 alone. It shares nothing with the
 //! proved engine, and the two are compared with each other, number by number.
 //!
-//! [`band`] encloses an outline of Bézier curves in boxes, [`judge`] says whether a point lies on
-//! what they cover, [`band_and_judge`] does both, and [`draw`] draws the hull of two boxes.
-//! [`text::answer`] is the text program. The
-//! modules follow the document's sections: the checks of an outline, halving, the enclosure, the walk;
-//! the checks of a leaf list and a point, covers, judging; drawing; the lines of a text, its answer.
+//! [`band`] encloses an outline of Bézier curves in boxes, with m pieces to a leaf, [`judge`] says whether a
+//! point lies on what they cover, [`band_and_judge`] does both, and [`draw`] draws the hull of two boxes.
+//! [`text::answer`] is the text program. The modules follow the documents: the checks of an outline and of
+//! m, halving, the rows and the enclosure, the walk; the checks of a leaf list and a point, covers, judging;
+//! drawing; the lines of a text, its answer.
 
 #![forbid(unsafe_code)]
 
 mod band;
 mod cover;
 mod curve;
+#[cfg(test)]
+mod documented;
 mod enclosure;
+#[cfg(test)]
+mod exact;
 #[cfg(test)]
 mod examples;
 mod form;
@@ -20,10 +24,13 @@ mod hull;
 mod judge;
 mod leaf_list;
 mod outline;
+mod pieces;
 mod refusal;
+mod rows;
 pub mod text;
 
-pub use band::{band, Report, RECORD};
+pub use band::{band, Report};
 pub use hull::draw;
 pub use judge::{band_and_judge, judge, Judgement};
+pub use pieces::record_length;
 pub use refusal::Refusal;

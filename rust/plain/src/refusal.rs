@@ -84,10 +84,12 @@ pub enum Refusal {
         /// Where the degree of the later curve stands in the outline.
         index: usize,
     },
+    /// 18: the number of pieces is not 1 to 8.
+    Pieces,
 }
 
 impl Refusal {
-    /// The refusal's number in document 01.
+    /// The refusal's number in document 01 or 02.
     pub fn number(self) -> u32 {
         match self {
             Refusal::Tolerance => 1,
@@ -107,13 +109,14 @@ impl Refusal {
             Refusal::OutOfOrder { .. } => 15,
             Refusal::TextTooLong { .. } => 16,
             Refusal::Gap { .. } => 17,
+            Refusal::Pieces => 18,
         }
     }
 
-    /// The one whole number that document 01 gives beside the refusal's number.
+    /// The one whole number that the document gives beside the refusal's number.
     pub fn spot(self) -> u64 {
         let spot = match self {
-            Refusal::Tolerance | Refusal::EmptyOutline | Refusal::PointX => 0,
+            Refusal::Tolerance | Refusal::EmptyOutline | Refusal::PointX | Refusal::Pieces => 0,
             Refusal::PointY => 1,
             Refusal::Degree { index }
             | Refusal::Coordinate { index }

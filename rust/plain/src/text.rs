@@ -1,8 +1,9 @@
 //! The text program: from the bytes that it reads to the bytes that it prints.
 
-use crate::band::{band, Report, RECORD};
+use crate::band::{band, Report};
 use crate::form::{form, Form};
 use crate::judge::{judge, Judgement};
+use crate::pieces::record_length;
 use crate::refusal::Refusal;
 use std::fmt::Write;
 
@@ -11,6 +12,12 @@ const LONGEST: usize = 16_384;
 
 /// How many numbers are lent to banding.
 const LENT: usize = 16_380;
+
+/// The number of pieces of a leaf in every text.
+const M: u32 = 3;
+
+/// How many numbers a record then has.
+const RECORD: usize = record_length(M);
 
 /// What a text without a fault says.
 #[derive(Debug, Default)]
@@ -56,12 +63,12 @@ fn read(text: &[u8]) -> Result<Job, Refusal> {
 /// The leaves and the counts of banding, then a line for each point.
 fn carry_out(job: Job) -> Result<String, Refusal> {
     let mut records = vec![0; LENT];
-    let report = band(&job.outline, job.tolerance, &mut records)?;
+    let report = band(&job.outline, job.tolerance, M, &mut records)?;
     records.truncate(RECORD * report.leaves as usize);
     let mut lines: String = records.chunks_exact(RECORD).map(leaf).collect();
     lines += &done(report);
     for (x, y) in job.points {
-        lines += &match judge(&records, x, y) {
+        lines += &match judge(&records, M, x, y) {
             Ok(Judgement::On { leaf, cover }) => format!("(on {leaf} {cover})\n"),
             Ok(Judgement::Off) => "(off)\n".to_string(),
             Err(refusal) => refused(refusal),

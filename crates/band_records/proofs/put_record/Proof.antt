@@ -6,8 +6,9 @@ use lib.ListN.{length, length-set}
 use lib.Seq.{sets, length-sets}
 use mir.Syntax.{w32}
 use mir.Facts.{toZ-pos}
-use Rattle.setting.specs.Setting.{standard, breakPoints}
+use Rattle.setting.specs.Setting.{lists, breakPoints}
 use Rattle.curve_nodes.specs.Nodes.{depth}
+use Rattle.curve_nodes.proofs.Numbers.{depth-under}
 use Rattle.band_records.specs.Records.{boxesTo, nodeNumbers}
 use Rattle.band_records.proofs.Writing.{head-sets}
 use native.Mathlib.Omega.{arith}
@@ -23,17 +24,25 @@ slice-set-from-records-2 : tie.Need-slice-set-from-records-2
 slice-set-from-records-2 c = simp length-set (omega arith)
 
 put-boxes-requires : tie.Need-put-boxes-requires
-put-boxes-requires c κs = (simp length-set (omega arith), rw (c .depth .ensures) (c .before .before .pre .4))
+put-boxes-requires c κs =
+    let s = c .before .before in
+    let p = s .pre in (
+      simp length-set (omega arith),
+      p .4,
+      p .5,
+      rw (c .depth .ensures) (p .6),
+      rw (c .depth .ensures) (depth-under (s .args .node) 8 (p .3) (p .2)),
+    )
 
 -- what the list holds: the two numbers and the boxes
 left : (c : lts.After-records (depth-reads.Asked, depth-reads.Learnt, put-boxes-reads.Asked, put-boxes-reads.Learnt) reads.Pre reads.Post)
-    → let s = c .before .before .before .before in
-    c .before .put-boxes .last .0 ≡ sets (s .args .records .now) (s .args .at)
-    (nodeNumbers (s .args .number) (s .args .node) (boxesTo standard (breakPoints standard) (depth (s .args .node)) (s .args .curve)))
+    → let a = c .before .before .before .before .args in
+    c .before .put-boxes .last .0 ≡ sets (a .records .now) (a .at)
+    (nodeNumbers (a .number) (a .node) (boxesTo (lists (a .m)) (breakPoints (lists (a .m))) (depth (a .node)) (a .curve)))
 left c =
     let s = c .before .before .before .before in
     let a = s .args in
-    head-sets (a .records .now) (a .at) (a .number) (a .node) (boxesTo standard (breakPoints standard) (depth (a .node)) (a .curve))
+    head-sets (a .records .now) (a .at) (a .number) (a .node) (boxesTo (lists (a .m)) (breakPoints (lists (a .m))) (depth (a .node)) (a .curve))
     (toZ-pos w32 (s .pre .1)) (toZ-pos w32 (lt-trans (s .pre .2) (lit< tt)))
     (rw (← (c .before .before .depth .ensures)) (c .before .put-boxes .ensures))
 
@@ -41,7 +50,7 @@ same-length : tie.Need-same-length
 same-length c =
     let a = c .before .before .before .before .args in
     ap length (left c) ∙ length-sets (a .records .now) (a .at)
-    (nodeNumbers (a .number) (a .node) (boxesTo standard (breakPoints standard) (depth (a .node)) (a .curve)))
+    (nodeNumbers (a .number) (a .node) (boxesTo (lists (a .m)) (breakPoints (lists (a .m))) (depth (a .node)) (a .curve)))
 
 returns : tie.Need-returns
 returns c = left c

@@ -4,8 +4,9 @@ use mathlib.Core.Bool.{true}
 use mir.Facts.{toZ-ofZ}
 use borrow.Author.Needs.{needs}
 use borrow.Author.Tests.{not-true, not-false}
-use Rattle.setting.specs.Setting.{standard}
+use Rattle.setting.specs.Setting.{lists}
 use Rattle.boxes.specs.Ranges.{inRange}
+use Rattle.judge.specs.Inside.{InRange}
 use Rattle.judge.proofs.Passing.{wide-fits, widened}
 use Rattle.judge.proofs.Holders.{range-size}
 use Rattle.judge.proofs.Answers.{x-bad, y-bad, none-bad, judged-refused, judged-found}
@@ -20,7 +21,8 @@ returns c =
     let s = c .before .before in
     let a = s .args in
     let f = rw (toZ-ofZ (s .fits .x)) at (sym (c .before .in-range .ensures) ∙ not-true (c .before .in-range .result) (c .if1 .taken)) in
-    judged-refused standard (a .leaves .now) (a .x) (a .y) _ (x-bad standard (a .leaves .now) (a .x) (a .y) (s .pre) f)
+    let σ = lists (a .m) in
+    judged-refused σ (a .leaves .now) (a .x) (a .y) _ (x-bad σ (a .leaves .now) (a .x) (a .y) (s .pre .0) (s .pre .1) f)
 
 -- past the test of x
 x-fine : (c : tie.Else1) → inRange (c .before .before .args .x) ≡ true
@@ -35,7 +37,8 @@ returns-2 c =
     let s = d .before .before in
     let a = s .args in
     let f = rw (toZ-ofZ (s .fits .y)) at (sym (c .before .in-range2 .ensures) ∙ not-true (c .before .in-range2 .result) (c .if2 .taken)) in
-    judged-refused standard (a .leaves .now) (a .x) (a .y) _ (y-bad standard (a .leaves .now) (a .x) (a .y) (s .pre) (x-fine d) f)
+    let σ = lists (a .m) in
+    judged-refused σ (a .leaves .now) (a .x) (a .y) _ (y-bad σ (a .leaves .now) (a .x) (a .y) (s .pre .0) (s .pre .1) (x-fine d) f)
 
 -- past the test of y
 y-fine : (c : tie.Else2) → inRange (c .before .before .before .before .args .y) ≡ true
@@ -54,15 +57,16 @@ find-requires c κs =
     let d = c .before .before in
     let s = d .before .before in
     let a = s .args in
-    (s .pre, rw (widened (s .fits .x), widened (s .fits .y)) (record { in-x = range-size (a .x) (x-fine d); in-y = range-size (a .y) (y-fine c) }))
+    let ranges : InRange (a .x) (a .y) = record { in-x = range-size (a .x) (x-fine d); in-y = range-size (a .y) (y-fine c) } in
+    (s .pre .0, s .pre .1, rw (widened (s .fits .x), widened (s .fits .y)) ranges)
 
 returns-3 : tie.Need-returns-3
 returns-3 c =
     let d = c .before .before .before in
     let s = d .before .before in
     let a = s .args in
-    judged-found standard (a .leaves .now) (a .x) (a .y) (c .find .result)
-    (none-bad standard (a .leaves .now) (a .x) (a .y) (s .pre) (x-fine d) (y-fine (c .before)))
+    judged-found (lists (a .m)) (a .leaves .now) (a .x) (a .y) (c .find .result)
+    (none-bad (lists (a .m)) (a .leaves .now) (a .x) (a .y) (s .pre .0) (s .pre .1) (x-fine d) (y-fine (c .before)))
     (rw (widened (s .fits .x), widened (s .fits .y)) at (c .find .ensures))
 
 pub judge-point-spec : {M : Type 1} → statement M

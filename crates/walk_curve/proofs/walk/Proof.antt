@@ -11,7 +11,7 @@ use mir.Syntax.{w64}
 use mir.Val.{toZ}
 use mir.Facts.{toZ-ofZ}
 use Rattle.integers.proofs.Ranges.{stored}
-use Rattle.setting.specs.Setting.{standard, deepest}
+use Rattle.setting.specs.Setting.{Setting, lists, deepest}
 use Rattle.curve_nodes.specs.declared.Curve.{Curve}
 use Rattle.curve_nodes.specs.Nodes.{after}
 use Rattle.walk_curve.specs.declared.Walked.the-variants.{Leaves, WideNode}
@@ -27,60 +27,65 @@ use Rattle.walk_curve.proofs.walk.Statement.{statement}
 use Rattle.walk_curve.proofs.walk.Tie as tie
 
 -- the walk stands at a node, and has counted the leaves that it passed
-record Counted (T : ℤ) (c : Curve) (node leaves : ℕ) : Type 0 where
+record Counted (σ : Setting) (T : ℤ) (c : Curve) (node leaves : ℕ) : Type 0 where
   passed : List ℕ
   count : leaves ≡ length passed
-  walking : Walking (nodeMeets standard T c) (deepest (c .degree)) passed node
+  walking : Walking (nodeMeets σ T c) (deepest (c .degree)) passed node
 
-module _ {T : ℤ} {c : Curve} where
-  counted-start : Counted T c 1 0
-  counted-start = record { passed = []; count = refl; walking = walking-start (nodeMeets standard T c) (deepest (c .degree)) }
+module _ {σ : Setting} {T : ℤ} {c : Curve} where
+  counted-start : Counted σ T c 1 0
+  counted-start = record { passed = []; count = refl; walking = walking-start (nodeMeets σ T c) (deepest (c .degree)) }
 
-  module _ {node leaves : ℕ} (h : Counted T c node leaves) where
+  module _ {node leaves : ℕ} (h : Counted σ T c node leaves) where
     counted-few : leaves < 256
-    counted-few = omega (arith, h .count, fewer-passed (h .walking), few-ends (nodeMeets standard T c) (deepest (c .degree)) 1)
+    counted-few = omega (arith, h .count, fewer-passed (h .walking), few-ends (nodeMeets σ T c) (deepest (c .degree)) 1)
 
-    counted-half : nodeMeets standard T c node ≡ false → node < 256 → Counted T c (2 * node) leaves
+    counted-half : nodeMeets σ T c node ≡ false → node < 256 → Counted σ T c (2 * node) leaves
     counted-half e l = record { passed = h .passed; count = h .count; walking = walking-half (h .walking) e l }
 
-    counted-leaf : nodeMeets standard T c node ≡ true → (after node ≡ 1 → ⊥) → Counted T c (after node) (leaves + 1)
+    counted-leaf : nodeMeets σ T c node ≡ true → (after node ≡ 1 → ⊥) → Counted σ T c (after node) (leaves + 1)
     counted-leaf e l = record {
       passed = h .passed ++ node ∷ [];
       count = ap (λ n. n + 1) (h .count) ∙ sym (length-append (h .passed) (node ∷ []));
       walking = walking-leaf (h .walking) e l;
     }
 
-    counted-done : nodeMeets standard T c node ≡ true → after node ≡ 1 → walkedOf standard T c ≡ Leaves (leaves + 1)
+    counted-done : nodeMeets σ T c node ≡ true → after node ≡ 1 → walkedOf σ T c ≡ Leaves (leaves + 1)
     unfolding walkedOf
-    counted-done e l = rw (none-exactly (nodeMeets standard T c) (endsOf standard T c) .1 (all-passed (h .walking) e l), walkedOf)
+    counted-done e l = rw (none-exactly (nodeMeets σ T c) (endsOf σ T c) .1 (all-passed (h .walking) e l), walkedOf)
         (ap Leaves (ap length (walking-done (h .walking) e l) ∙ length-append (h .passed) (node ∷ []) ∙ ap (λ n. n + 1) (sym (h .count))))
 
-    counted-failed : nodeMeets standard T c node ≡ false → 256 ≤ node → walkedOf standard T c ≡ WideNode node
+    counted-failed : nodeMeets σ T c node ≡ false → 256 ≤ node → walkedOf σ T c ≡ WideNode node
     unfolding walkedOf
-    counted-failed e l = rw (some-exactly (nodeMeets standard T c) (endsOf standard T c) node .1 (walking-failed (h .walking) e l), walkedOf)
+    counted-failed e l = rw (some-exactly (nodeMeets σ T c) (endsOf σ T c) node .1 (walking-failed (h .walking) e l), walkedOf)
 
 abbrev Inv-loop : tie.InvT-loop
-Inv-loop t part₀ leaves₀ part leaves = Counted (toZ w64 t) (part₀ .curve) (part .node) leaves × PartOf (part₀ .curve) part
+Inv-loop rows pieces t part₀ leaves₀ part leaves =
+    Counted (lists (pieces .m)) (toZ w64 t) (part₀ .curve) (part .node) leaves × PartOf (part₀ .curve) part
 
 abbrev μ-loop : tie.MeasureT-loop
-μ-loop t part₀ leaves₀ part leaves = rank (deepest (part₀ .curve .degree)) (part .node)
+μ-loop rows pieces t part₀ leaves₀ part leaves = rank (deepest (part₀ .curve .degree)) (part .node)
 
 loop-holds : tie.Need-loop-holds Inv-loop μ-loop
-loop-holds c = (counted-start, part-whole (c .pre))
+loop-holds c = (counted-start, part-whole (c .pre .1))
 
 depth-requires : tie.Need-depth-requires Inv-loop μ-loop
 depth-requires c κs = c .before .loop .inv .1 .some
 
 meets-requires : tie.Need-meets-requires Inv-loop μ-loop
-meets-requires c κs = let p = c .before .before .loop .inv .1 in rw (c .depth .ensures) (part-sized p, part-shallow p)
+meets-requires c κs =
+    let p = c .before .before .loop .inv .1 in
+    rw (c .depth .ensures) (c .before .before .before .pre .0, part-sized p, part-shallow p)
 
 -- ---- a leaf
 passes : (c : tie.Then1 Inv-loop μ-loop)
-    → let l = c .before .before .before .before in nodeMeets standard (stored w64 (l .before .args .t)) (l .before .args .curve) (l .loop .part .node)
-    ≡ true
+    → let l = c .before .before .before .before in
+    let a = l .before .args in
+    nodeMeets (lists (a .pieces .m)) (stored w64 (a .t)) (a .curve) (l .loop .part .node) ≡ true
 passes c =
     let l = c .before .before .before .before in
-    part-meets (l .loop .inv .1) standard (stored w64 (l .before .args .t)) (c .before .before .depth .ensures) (c .before .meets .ensures)
+    let a = l .before .args in
+    part-meets (l .loop .inv .1) (lists (a .pieces .m)) (stored w64 (a .t)) (c .before .before .depth .ensures) (c .before .meets .ensures)
     (c .if1 .taken)
 
 add-leaves : tie.Need-add-leaves Inv-loop μ-loop
@@ -110,11 +115,13 @@ loop-again c =
 
 -- ---- a node that does not pass
 fails : (c : tie.Else1 Inv-loop μ-loop)
-    → let l = c .before .before .before .before in nodeMeets standard (stored w64 (l .before .args .t)) (l .before .args .curve) (l .loop .part .node)
-    ≡ false
+    → let l = c .before .before .before .before in
+    let a = l .before .args in
+    nodeMeets (lists (a .pieces .m)) (stored w64 (a .t)) (a .curve) (l .loop .part .node) ≡ false
 fails c =
     let l = c .before .before .before .before in
-    part-meets (l .loop .inv .1) standard (stored w64 (l .before .args .t)) (c .before .before .depth .ensures) (c .before .meets .ensures)
+    let a = l .before .args in
+    part-meets (l .loop .inv .1) (lists (a .pieces .m)) (stored w64 (a .t)) (c .before .before .depth .ensures) (c .before .meets .ensures)
     (c .if1 .left)
 
 returns-2 : tie.Need-returns-2 Inv-loop μ-loop

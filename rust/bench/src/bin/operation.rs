@@ -2,13 +2,13 @@
 //! `instructions` runs it under callgrind.
 //!
 //! `operation ENGINE OPERATION INPUT TIMES`. ENGINE is plain, proved or sampled. OPERATION and INPUT are
-//! band with an outline, a number of curves or a depth where it has one, and a tolerance, as in nominal:16,
-//! cubics-64:16 and arches-3:44, which prints the number of leaves; judge with the place of the points;
-//! draw with the shape of the boxes.
+//! band with an outline, a number of curves or a depth where it has one, a tolerance and m, as in
+//! nominal:16:3, cubics-64:16:8 and arches-3:44:3, which prints the number of leaves; judge with the place
+//! of the points and m, as in near:3; draw with the shape of the boxes.
 
-use bench::sampled::{self, Packing};
+use bench::sampled::{self, Packing, M};
 use bench::{outlines, pairs, points};
-use contour_band::RECORD;
+use contour_band::record_length;
 use std::hint::black_box;
 use std::process::ExitCode;
 
@@ -31,8 +31,15 @@ fn main() -> ExitCode {
     ExitCode::SUCCESS
 }
 
+/// An input without the m at its end, and the m.
+fn with_pieces(input: &str) -> Option<(&str, u32)> {
+    let (rest, m) = input.rsplit_once(':')?;
+    Some((rest, m.parse().ok().filter(|m| (1..=8).contains(m))?))
+}
+
 fn band(engine: &str, input: &str, times: usize) -> Option<()> {
-    let (name, tolerance) = input.split_once(':')?;
+    let (rest, m) = with_pieces(input)?;
+    let (name, tolerance) = rest.split_once(':')?;
     let outline = match name.split_once('-') {
         Some(("cubics", curves)) => outlines::cubics().get(..9 * curves.parse::<usize>().ok()?)?.to_vec(),
         Some(("arches", depth)) => outlines::arches(depth.parse().ok()?),
@@ -40,18 +47,18 @@ fn band(engine: &str, input: &str, times: usize) -> Option<()> {
         _ => return None,
     };
     let tolerance = tolerance.parse().ok()?;
-    let mut records = vec![0; 64 * 256 * RECORD];
-    let report = contour_band::band(&outline, tolerance, &mut records).ok()?;
+    let mut records = vec![0; 64 * 256 * record_length(m)];
+    let report = contour_band::band(&outline, tolerance, m, &mut records).ok()?;
     let mut leaves = vec![0; report.curves as usize];
-    for record in records.chunks_exact(RECORD).take(report.leaves as usize) {
+    for record in records.chunks_exact(record_length(m)).take(report.leaves as usize) {
         leaves[record[0] as usize] += 1;
     }
     for _ in 0..times {
         let (outline, records) = (black_box(&outline[..]), black_box(&mut records[..]));
         match engine {
-            "plain" => plain::band(outline, tolerance, records).map(|_| ()).ok()?,
-            "proved" => contour_band::band(outline, tolerance, records).map(|_| ()).ok()?,
-            "sampled" => sampled::band(outline, &leaves, Packing::TowardsZero, records),
+            "plain" => plain::band(outline, tolerance, m, records).map(|_| ()).ok()?,
+            "proved" => contour_band::band(outline, tolerance, m, records).map(|_| ()).ok()?,
+            "sampled" if m == M => sampled::band(outline, &leaves, Packing::TowardsZero, records),
             _ => return None,
         }
     }
@@ -61,8 +68,9 @@ fn band(engine: &str, input: &str, times: usize) -> Option<()> {
 
 /// Judges one point at a time.
 fn judge(engine: &str, input: &str, times: usize) -> Option<()> {
-    let leaves = points::leaves();
-    let points = match input {
+    let (place, m) = with_pieces(input)?;
+    let leaves = points::leaves(m);
+    let points = match place {
         "near" => points::near(&leaves),
         "beside" => points::beside(&leaves),
         "far" => points::far(),
@@ -70,13 +78,13 @@ fn judge(engine: &str, input: &str, times: usize) -> Option<()> {
         _ => return None,
     };
     for &(x, y) in points.iter().cycle().take(times) {
-        let leaves = black_box(&leaves[..]);
+        let leaves = black_box(&leaves.records[..]);
         let refused = match engine {
-            "plain" => plain::judge(leaves, x, y).is_err(),
-            "proved" => contour_band::judge(leaves, x, y).is_err(),
+            "plain" => plain::judge(leaves, m, x, y).is_err(),
+            "proved" => contour_band::judge(leaves, m, x, y).is_err(),
             _ => return None,
         };
-        assert_eq!(refused, input == "refused");
+        assert_eq!(refused, place == "refused");
     }
     Some(())
 }

@@ -4,11 +4,15 @@
 use differential::banding::Answer::{self, Accepted, Refused};
 use differential::banding::Comparison;
 use differential::outlines::{starts, AWKWARD, EDGE};
+use differential::pieces::WRONG;
+use plain::record_length;
 use std::collections::BTreeSet;
 
 /// A fault and where it is planted. Places are numbers of curves.
 #[derive(Debug, Clone, Copy, PartialEq, Eq, PartialOrd, Ord)]
 enum Fault {
+    /// 18: so many pieces.
+    Pieces(u32),
     /// 1: this tolerance.
     Tolerance(i32),
     /// 6: no number at all.
@@ -34,6 +38,7 @@ use Fault::*;
 impl Fault {
     fn number(self) -> u32 {
         match self {
+            Pieces(_) => 18,
             Tolerance(_) => 1,
             Degree(..) => 2,
             Cut(_) => 3,
@@ -48,9 +53,9 @@ impl Fault {
 }
 
 /// Every fault's number.
-const NUMBERS: [u32; 9] = [1, 2, 3, 4, 5, 6, 7, 8, 17];
+const NUMBERS: [u32; 10] = [1, 2, 3, 4, 5, 6, 7, 8, 17, 18];
 
-/// Curves that are accepted at every tolerance from 3, each from where the one before ends; the first is
+/// Curves that are accepted at every tolerance from 3 with every m, each from where the one before ends; the first is
 /// from where the last ends.
 const CURVES: [&[i32]; 4] = [
     &[3, 0, 0, 10, 30, 20, 30, 30, 0],
@@ -59,16 +64,17 @@ const CURVES: [&[i32]; 4] = [
     &[3, -20, 5, 800, -700, -600, 500, 0, 0],
 ];
 
-/// A curve with the ends of another whose first node at depth 8 does not meet 3.
+/// A curve with the ends of another whose first node at depth 8 does not meet 3 with any m.
 fn wide(curve: &[i32]) -> Vec<i32> {
     let ([_, x, y, ..], [.., end_x, end_y]) = (curve, curve) else { panic!("a curve has two points") };
     vec![3, *x, *y, *x, EDGE, *x, EDGE, *end_x, *end_y]
 }
 
-/// An outline with faults planted, and the answer that document 01's table gives for it.
+/// An outline with faults planted, and the answer that the documents' table gives for it.
 struct Planted {
     outline: Vec<i32>,
     tolerance: i32,
+    m: u32,
     room: Room,
     expected: Option<(u32, u64)>,
 }
@@ -80,16 +86,17 @@ enum Room {
     None,
 }
 
-/// Plants faults in an outline of `count` curves, or says that they cannot be had together.
-fn plant(count: usize, faults: &[Fault]) -> Option<Planted> {
+/// Plants faults in an outline of `count` curves and m pieces, or says that they cannot be had together.
+fn plant(count: usize, m: u32, faults: &[Fault]) -> Option<Planted> {
     let empty = faults.contains(&Empty);
-    if empty && faults.iter().any(|fault| !matches!(fault, Empty | Tolerance(_))) {
+    if empty && faults.iter().any(|fault| !matches!(fault, Empty | Tolerance(_) | Pieces(_))) {
         return None;
     }
-    let (mut count, mut tolerance, mut room) = (if empty { 0 } else { count }, 3, Room::Enough);
+    let (mut count, mut tolerance, mut m, mut room) = (if empty { 0 } else { count }, 3, m, Room::Enough);
     for &fault in faults {
         match fault {
             Tolerance(bad) => tolerance = bad,
+            Pieces(bad) => m = bad,
             Curves(many) => count = many,
             Lent(one_short) => room = if one_short { Room::OneShort } else { Room::None },
             _ => {}
@@ -98,7 +105,7 @@ fn plant(count: usize, faults: &[Fault]) -> Option<Planted> {
     let curves = damaged(count, faults)?;
     let outline = curves.concat();
     let expected = first(&curves, faults, outline.len());
-    Some(Planted { outline, tolerance, room, expected })
+    Some(Planted { outline, tolerance, m, room, expected })
 }
 
 /// So many curves with the faults that stand in one of them.
@@ -141,6 +148,9 @@ fn damaged(count: usize, faults: &[Fault]) -> Option<Vec<Vec<i32>>> {
 /// The refusal that the table names first. That of 8 is left open: its spot is a count.
 fn first(curves: &[Vec<i32>], faults: &[Fault], length: usize) -> Option<(u32, u64)> {
     let has = |wanted: &dyn Fn(&Fault) -> bool| faults.iter().any(wanted);
+    if has(&|f| matches!(f, Pieces(_))) {
+        return Some((18, 0));
+    }
     if has(&|f| matches!(f, Tolerance(_))) {
         return Some((1, 0));
     }
@@ -180,15 +190,14 @@ fn first(curves: &[Vec<i32>], faults: &[Fault], length: usize) -> Option<(u32, u
 /// Compares the engines on planted faults, and the answer with the table's.
 fn check(comparison: &mut Comparison, planted: &Planted) {
     comparison.tally.outlines += 1;
-    let Planted { outline, tolerance, room, expected } = planted;
-    let empty = comparison.band(outline, *tolerance, 0);
+    let Planted { outline, tolerance, m, room, expected } = planted;
+    let mut band = |length| comparison.band(outline, *tolerance, *m, length);
+    let empty = band(0);
     let answer: Answer = match (room, empty) {
-        (Room::OneShort, Refused(8, leaves)) => {
-            comparison.band(outline, *tolerance, 18 * leaves as usize - 1)
-        }
-        (Room::Enough, Refused(8, leaves)) => comparison.band(outline, *tolerance, 18 * leaves as usize),
-        (Room::OneShort, _) => comparison.band(outline, *tolerance, 17),
-        (Room::Enough, _) => comparison.band(outline, *tolerance, 18 * 300),
+        (Room::OneShort, Refused(8, leaves)) => band(record_length(*m) * leaves as usize - 1),
+        (Room::Enough, Refused(8, leaves)) => band(record_length(*m) * leaves as usize),
+        (Room::OneShort, _) => band(17),
+        (Room::Enough, _) => band(18 * 300),
         (Room::None, _) => empty,
     };
     let right = match (*expected, answer) {
@@ -197,13 +206,17 @@ fn check(comparison: &mut Comparison, planted: &Planted) {
         (None, Accepted { .. }) => *room == Room::Enough,
         (None, Refused(..)) => false,
     };
-    assert!(right, "outline {outline:?}, tolerance {tolerance}, {room:?}: {answer:?}, not {expected:?}");
+    assert!(
+        right,
+        "outline {outline:?}, tolerance {tolerance}, m {m}, {room:?}: {answer:?}, not {expected:?}"
+    );
 }
 
 /// Faults at every place of an outline of `count` curves.
 fn faults(count: usize, places: &[usize]) -> Vec<Fault> {
     let mut faults = vec![Empty, Lent(true), Lent(false)];
     faults.extend([i32::MIN, -1, 0, 1, EDGE + 1, i32::MAX].map(Tolerance));
+    faults.extend(WRONG.map(Pieces));
     faults.extend([65, 66].map(Curves));
     faults.extend((1..9).map(Cut));
     for &at in places {
@@ -230,10 +243,12 @@ fn faults(count: usize, places: &[usize]) -> Vec<Fault> {
 #[test]
 fn every_fault_alone() {
     let mut comparison = Comparison::new("banding, every fault alone", 501);
-    for (count, places) in [(4, &[0, 1, 2, 3][..]), (1, &[0]), (64, &[0, 1, 33, 62, 63])] {
-        check(&mut comparison, &plant(count, &[]).unwrap());
+    for (m, (count, places)) in (1..=8).flat_map(|m| {
+        [(4, &[0, 1, 2, 3][..]), (1, &[0]), (64, &[0, 1, 33, 62, 63])].map(|outline| (m, outline))
+    }) {
+        check(&mut comparison, &plant(count, m, &[]).unwrap());
         for fault in faults(count, places) {
-            if let Some(planted) = plant(count, &[fault]) {
+            if let Some(planted) = plant(count, m, &[fault]) {
                 let expected = planted.expected.map_or(8, |(number, _)| number);
                 assert_eq!(expected, fault.number());
                 check(&mut comparison, &planted);
@@ -248,6 +263,8 @@ fn every_fault_alone() {
 fn every_two_faults() {
     let mut comparison = Comparison::new("banding, every two faults", 502);
     let mut pairs = BTreeSet::new();
+    // Each m in turn.
+    let mut turns = (1..=8).cycle();
     // Four curves, and 65 or 66 with faults before, in and after the 65th.
     for (count, places) in [(4, &[0, 1, 2, 3][..]), (64, &[0, 1, 62, 63, 64, 65])] {
         let faults = faults(count, places);
@@ -258,7 +275,8 @@ fn every_two_faults() {
                 if one == other || (count == 64) != many {
                     continue;
                 }
-                if let Some(planted) = plant(count, &[one, other]) {
+                let m = turns.next().expect("a cycle has no end");
+                if let Some(planted) = plant(count, m, &[one, other]) {
                     check(&mut comparison, &planted);
                     let (a, b) = (one.number(), other.number());
                     pairs.insert((a.min(b), a.max(b)));
@@ -268,8 +286,8 @@ fn every_two_faults() {
     }
     for one in NUMBERS {
         for other in NUMBERS.into_iter().filter(|&other| one < other) {
-            // An empty outline has no other fault than its tolerance.
-            let together = (one, other) == (1, 6) || (one != 6 && other != 6);
+            // An empty outline has no other fault than its tolerance and its m.
+            let together = [(1, 6), (6, 18)].contains(&(one, other)) || (one != 6 && other != 6);
             assert_eq!(pairs.contains(&(one, other)), together, "{one} with {other}");
         }
     }
@@ -291,22 +309,24 @@ fn other_side(outline: &[i32], at: usize) -> Option<usize> {
 fn awkward_numbers_everywhere() {
     let mut comparison = Comparison::new("banding, awkward numbers everywhere", 503);
     let outline = CURVES.concat();
+    let mut turns = (1..=8).cycle();
     for tolerance in AWKWARD.into_iter().chain([44, 700]) {
         for at in 0..outline.len() {
             for number in AWKWARD {
                 let mut outline = outline.clone();
+                let m = turns.next().expect("a cycle has no end");
                 let same = other_side(&outline, at);
                 outline[at] = number;
                 comparison.tally.outlines += 1;
-                comparison.band_into_every_length(&outline, tolerance);
+                comparison.band_into_every_length(&outline, tolerance, m);
                 if let Some(same) = same {
                     outline[same] = number;
                     comparison.tally.outlines += 1;
-                    comparison.band_into_every_length(&outline, tolerance);
+                    comparison.band_into_every_length(&outline, tolerance, m);
                 }
                 outline.truncate(at + 1);
                 comparison.tally.outlines += 1;
-                comparison.band_into_every_length(&outline, tolerance);
+                comparison.band_into_every_length(&outline, tolerance, m);
             }
         }
     }
@@ -321,8 +341,10 @@ fn every_length_of_an_outline() {
         outline.extend(CURVES[i % CURVES.len()]);
     }
     for length in 0..=outline.len() {
-        comparison.tally.outlines += 1;
-        comparison.band_into_every_length(&outline[..length], 44);
+        for m in 1..=8 {
+            comparison.tally.outlines += 1;
+            comparison.band_into_every_length(&outline[..length], 44, m);
+        }
     }
     comparison.report();
 }

@@ -2,9 +2,11 @@
 
 use differential::banding::{Answer, Comparison};
 use differential::outlines::{outline, EDGE};
+use differential::pieces::pieces;
 use differential::random::Random;
+use plain::record_length;
 
-const OUTLINES: u64 = 10_000;
+const OUTLINES: u64 = 12_000;
 
 /// The least tolerance that one record meets: its longest diagonal, rounded up.
 fn least_tolerance(record: &[i32]) -> i32 {
@@ -22,22 +24,24 @@ fn tolerances_that_a_node_just_meets_and_one_less() {
     let mut random = Random::new(seed);
     for _ in 0..OUTLINES {
         let outline = outline(&mut random);
+        let m = pieces(&mut random);
         comparison.tally.outlines += 1;
         // From the greatest tolerance downwards: the least that a leaf meets, then one less, which splits it.
         let mut tolerance = EDGE;
         for _ in 0..4 {
-            let answer = comparison.band_into_every_length(&outline, tolerance);
-            let Answer::Accepted { leaves, .. } = answer else {
+            let answer = comparison.band_into_every_length(&outline, tolerance, m);
+            let Answer::Accepted { .. } = answer else {
                 break;
             };
-            let records: Vec<&[i32]> = comparison.records(leaves).chunks_exact(18).collect();
+            let records: Vec<&[i32]> = comparison.records().chunks_exact(record_length(m)).collect();
             let exact = least_tolerance(random.pick(&records));
             if exact < 3 {
                 break;
             }
-            comparison.band_into_every_length(&outline, exact);
+            comparison.band_into_every_length(&outline, exact, m);
             tolerance = exact - 1;
         }
     }
+    assert!(comparison.tally.accepted.iter().all(|&accepted| accepted > 5_000));
     comparison.report();
 }

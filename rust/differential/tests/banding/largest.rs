@@ -3,6 +3,7 @@
 use differential::banding::Answer::{Accepted, Refused};
 use differential::banding::Comparison;
 use differential::outlines::{deepest, EDGE};
+use differential::pieces::pieces;
 use differential::random::Random;
 
 #[test]
@@ -10,10 +11,10 @@ fn the_most_leaves() {
     let seed = 601;
     let mut comparison = Comparison::new("banding, the most leaves, seed 601", seed);
     let mut random = Random::new(seed);
-    for _ in 0..5 {
-        let mut outline = deepest(&mut random);
+    for m in 1..=8 {
+        let mut outline = deepest(&mut random, m);
         comparison.tally.outlines += 1;
-        let answer = comparison.band_into_every_length(&outline, 3);
+        let answer = comparison.band_into_every_length(&outline, 3, m);
         assert_eq!(answer, Accepted { curves: 64, leaves: 16_384, nodes: 32_704 });
         // The last curve alone is too wide: that comes before the list, however short.
         let last = outline.len() - 9;
@@ -21,7 +22,7 @@ fn the_most_leaves() {
         let far = if y > 0 { -EDGE } else { EDGE };
         outline[last..].copy_from_slice(&[3, x, y, x, far, x, far, x, y]);
         comparison.tally.outlines += 1;
-        let answer = comparison.band_into_every_length(&outline, 3);
+        let answer = comparison.band_into_every_length(&outline, 3, m);
         assert_eq!(answer, Refused(7, 512 * 63 + 256));
     }
     comparison.report();
@@ -51,7 +52,7 @@ fn many_leaves_of_every_degree() {
         }
         comparison.tally.outlines += 1;
         let tolerance = random.between(2, 9);
-        comparison.band_into_every_length(&outline, tolerance);
+        comparison.band_into_every_length(&outline, tolerance, pieces(&mut random));
     }
     comparison.report();
 }

@@ -3,6 +3,7 @@
 use differential::banding::Answer::{self, Accepted, Refused};
 use differential::banding::Comparison;
 use differential::outlines::{in_range, EDGE};
+use differential::pieces::pieces;
 use differential::random::Random;
 
 /// Where the next curve begins, from where the one before ends.
@@ -82,9 +83,9 @@ fn expected(curves: &[Vec<i32>]) -> Option<Answer> {
     None
 }
 
-fn check(comparison: &mut Comparison, curves: &[Vec<i32>], tolerance: i32) -> bool {
+fn check(comparison: &mut Comparison, curves: &[Vec<i32>], tolerance: i32, m: u32) -> bool {
     comparison.tally.outlines += 1;
-    let answer = comparison.band_into_every_length(&curves.concat(), tolerance);
+    let answer = comparison.band_into_every_length(&curves.concat(), tolerance, m);
     match expected(curves) {
         Some(refused) => assert_eq!(answer, refused, "{curves:?}"),
         None => assert!(
@@ -113,7 +114,8 @@ fn every_pair_of_degrees() {
                     let end = after.len() - 2;
                     after[end..].copy_from_slice(&before[1..3]);
                 }
-                accepted += u32::from(check(&mut comparison, &[before, after], 44));
+                let m = pieces(&mut random);
+                accepted += u32::from(check(&mut comparison, &[before, after], 44, m));
             }
         }
         assert!(accepted > 100, "degrees {first} and {second}");
@@ -143,7 +145,7 @@ fn the_first_gap_of_many_curves() {
                 outline.push(curve(&mut random, degree, start));
             }
             comparison.tally.outlines += 1;
-            let answer = comparison.band_into_every_length(&outline.concat(), 44);
+            let answer = comparison.band_into_every_length(&outline.concat(), 44, pieces(&mut random));
             let most = &outline[..curves.min(64)];
             match expected(most) {
                 Some(refused) => assert_eq!(answer, refused),
@@ -153,6 +155,10 @@ fn the_first_gap_of_many_curves() {
         }
     }
     let refused = &comparison.tally.refused;
-    assert!(refused[17] > 500 && refused[5] > 100 && comparison.tally.accepted > 100);
+    assert!(
+        refused[17] > 500
+            && refused[5] > 100
+            && comparison.tally.accepted.iter().all(|&accepted| accepted > 10)
+    );
     comparison.report();
 }

@@ -2,11 +2,13 @@
 
 use differential::banding::{Answer, Comparison};
 use differential::outlines::{damage, outline, tolerance};
+use differential::pieces::pieces;
 use differential::random::Random;
+use plain::record_length;
 
 const EACH: u64 = 60_000;
 
-/// Outlines that pass every check, each at one tolerance: into an empty list, into one that is exact
+/// Outlines that pass every check, each at one tolerance and with one m: into an empty list, into one that is exact
 /// or longer, and at times into one that is a number short.
 fn whole(name: &'static str, seed: u64) {
     let mut comparison = Comparison::new(name, seed);
@@ -14,17 +16,19 @@ fn whole(name: &'static str, seed: u64) {
     for _ in 0..EACH {
         let outline = outline(&mut random);
         let tolerance = tolerance(&mut random);
+        let m = pieces(&mut random);
         comparison.tally.outlines += 1;
-        let Answer::Refused(8, leaves) = comparison.band(&outline, tolerance, 0) else {
+        let Answer::Refused(8, leaves) = comparison.band(&outline, tolerance, m, 0) else {
             continue;
         };
-        let exact = 18 * leaves as usize;
+        let exact = record_length(m) * leaves as usize;
         let longer = if random.one_in(2) { random.below(200) } else { 0 };
-        comparison.band(&outline, tolerance, exact + longer);
+        comparison.band(&outline, tolerance, m, exact + longer);
         if random.one_in(8) {
-            comparison.band(&outline, tolerance, exact - 1);
+            comparison.band(&outline, tolerance, m, exact - 1);
         }
     }
+    assert!(comparison.tally.accepted.iter().all(|&accepted| accepted > EACH / 16));
     comparison.report();
 }
 
@@ -35,10 +39,12 @@ fn broken(name: &'static str, seed: u64) {
     for _ in 0..EACH {
         let mut outline = outline(&mut random);
         let mut tolerance = tolerance(&mut random);
-        damage(&mut random, &mut outline, &mut tolerance);
+        let mut m = pieces(&mut random);
+        damage(&mut random, &mut outline, &mut tolerance, &mut m);
         comparison.tally.outlines += 1;
-        comparison.band_into_every_length(&outline, tolerance);
+        comparison.band_into_every_length(&outline, tolerance, m);
     }
+    assert!((1..=8).chain([17, 18]).all(|number| comparison.tally.refused[number] > 0));
     comparison.report();
 }
 

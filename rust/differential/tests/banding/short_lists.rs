@@ -1,7 +1,9 @@
 //! Every list of up to five numbers out of a few awkward ones.
 
-use differential::banding::Comparison;
+use differential::banding::{Answer, Comparison};
 use differential::outlines::EDGE;
+use differential::pieces::WRONG;
+use plain::record_length;
 
 const NUMBERS: [i32; 10] = [i32::MIN, -EDGE - 1, -EDGE, 0, 1, 2, 3, 4, EDGE + 1, i32::MAX];
 
@@ -13,10 +15,13 @@ fn every_short_list() {
             let digit = |place| choice / NUMBERS.len().pow(place) % NUMBERS.len();
             let outline: Vec<i32> = (0..length).map(|place| NUMBERS[digit(place)]).collect();
             comparison.tally.outlines += 1;
-            for tolerance in [1, 2] {
-                comparison.band(&outline, tolerance, 18);
-            }
-            comparison.band(&outline, EDGE, 17);
+            // The first number, which is a degree or is not, is not what decides m.
+            let turn = choice / NUMBERS.len();
+            let (m, wrong) = (1 + turn as u32 % 8, WRONG[turn % WRONG.len()]);
+            comparison.band(&outline, 1, m, record_length(m));
+            comparison.band(&outline, 2, m, record_length(m));
+            comparison.band(&outline, EDGE, m, record_length(m) - 1);
+            assert_eq!(comparison.band(&outline, 1 + turn as i32 % 2, wrong, 18), Answer::Refused(18, 0));
         }
     }
     comparison.report();

@@ -3,23 +3,21 @@
 
 use differential::covers::witness_of;
 use differential::curves::{curves, gcd};
-use differential::judging::Comparison;
+use differential::judging::{Band, Comparison};
 use differential::leaf_lists::LeafList;
 use differential::outlines::{in_range, outline, starts, tolerance, EDGE};
+use differential::pieces::pieces;
 use differential::random::Random;
+use plain::record_length;
 
-/// The records of an outline at the first tolerance of `least`, twice that and so on at which it is
-/// accepted, and that tolerance.
-fn band(outline: &[i32], least: i32) -> (i32, Vec<i32>) {
-    let mut tolerance = least;
-    let mut records = vec![0; 18 * 64 * 256];
+/// The band of an outline with some m, at the first of some tolerance, twice that and so on at which it is
+/// accepted.
+fn band<'a>(random: &mut Random, outline: &'a [i32]) -> Band<'a> {
+    let (mut tolerance, m) = (tolerance(random), pieces(random));
     loop {
-        match contour_band::band(outline, tolerance, &mut records) {
-            Ok(report) => {
-                records.truncate(18 * report.leaves as usize);
-                return (tolerance, records);
-            }
-            Err(refusal) => assert_eq!(refusal.number(), 7, "{refusal}, outline {outline:?}"),
+        match Band::new(outline, tolerance, m) {
+            Ok(band) => return band,
+            Err(number) => assert_eq!(number, 7, "outline {outline:?}, tolerance {tolerance}, m {m}"),
         }
         tolerance = (2 * tolerance).min(EDGE);
     }
@@ -43,24 +41,24 @@ fn random_outlines() {
     let mut random = Random::new(721);
     for _ in 0..20_000 {
         let outline = outline(&mut random);
-        let least = tolerance(&mut random);
-        let (tolerance, records) = band(&outline, least);
-        let list = LeafList::new(records);
+        let band = band(&mut random, &outline);
+        let list = LeafList::new(band.records.clone(), band.m);
         for _ in 0..4 {
             let (x, y) = list.point(&mut random);
-            comparison.judge_band(&outline, tolerance, &list.numbers, x, y);
-            let (x, y) = near_a_curve(&mut random, &outline, tolerance);
-            comparison.judge_band(&outline, tolerance, &list.numbers, x, y);
+            comparison.judge_band(&band, x, y);
+            let (x, y) = near_a_curve(&mut random, &outline, band.tolerance);
+            comparison.judge_band(&band, x, y);
         }
         // Ends, middles and quarters, wherever these are whole sixteenths.
         let curves = curves(&outline);
         let curve = random.pick(&curves);
         for point in (0..=4).filter_map(|p| curve.whole_point(p, 4)) {
-            comparison.judge_of_curve(&outline, tolerance, &list.numbers, point);
+            comparison.judge_of_curve(&band, point);
         }
     }
     let tally = &comparison.tally;
     assert!(tally.on > 20_000 && tally.off > 20_000 && tally.near == tally.on);
+    assert!(tally.by_cover.iter().all(|&on| on > 1_000));
     comparison.report();
 }
 
@@ -104,17 +102,17 @@ fn points_between_curves() {
     let mut random = Random::new(723);
     for _ in 0..10_000 {
         let outline = outline(&mut random);
-        let least = tolerance(&mut random);
-        let (tolerance, records) = band(&outline, least);
+        let band = band(&mut random, &outline);
         for (number, curve) in curves(&outline).iter().enumerate().skip(1) {
             let (x, y) = curve.whole_point(0, 1).expect("control points are whole");
-            comparison.judge_of_curve(&outline, tolerance, &records, (x, y));
+            comparison.judge_of_curve(&band, (x, y));
             // The last leaf of the curve before and the first of this one, which stand side by side.
-            let first = records.chunks_exact(18).position(|record| record[0] == number as i32);
+            let records: Vec<&[i32]> = band.records.chunks_exact(record_length(band.m)).collect();
+            let first = records.iter().position(|record| record[0] == number as i32);
             let first = first.expect("a curve has leaves");
             for (record, numbered) in [(first - 1, number - 1), (first, number)] {
-                let record = &records[18 * record..][..18];
-                let held = (0..3).any(|cover| witness_of(record, cover, x, y).is_some());
+                let record = records[record];
+                let held = (0..band.m as usize).any(|cover| witness_of(record, cover, x, y).is_some());
                 assert!(record[0] == numbered as i32 && held, "({x} {y}) of {outline:?}");
             }
         }
@@ -131,12 +129,11 @@ fn points_of_curves() {
     for _ in 0..2_500 {
         let q = random.pick(&parts);
         let outline = whole_outline(&mut random, q);
-        let least = tolerance(&mut random);
-        let (tolerance, records) = band(&outline, least);
+        let band = band(&mut random, &outline);
         for curve in curves(&outline) {
             for p in 0..=q {
                 let point = curve.whole_point(p.into(), q.into()).expect("the curve is whole there");
-                comparison.judge_of_curve(&outline, tolerance, &records, point);
+                comparison.judge_of_curve(&band, point);
             }
         }
     }

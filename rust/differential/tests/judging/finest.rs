@@ -4,6 +4,7 @@
 use differential::curves::gcd;
 use differential::judging::Comparison;
 use differential::leaf_lists::FARTHEST;
+use differential::pieces::pieces;
 use differential::random::Random;
 
 /// A cover from the box at the origin to the same box moved by (across, up), and points k × (a, b) +
@@ -37,8 +38,8 @@ fn length(random: &mut Random) -> i64 {
     i64::from(random.between(1, most))
 }
 
-/// The leaf list of a cover and the point, moved into the range, turned and mirrored.
-fn place(random: &mut Random, cover: &Cover, point: [i64; 2]) -> (Vec<i32>, i32, i32) {
+/// The leaf list of a cover, with m pieces, and the point, moved into the range, turned and mirrored.
+fn place(random: &mut Random, m: u32, cover: &Cover, point: [i64; 2]) -> (Vec<i32>, i32, i32) {
     let [left, high] = cover.widths;
     let first = [[-left, 0], [0, high]];
     let second = [[cover.across - left, cover.across], [cover.up, cover.up + high]];
@@ -61,9 +62,9 @@ fn place(random: &mut Random, cover: &Cover, point: [i64; 2]) -> (Vec<i32>, i32,
     }
     let [(x_first, x_second, x), (y_first, y_second, y)] = coordinates;
     let boxes = [[x_first, y_first].concat(), [x_second, y_second].concat()];
-    let at = random.between(0, 2);
+    let at = random.below(m as usize);
     let mut leaves = vec![0, 1];
-    for i in 0..4 {
+    for i in 0..=m as usize {
         leaves.extend(&boxes[usize::from((i <= at) == exchanged)]);
     }
     (leaves, x, y)
@@ -91,9 +92,10 @@ fn the_nearest_points_of_a_slanted_side() {
             let least = i64::from(e == -1);
             let most = parts - i64::from(e == 1);
             let k = least + random.below((most - least) as usize + 1) as i64;
-            let (leaves, x, y) = place(&mut random, &cover, [k * a + e * u, k * b + e * v]);
-            let on = comparison.judge(&leaves, x, y).is_on();
-            assert_eq!(on, e == 0 || wide && e == 1, "{leaves:?}, ({x} {y})");
+            let m = pieces(&mut random);
+            let (leaves, x, y) = place(&mut random, m, &cover, [k * a + e * u, k * b + e * v]);
+            let on = comparison.judge(&leaves, m, x, y).is_on();
+            assert_eq!(on, e == 0 || wide && e == 1, "{leaves:?}, m {m}, ({x} {y})");
         }
     }
     comparison.report();

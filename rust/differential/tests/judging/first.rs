@@ -2,10 +2,12 @@
 //! lowest cover.
 
 use differential::judging::Answer::{Off, On};
-use differential::judging::Comparison;
+use differential::judging::{Band, Comparison};
 use differential::leaf_lists::{leaf_list, LeafList};
 use differential::outlines::{outline, tolerance};
+use differential::pieces::pieces;
 use differential::random::Random;
+use plain::record_length;
 
 /// A record with these four boxes.
 fn record(curve: i32, node: i32, boxes: [[i32; 4]; 4]) -> Vec<i32> {
@@ -13,13 +15,14 @@ fn record(curve: i32, node: i32, boxes: [[i32; 4]; 4]) -> Vec<i32> {
 }
 
 /// The records of a list, last first.
-fn reversed(leaves: &[i32]) -> Vec<i32> {
-    leaves.chunks_exact(18).rev().flatten().copied().collect()
+fn reversed(leaves: &[i32], m: u32) -> Vec<i32> {
+    leaves.chunks_exact(record_length(m)).rev().flatten().copied().collect()
 }
 
 /// A corner of a box of the list: a break point that two covers share, or an end that two records may.
-fn corner(random: &mut Random, leaves: &[i32]) -> (i32, i32) {
-    let at = 18 * random.below(leaves.len() / 18) + 2 + 4 * random.below(4);
+fn corner(random: &mut Random, leaves: &[i32], m: u32) -> (i32, i32) {
+    let length = record_length(m);
+    let at = length * random.below(leaves.len() / length) + 2 + 4 * random.below(m as usize + 1);
     (leaves[at + random.below(2)], leaves[at + 2 + random.below(2)])
 }
 
@@ -31,7 +34,7 @@ fn by_place_in_the_list_and_in_the_record() {
     let wide = record(63, 511, [[0, 13, 0, 1], [0, 13, 0, 1], [0, 13, 0, 1], [0, 13, 0, 1]]);
     let mut named = |records: &[&Vec<i32>], x: i32| {
         let leaves: Vec<i32> = records.iter().flat_map(|r| r.iter().copied()).collect();
-        comparison.judge(&leaves, x, 0)
+        comparison.judge(&leaves, 3, x, 0)
     };
     // The box at a break point belongs to the cover before it and to the one after.
     assert_eq!(named(&[&low, &high], 3), On { leaf: 0, cover: 0 });
@@ -55,12 +58,12 @@ fn lists_repeated_and_turned_round() {
     for _ in 0..15_000 {
         let list = leaf_list(&mut random);
         let twice = [list.numbers.clone(), list.numbers.clone()].concat();
-        let back = [reversed(&list.numbers), list.numbers.clone()].concat();
+        let back = [reversed(&list.numbers, list.m), list.numbers.clone()].concat();
         for leaves in [&list.numbers, &twice, &back] {
             let (x, y) = list.point(&mut random);
-            comparison.judge(leaves, x, y);
-            let (x, y) = corner(&mut random, leaves);
-            comparison.judge(leaves, x, y);
+            comparison.judge(leaves, list.m, x, y);
+            let (x, y) = corner(&mut random, leaves, list.m);
+            comparison.judge(leaves, list.m, x, y);
         }
     }
     assert!(comparison.tally.shared > 50_000, "{}", comparison.tally);
@@ -74,16 +77,14 @@ fn bands_in_either_order() {
     for _ in 0..4_000 {
         let outline = outline(&mut random);
         let tolerance = tolerance(&mut random);
-        let mut records = vec![0; 18 * 64 * 256];
-        let Ok(report) = contour_band::band(&outline, tolerance, &mut records) else { continue };
-        records.truncate(18 * report.leaves as usize);
-        let back = reversed(&records);
-        let list = LeafList::new(records);
+        let Ok(band) = Band::new(&outline, tolerance, pieces(&mut random)) else { continue };
+        let back = reversed(&band.records, band.m);
+        let list = LeafList::new(band.records, band.m);
         for leaves in [&list.numbers, &back] {
-            let (x, y) = corner(&mut random, leaves);
-            comparison.judge(leaves, x, y);
+            let (x, y) = corner(&mut random, leaves, list.m);
+            comparison.judge(leaves, list.m, x, y);
             let (x, y) = list.point(&mut random);
-            comparison.judge(leaves, x, y);
+            comparison.judge(leaves, list.m, x, y);
         }
     }
     assert!(comparison.tally.shared > 2_000, "{}", comparison.tally);

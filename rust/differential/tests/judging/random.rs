@@ -14,11 +14,12 @@ fn whole(name: &'static str, seed: u64) {
         let list = leaf_list(&mut random);
         for _ in 0..5 {
             let (x, y) = list.point(&mut random);
-            comparison.judge(&list.numbers, x, y);
+            comparison.judge(&list.numbers, list.m, x, y);
         }
     }
     let tally = &comparison.tally;
-    assert!(tally.on > EACH && tally.off > EACH && tally.refused == [0; 3]);
+    assert!(tally.on > EACH && tally.off > EACH && tally.refused.is_empty());
+    assert!(tally.by_cover.iter().all(|&on| on > EACH / 100), "{tally}");
     comparison.report();
 }
 
@@ -29,11 +30,11 @@ fn broken(name: &'static str, seed: u64) {
     for _ in 0..2 * EACH {
         let list = leaf_list(&mut random);
         let (mut x, mut y) = list.point(&mut random);
-        let mut leaves = list.numbers;
-        damage(&mut random, &mut leaves, &mut x, &mut y);
-        comparison.judge(&leaves, x, y);
+        let (mut leaves, mut m) = (list.numbers, list.m);
+        damage(&mut random, &mut leaves, &mut m, &mut x, &mut y);
+        comparison.judge(&leaves, m, x, y);
     }
-    assert!(comparison.tally.refused.iter().all(|&count| count > EACH / 20));
+    assert!([9, 10, 11, 18].iter().all(|&number| comparison.tally.refused[number] > EACH / 20));
     comparison.report();
 }
 

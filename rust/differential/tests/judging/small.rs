@@ -15,10 +15,10 @@ fn boxes(most: i32) -> Vec<[i32; 4]> {
     bounds.iter().flat_map(with).collect()
 }
 
-/// A record whose cover `cover` is of the two boxes. The others are of one of them alone.
-fn record(cover: usize, first: &[i32; 4], second: &[i32; 4]) -> Vec<i32> {
+/// A record of m pieces whose cover `cover` is of the two boxes. The others are of one of them alone.
+fn record(m: u32, cover: usize, first: &[i32; 4], second: &[i32; 4]) -> Vec<i32> {
     let mut record = vec![0, 1];
-    for i in 0..4 {
+    for i in 0..=m as usize {
         record.extend(if i <= cover { first } else { second });
     }
     record
@@ -30,10 +30,13 @@ fn every_two_small_boxes() {
     let most = 3;
     for (number, first) in boxes(most).iter().enumerate() {
         for (other, second) in boxes(most).iter().enumerate() {
-            let leaves = record((number + other) % 3, first, second);
+            // Every m and each of its covers in turn.
+            let turn = number * number + other;
+            let m = 1 + turn as u32 % 8;
+            let leaves = record(m, turn / 8 % m as usize, first, second);
             for x in -1..=most + 1 {
                 for y in -1..=most + 1 {
-                    comparison.judge(&leaves, x, y);
+                    comparison.judge(&leaves, m, x, y);
                 }
             }
         }
@@ -46,21 +49,22 @@ fn each_cover_of_each_record_is_named() {
     let mut comparison = Comparison::new("judging, each cover of each record");
     // Boxes that are single points, along a staircase: each cover is a stair with a middle of its own.
     let corner = |i: i32| [20 * (i / 2 + i % 2), 20 * (i / 2)].map(|z| z - 30);
-    let mut leaves = Vec::new();
-    for leaf in 0..5 {
-        leaves.extend([63 - leaf, 511 - leaf]);
-        for i in 0..4 {
-            let [x, y] = corner(3 * leaf + i);
-            leaves.extend([x, x, y, y]);
+    for m in 1..=8 {
+        let pieces = m as i32;
+        let mut leaves = Vec::new();
+        for leaf in 0..5 {
+            leaves.extend([63 - leaf, 511 - leaf]);
+            for i in 0..=pieces {
+                let [x, y] = corner(pieces * leaf + i);
+                leaves.extend([x, x, y, y]);
+            }
         }
-    }
-    for leaf in 0..5 {
-        for cover in 0..3 {
-            let i = 3 * leaf as i32 + cover as i32;
+        for (leaf, cover) in (0..5).flat_map(|leaf| (0..m as usize).map(move |cover| (leaf, cover))) {
+            let i = pieces * leaf as i32 + cover as i32;
             let ([x, y], [next_x, next_y]) = (corner(i), corner(i + 1));
             let (x, y) = ((x + next_x) / 2, (y + next_y) / 2);
-            assert_eq!(comparison.judge(&leaves, x, y), On { leaf, cover });
-            assert_eq!(comparison.judge(&leaves, x + 1, y - 1), Off);
+            assert_eq!(comparison.judge(&leaves, m, x, y), On { leaf, cover });
+            assert_eq!(comparison.judge(&leaves, m, x + 1, y - 1), Off);
         }
     }
     comparison.report();

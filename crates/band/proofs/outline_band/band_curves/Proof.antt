@@ -1,73 +1,63 @@
--- Checks 7 and 8 and the records, from the two passes.
-use mathlib.Core.Path.{_≡_, sym, _∙_}
+-- The band of an outline without faults, with the rows of the number of pieces copied.
+use mathlib.Core.Path.{_≡_, refl, ap}
+use mathlib.Core.List.{List}
+use Prim.Native.Nat.{ℕ, zero, suc, _*_, _≤_, zero-le}
 use native.Mathlib.Omega.{arith}
 use borrow.Author.Needs.{needs}
-use mir.Facts.{toZ-ofZ}
-use Rattle.setting.specs.Setting.{standard}
-use Rattle.band_passes.specs.declared.passes.Counted.the-variants.{Total}
-use Rattle.band_passes.specs.Leaves.{curvesOf}
-use Rattle.band_passes.specs.Inside.{countedOf}
-use Rattle.outline.specs.Checks.{outlineFrom}
-use Rattle.band.proofs.Answers.{answer-too-wide, answer-few, answer-nodes, answer-too-few, answer-list, read-count, fillable, report-done}
+use mir.Syntax.{w64}
+use mir.Val.{toZ}
+use mir.Facts.{toZ-ofZ, toZ-pos}
+use lib.ListN.{replicate}
+use lib.IntN.{ℤ, pos, natAbs}
+use Rattle.setting.specs.Setting.{HasRows}
+use Rattle.integers.specs.Entry.{entry}
+use Rattle.curve_halves.specs.Sizes.{Each}
+use Rattle.bound_rows.specs.Inside.{Copied}
+use Rattle.bound_node.specs.declared.pieces.Pieces.{Pieces}
+use Rattle.bound_node.specs.Inside.{piecesBy, piecesOf, Ready}
 use Rattle.band.proofs.outline_band.band_curves.Statement.{statement}
 use Rattle.band.proofs.outline_band.band_curves.Tie as tie
 
--- what the first pass counted
-counted : (c : tie.After-known-told2) →
-    let s = c .before .before .before .before in
-    Total (c .before .leaves .given .0 .0) ≡ countedOf standard (s .args .t) (curvesOf (outlineFrom (s .args .curves) (s .args .ns .now) 0))
-counted c =
-    let s = c .before .before .before .before in
-    rw (toZ-ofZ (s .fits .t)) at (sym (c .before .leaves .given .1) ∙ c .before .before .before .count .ensures)
+-- what goes with m pieces has their number
+number-is : {m : ℕ} {p : Pieces} → p ≡ piecesOf m → p .m ≡ m
+unfolding piecesOf piecesBy
+number-is e = ap (λ (q : Pieces). q .m) e
 
-mul-if1 : tie.Need-mul-if1
-mul-if1 c =
-    let s = c .before .before .before .before in
-    let r = s .pre in
-    omega (
-      arith,
-      answer-few standard (s .args .t) (curvesOf (outlineFrom (s .args .curves) (s .args .ns .now) 0)) (counted c)
-          (omega (arith, read-count r, r .few)),
-    )
+ready : {m : ℕ} {p : Pieces} {rows : List ℤ} → HasRows m → p ≡ piecesOf m → Copied m rows → Ready p rows
+unfolding piecesOf piecesBy
+ready h e copied = rw e (record { has = h; is = refl; copied = copied })
+
+-- a list filled with one number
+filled : {B : ℕ} (z : ℤ) → natAbs z ≤ B → (n : ℕ) → Each B (replicate n z)
+filled {B} z h n = record { under = each n }
+  where
+    each : (n j : ℕ) → natAbs (entry (replicate n z) j) ≤ B
+    each zero j = zero-le
+    each (suc n) zero = h
+    each (suc n) (suc j) = each n j
+
+put-rows-requires : tie.Need-put-rows-requires
+put-rows-requires c κs =
+    let m = c .before .args .m in
+    let h = c .before .pre .0 in
+    let e : toZ w64 m ≡ pos m = toZ-pos w64 (omega (arith, h .most)) in
+    let small : natAbs (toZ w64 m) ≤ 5000 * m = rw e (omega arith) in
+    (h, refl, filled (toZ w64 m) small 108)
+
+band-by-requires : tie.Need-band-by-requires
+band-by-requires c κs =
+    let r = c .before .before .before .before .before in
+    let s = r .before .before in
+    (ready (s .pre .0) (c .before .before .pieces-of .ensures) (r .put-rows .ensures), s .pre .1)
 
 returns : tie.Need-returns
 returns c =
-    let s = c .before .before .before .before .before in (
-      answer-too-few standard (s .args .t) (curvesOf (outlineFrom (s .args .curves) (s .args .ns .now) 0)) (counted (c .before)) (c .if1 .taken),
-      search needs,
-    )
-
-write-all-requires : tie.Need-write-all-requires
-write-all-requires c κs =
-    let s = c .before .before .before .before .before .before in
-    rw (toZ-ofZ (s .fits .t)) (fillable (s .pre) standard (s .args .t) (counted (c .before .before)) (c .before .if1 .left))
-
-sub-nodes : tie.Need-sub-nodes
-sub-nodes c =
-    let s = c .before .before .before .before .before .before .before .before in
-    let cs = curvesOf (outlineFrom (s .args .curves) (s .args .ns .now) 0) in
-    omega (arith, answer-nodes standard (s .args .t) cs (counted (c .before .before .before .before)), read-count (s .pre))
-
-returns-2 : tie.Need-returns-2
-returns-2 c =
-    let s = c .before .before .before .before in (
-      answer-too-wide standard (s .args .t) (curvesOf (outlineFrom (s .args .curves) (s .args .ns .now) 0)) _
-          (rw (toZ-ofZ (s .fits .t)) at (sym (c .before .refusal .given .1) ∙ c .before .before .before .count .ensures)),
-      search needs,
-    )
-
-returns-3 : tie.Need-returns-3
-returns-3 c =
-    let s = c .before .before .before .before .before .before .before .before in
-    let e = counted (c .before .before .before .before) in
-    let h = c .before .before .before .if1 .left in (
-      report-done (s .pre) standard (s .args .t) e h,
-      (rw (toZ-ofZ (s .fits .t)) at (c .before .write-all .ensures))
-          ∙ answer-list standard (s .args .t) (curvesOf (outlineFrom (s .args .curves) (s .args .ns .now) 0)) e (s .args .records .now) h,
-    )
+    let p = c .before .before .before .before in
+    let s = p .before .before .before .before .before in
+    rw (toZ-ofZ (s .fits .t), number-is (p .pieces-of .ensures)) at (c .before .band-by .ensures)
 
 pub band-curves-spec : {M : Type 1} → statement M
 band-curves-spec =
     tie.close
-    (tie.spec (λ c κs. search needs) (λ c. search needs) (λ c. search needs) mul-if1 returns write-all-requires
-    (λ c. search needs) sub-nodes returns-2 (λ c. search needs) returns-3)
+    (tie.spec (λ c. search needs) (λ c. search needs) put-rows-requires (λ c. search needs) (λ c κs. search needs) (λ c. search needs) band-by-requires
+    (λ c. search needs) returns)

@@ -8,7 +8,7 @@ use mir.Syntax.{w64}
 use mir.Val.{toZ}
 use mir.Facts.{toZ-ofZ}
 use Rattle.integers.proofs.Ranges.{stored}
-use Rattle.setting.specs.Setting.{standard}
+use Rattle.setting.specs.Setting.{lists}
 use Rattle.outline.specs.Curves.{curveAt}
 use Rattle.outline.proofs.Faultless.{faultless}
 use Rattle.walk_curve.specs.declared.Walked.the-variants.{Leaves}
@@ -19,13 +19,13 @@ use Rattle.band_passes.proofs.leaf_count.count.Statement.{statement}
 use Rattle.band_passes.proofs.leaf_count.count.Tie as tie
 
 abbrev Inv-loop : tie.InvT-loop
-Inv-loop ns t curves leaves₀ at₀ k₀ leaves at k = Passed standard (toZ w64 t) ns curves k at leaves
+Inv-loop rows pieces ns t curves leaves₀ at₀ k₀ leaves at k = Passed (lists (pieces .m)) (toZ w64 t) ns curves k at leaves
 
 abbrev μ-loop : tie.MeasureT-loop
-μ-loop ns t curves leaves₀ at₀ k₀ leaves at k = curves - k
+μ-loop rows pieces ns t curves leaves₀ at₀ k₀ leaves at k = curves - k
 
 loop-holds : tie.Need-loop-holds Inv-loop μ-loop
-loop-holds c = passed-start (c .pre)
+loop-holds c = passed-start (c .pre .1)
 
 curve-at-requires : tie.Need-curve-at-requires Inv-loop μ-loop
 curve-at-requires c κs = rest-next (c .before .loop .inv .rest) (c .before .loop .inv .ahead) (c .loop-test .taken) .no-fault
@@ -33,10 +33,10 @@ curve-at-requires c κs = rest-next (c .before .loop .inv .rest) (c .before .loo
 walk-requires : tie.Need-walk-requires Inv-loop μ-loop
 walk-requires c κs =
     let p = c .before .before .loop .inv in
-    rw (c .curve-at .ensures) (rest-next (p .rest) (p .ahead) (c .before .loop-test .taken) .sized)
+    rw (c .curve-at .ensures) (c .before .before .before .pre .0, rest-next (p .rest) (p .ahead) (c .before .loop-test .taken) .sized)
 
-cast-t12 : tie.Need-cast-t12 Inv-loop μ-loop
-cast-t12 c = omega (arith, c .before .before .before .before .before .before .before .pre .few)
+cast-t14 : tie.Need-cast-t14 Inv-loop μ-loop
+cast-t14 c = omega (arith, c .before .before .before .before .before .before .before .pre .1 .few)
 
 returns : tie.Need-returns Inv-loop μ-loop
 returns c =
@@ -44,15 +44,16 @@ returns c =
     let s = t .before .before .before .before in
     rw (toZ-ofZ (s .fits .t)) at
     (passed-wide (t .before .before .before .loop .inv) (t .before .before .loop-test .taken) (c .before .node .given .0 .0)
-    (sym (c .before .node .given .1) ∙ t .walk .ensures ∙ ap (walkedOf standard _) (t .before .curve-at .ensures)))
+    (sym (c .before .node .given .1) ∙ t .walk .ensures ∙ ap (walkedOf _ _) (t .before .curve-at .ensures)))
 
 -- what the walk of the curve at hand gave
 leaves-walked : (c : tie.After-known-told2 Inv-loop μ-loop) →
     let l = c .before .before .before .before .before .before in
-    Leaves (c .before .n .given .0 .0) ≡ walkedOf standard (stored w64 (l .before .args .t)) (curveAt (l .before .args .ns .now) (l .loop .at))
+    let a = l .before .args in
+    Leaves (c .before .n .given .0 .0) ≡ walkedOf (lists (a .pieces .m)) (stored w64 (a .t)) (curveAt (a .ns .now) (l .loop .at))
 leaves-walked c =
     let t = c .before .before .before in
-    sym (c .before .n .given .1) ∙ t .walk .ensures ∙ ap (walkedOf standard _) (t .before .curve-at .ensures)
+    sym (c .before .n .given .1) ∙ t .walk .ensures ∙ ap (walkedOf _ _) (t .before .curve-at .ensures)
 
 add-leaves : tie.Need-add-leaves Inv-loop μ-loop
 add-leaves c =
@@ -60,7 +61,7 @@ add-leaves c =
     omega (
       arith,
       passed-few (l .loop .inv) (c .before .before .before .before .before .loop-test .taken) (c .before .n .given .0 .0) (leaves-walked c),
-      l .before .pre .few,
+      l .before .pre .1 .few,
     )
 
 next-at-requires : tie.Need-next-at-requires Inv-loop μ-loop
@@ -70,7 +71,7 @@ next-at-requires c κs =
     (rest-next (l .loop .inv .rest) (l .loop .inv .ahead) (c .before .before .before .before .before .loop-test .taken) .no-fault) .degree
 
 add-k : tie.Need-add-k Inv-loop μ-loop
-add-k c = omega (arith, c .before .before .before .before .before .before .before .before .pre .few)
+add-k c = omega (arith, c .before .before .before .before .before .before .before .before .pre .1 .few)
 
 loop-again : tie.Need-loop-again Inv-loop μ-loop
 loop-again c =
@@ -85,5 +86,5 @@ returns-2 c = rw (toZ-ofZ (c .before .before .fits .t)) at (passed-done (c .befo
 pub count-spec : {M : Type 1} → statement M
 count-spec =
     tie.close
-    (tie.spec Inv-loop μ-loop loop-holds curve-at-requires walk-requires (λ c. search needs) cast-t12 returns
+    (tie.spec Inv-loop μ-loop loop-holds curve-at-requires walk-requires (λ c. search needs) cast-t14 returns
     (λ c. search needs) add-leaves next-at-requires add-k (λ c. omega arith) loop-again returns-2)

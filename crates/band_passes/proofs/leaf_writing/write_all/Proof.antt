@@ -5,7 +5,7 @@ use native.Mathlib.Omega.{arith}
 use mir.Syntax.{w64}
 use mir.Val.{toZ}
 use mir.Facts.{toZ-ofZ}
-use Rattle.setting.specs.Setting.{standard}
+use Rattle.setting.specs.Setting.{lists}
 use Rattle.outline.proofs.Faultless.{faultless}
 use Rattle.band_passes.proofs.Outlines.{rest-next}
 use Rattle.band_passes.proofs.Filling.{Filled, filled-start, filled-length, filled-ready, filled-room, filled-on, filled-done}
@@ -13,16 +13,17 @@ use Rattle.band_passes.proofs.leaf_writing.write_all.Statement.{stateme
 use Rattle.band_passes.proofs.leaf_writing.write_all.Tie as tie
 
 abbrev Inv-loop : tie.InvT-loop
-Inv-loop records₀ ns t curves at₀ place₀ k₀ records at place k = Filled standard (toZ w64 t) ns curves records₀ k at place records
+Inv-loop records₀ rows pieces ns t curves at₀ place₀ k₀ records at place k =
+    Filled (lists (pieces .m)) (toZ w64 t) ns curves records₀ k at place records
 
 abbrev μ-loop : tie.MeasureT-loop
-μ-loop records₀ ns t curves at₀ place₀ k₀ records at place k = curves - k
+μ-loop records₀ rows pieces ns t curves at₀ place₀ k₀ records at place k = curves - k
 
 loop-holds : tie.Need-loop-holds Inv-loop μ-loop
-loop-holds c = rw (toZ-ofZ (c .fits .t)) (filled-start (c .pre))
+loop-holds c = rw (toZ-ofZ (c .fits .t)) (filled-start (c .pre .1))
 
 cast-write-curve : tie.Need-cast-write-curve Inv-loop μ-loop
-cast-write-curve c = omega (arith, c .before .before .before .pre .readable .few)
+cast-write-curve c = omega (arith, c .before .before .before .pre .1 .readable .few)
 
 curve-at-requires : tie.Need-curve-at-requires Inv-loop μ-loop
 curve-at-requires c κs = let f = c .before .before .loop .inv in rest-next (f .rest) (f .ahead) (c .before .loop-test .taken) .no-fault
@@ -32,7 +33,7 @@ write-curve-requires c κs =
     let f = c .before .before .before .loop .inv in
     let h = c .before .before .loop-test .taken in
     let s = c .before .before .before .before in
-    rw (c .curve-at .ensures) (filled-ready f h, omega (arith, s .pre .readable .few), filled-room f h)
+    rw (c .curve-at .ensures) (s .pre .0, filled-ready f h, omega (arith, s .pre .1 .readable .few), filled-room f h)
 
 next-at-requires : tie.Need-next-at-requires Inv-loop μ-loop
 next-at-requires c κs =
@@ -42,7 +43,7 @@ next-at-requires c κs =
     (rest-next (f .rest) (f .ahead) (c .before .before .before .before .loop-test .taken) .no-fault) .degree
 
 add-k : tie.Need-add-k Inv-loop μ-loop
-add-k c = omega (arith, c .before .before .before .before .before .before .before .pre .readable .few)
+add-k c = omega (arith, c .before .before .before .before .before .before .before .pre .1 .readable .few)
 
 loop-again : tie.Need-loop-again Inv-loop μ-loop
 loop-again c =

@@ -10,8 +10,9 @@ use mir.Facts.{toZ-ofZ}
 use lib.ListN.{length}
 use lib.Seq.{sets, length-sets}
 use Rattle.integers.proofs.Ranges.{stored}
-use Rattle.setting.specs.Setting.{standard, recordLength, deepest}
-use Rattle.band_passes.specs.Inside.{Ready}
+use Rattle.setting.specs.Setting.{lists, recordLength, deepest}
+use Rattle.setting.proofs.Pieces.{record-length-is}
+use Rattle.band_passes.specs.Inside.{EndsMeet}
 use Rattle.walk_curve.specs.Inside.{PartOf}
 use Rattle.walk_curve.specs.Walked.{nodeMeets}
 use Rattle.walk_curve.proofs.Parts.{part-whole, part-sized, part-shallow, part-meets, part-left}
@@ -20,47 +21,58 @@ use Rattle.walk_tree.proofs.Rank.{rank}
 use Rattle.walk_tree.proofs.Walking.{walking-halvable, half-falls, leaf-falls}
 use Rattle.walk_tree.proofs.Failing.{none-passing}
 use Rattle.band_passes.proofs.Recording.{Recorded, recorded-start, recorded-length, recorded-room, recorded-half}
-use Rattle.band_passes.proofs.Recording.{recorded-leaf, recorded-done, writable-node, put}
+use Rattle.band_passes.proofs.Recording.{recorded-leaf, recorded-done, put}
 use Rattle.band_passes.proofs.leaf_writing.write_curve.Statement.{statement}
 use Rattle.band_passes.proofs.leaf_writing.write_curve.Tie as tie
 
 abbrev Inv-loop : tie.InvT-loop
-Inv-loop records₀ at number t part₀ place₀ records part place =
-    Recorded standard (toZ w64 t) (part₀ .curve) number records₀ at (part .node) place records × PartOf (part₀ .curve) part
+Inv-loop records₀ at rows pieces number t m record-length part₀ place₀ records part place =
+    Recorded (lists (pieces .m)) (toZ w64 t) (part₀ .curve) number records₀ at (part .node) place records × PartOf (part₀ .curve) part
 
 abbrev μ-loop : tie.MeasureT-loop
-μ-loop records₀ at number t part₀ place₀ records part place = rank (deepest (part₀ .curve .degree)) (part .node)
+μ-loop records₀ at rows pieces number t m record-length part₀ place₀ records part place = rank (deepest (part₀ .curve .degree)) (part .node)
+
+mul-record-length : tie.Need-mul-record-length Inv-loop μ-loop
+mul-record-length c = omega (arith, c .pre .0 .has .most)
+
+add-record-length : tie.Need-add-record-length Inv-loop μ-loop
+add-record-length c = omega (arith, c .pre .0 .has .most)
 
 loop-holds : tie.Need-loop-holds Inv-loop μ-loop
-loop-holds c = (recorded-start, part-whole (c .pre .0 .sized))
+loop-holds c = (recorded-start, part-whole (c .pre .1 .sized))
 
 -- the contract's own, at the tolerance as it is stored
-ready : (c : tie.Start Inv-loop μ-loop) → Ready standard (stored w64 (c .args .t)) (c .args .curve)
-ready c = rw (toZ-ofZ (c .fits .t)) (c .pre .0)
+ready : (c : tie.Start Inv-loop μ-loop) → EndsMeet (lists (c .args .pieces .m)) (stored w64 (c .args .t)) (c .args .curve)
+ready c = rw (toZ-ofZ (c .fits .t)) (c .pre .1)
 
-room : (c : tie.At-loop Inv-loop μ-loop) → c .loop .place + recordLength standard ≤ length (c .loop .records)
-room c = recorded-room (c .loop .inv .0) (rw (toZ-ofZ (c .before .fits .t)) (c .before .pre .2))
+room : (c : tie.At-loop Inv-loop μ-loop) → c .loop .place + recordLength (lists (c .before .args .pieces .m)) ≤ length (c .loop .records)
+room c = recorded-room (c .loop .inv .0) (rw (toZ-ofZ (c .before .fits .t)) (c .before .pre .3))
 
 depth-requires : tie.Need-depth-requires Inv-loop μ-loop
 depth-requires c κs = c .before .loop .inv .1 .some
 
 meets-requires : tie.Need-meets-requires Inv-loop μ-loop
-meets-requires c κs = let p = c .before .before .loop .inv .1 in rw (c .depth .ensures) (part-sized p, part-shallow p)
+meets-requires c κs =
+    let p = c .before .before .loop .inv .1 in
+    rw (c .depth .ensures) (c .before .before .before .pre .0, part-sized p, part-shallow p)
 
 -- ---- a leaf
 passes : (c : tie.Then1 Inv-loop μ-loop)
-    → let l = c .before .before .before .before in nodeMeets standard (stored w64 (l .before .args .t)) (l .before .args .curve) (l .loop .part .node)
-    ≡ true
+    → let l = c .before .before .before .before in
+    let a = l .before .args in
+    nodeMeets (lists (a .pieces .m)) (stored w64 (a .t)) (a .curve) (l .loop .part .node) ≡ true
 passes c =
     let l = c .before .before .before .before in
-    part-meets (l .loop .inv .1) standard (stored w64 (l .before .args .t)) (c .before .before .depth .ensures) (c .before .meets .ensures)
+    let a = l .before .args in
+    part-meets (l .loop .inv .1) (lists (a .pieces .m)) (stored w64 (a .t)) (c .before .before .depth .ensures) (c .before .meets .ensures)
     (c .if1 .taken)
 
 put-record-requires : tie.Need-put-record-requires Inv-loop μ-loop
 put-record-requires c κs =
     let l = c .before .before .before .before .before in
     let p = l .loop .inv .1 in
-    (room l, l .before .pre .1, p .deep, p .some, rw (p .is) (writable-node (ready (l .before)) (l .loop .inv .0 .walking)))
+    let r = l .before .pre .0 in
+    (room l, l .before .pre .2, p .deep, p .some, r .has, r .copied, part-sized p)
 
 add-place : tie.Need-add-place Inv-loop μ-loop
 add-place c = let l = c .before .before .before .before .before .before .before in omega (arith, room l, recorded-length (l .loop .inv .0))
@@ -72,17 +84,20 @@ after-requires c κs = (_, c .before .before .before .before .before .before .be
 written : (c : tie.After-put-record Inv-loop μ-loop)
     → let l = c .before .before .before .before .before .before in
     let a = l .before .args in
-    c .put-record .last .0 ≡ sets (l .loop .records) (l .loop .place) (recordOf standard (a .number) (a .curve) (l .loop .part .node))
+    c .put-record .last .0
+    ≡ sets (l .loop .records) (l .loop .place) (recordOf (lists (a .pieces .m)) (a .number) (a .curve) (l .loop .part .node))
 written c =
     let l = c .before .before .before .before .before .before in
     let a = l .before .args in
-    put standard (l .loop .records) (l .loop .place) (a .number) (a .curve) (l .loop .part .node) (l .loop .inv .1 .is) (c .put-record .ensures)
+    put (lists (a .pieces .m)) (l .loop .records) (l .loop .place) (a .number) (a .curve) (l .loop .part .node) (l .loop .inv .1 .is)
+    (c .put-record .ensures)
 
 same-length : tie.Need-same-length Inv-loop μ-loop
 same-length c =
     let l = c .before .before .before .before .before .before .before .before .before .before in
+    let a = l .before .args in
     ap length (written (c .before .before .before .before))
-    ∙ length-sets (l .loop .records) (l .loop .place) (recordOf standard (l .before .args .number) (l .before .args .curve) (l .loop .part .node))
+    ∙ length-sets (l .loop .records) (l .loop .place) (recordOf (lists (a .pieces .m)) (a .number) (a .curve) (l .loop .part .node))
     ∙ recorded-length (l .loop .inv .0)
 
 returns : tie.Need-returns Inv-loop μ-loop
@@ -90,7 +105,8 @@ returns c =
     let r = c .before .before .before .before in
     let l = r .before .before .before .before .before .before in
     rw (toZ-ofZ (l .before .fits .t)) at
-    (recorded-done (l .loop .inv .0) (passes (r .before .before)) (sym (c .before .before .after .ensures .node) ∙ c .if2 .taken) (written r))
+    (recorded-done (l .loop .inv .0) (record-length-is (l .before .args .pieces .m)) (passes (r .before .before))
+    (sym (c .before .before .after .ensures .node) ∙ c .if2 .taken) (written r))
 
 loop-less : tie.Need-loop-less Inv-loop μ-loop
 loop-less c =
@@ -102,18 +118,22 @@ loop-again : tie.Need-loop-again Inv-loop μ-loop
 loop-again c =
     let e = c .before .before .after .ensures .node in
     let r = c .before .before .before .before in
-    let l = r .before .before .before .before .before .before .loop .inv in (
-      rw e (recorded-leaf (l .0) (passes (r .before .before)) (λ o. c .if2 .left (e ∙ o)) (written r)),
+    let s = r .before .before .before .before .before .before in
+    let l = s .loop .inv in (
+      rw e (recorded-leaf (l .0) (record-length-is (s .before .args .pieces .m)) (passes (r .before .before)) (λ o. c .if2 .left (e ∙ o))
+          (written r)),
       c .before .before .after .ensures .of (l .1) (c .if2 .left),
     )
 
 -- ---- a node that does not pass
 fails : (c : tie.Else1 Inv-loop μ-loop)
-    → let l = c .before .before .before .before in nodeMeets standard (stored w64 (l .before .args .t)) (l .before .args .curve) (l .loop .part .node)
-    ≡ false
+    → let l = c .before .before .before .before in
+    let a = l .before .args in
+    nodeMeets (lists (a .pieces .m)) (stored w64 (a .t)) (a .curve) (l .loop .part .node) ≡ false
 fails c =
     let l = c .before .before .before .before in
-    part-meets (l .loop .inv .1) standard (stored w64 (l .before .args .t)) (c .before .before .depth .ensures) (c .before .meets .ensures)
+    let a = l .before .args in
+    part-meets (l .loop .inv .1) (lists (a .pieces .m)) (stored w64 (a .t)) (c .before .before .depth .ensures) (c .before .meets .ensures)
     (c .if1 .left)
 
 -- it has halves
@@ -136,5 +156,5 @@ loop-again-2 c =
 pub write-curve-spec : {M : Type 1} → statement M
 write-curve-spec =
     tie.close
-    (tie.spec Inv-loop μ-loop loop-holds depth-requires meets-requires put-record-requires add-place after-requires
-    same-length returns loop-less loop-again left-requires loop-less-2 loop-again-2)
+    (tie.spec Inv-loop μ-loop mul-record-length add-record-length loop-holds depth-requires meets-requires put-record-requires
+    add-place after-requires same-length returns loop-less loop-again left-requires loop-less-2 loop-again-2)

@@ -7,7 +7,7 @@ use Rattle.integers.proofs.Ranges.{stored, lt-yes, lt-no}
 use Rattle.integers.proofs.Size.{abs-neg}
 use Rattle.integers.proofs.Machine.{fits!, unsigned!, unsigned-is!, flag! }
 use Rattle.bound_coordinate.proofs.Coordinates.{bounded}
-use Rattle.bound_node.proofs.Spreads.{same-size}
+use Rattle.bound_node.proofs.SpreadLaws.{same-size}
 use Rattle.bound_node.proofs.spread.size.Statement.{statement}
 use Rattle.bound_node.proofs.spread.size.Tie as tie
 

@@ -3,7 +3,7 @@ use Prim.Native.Nat.{_+_, _^_}
 use native.Mathlib.Nat.{div-le-self}
 use native.Mathlib.Omega.{arith}
 use borrow.Author.Needs.{needs}
-use Rattle.bound_node.proofs.Spreads.{raised-under, whole-computed}
+use Rattle.bound_node.proofs.SpreadLaws.{raised-under, whole-computed}
 use Rattle.bound_node.proofs.spread.whole.Statement.{statement}
 use Rattle.bound_node.proofs.spread.whole.Tie as tie
 

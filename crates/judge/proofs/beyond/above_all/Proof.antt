@@ -1,5 +1,5 @@
 -- `judge::beyond::above_all` meets its contract. The loop's invariant: the first i numbers pass.
-use Prim.Native.Nat.{_+_, _*_, _-_}
+use Prim.Native.Nat.{suc, _+_, _*_, _-_, _<_}
 use native.Mathlib.Omega.{arith}
 use borrow.Author.Needs.{needs}
 use lib.Signed.{leZ, ltZ}
@@ -9,20 +9,22 @@ use mir.Facts.{toZ-ofZ}
 use Rattle.integers.specs.Entry.{entry}
 use Rattle.integers.proofs.Ranges.{stored}
 use Rattle.integers.proofs.Between.{element-fits}
-use Rattle.setting.specs.Setting.{standard, breakPoints}
 use Rattle.judge.proofs.Passing.{Passing, pass-none, pass-done, turned, wide-fits, read-fails, read-passes}
 use Rattle.judge.proofs.beyond.above_all.Statement.{statement}
 use Rattle.judge.proofs.beyond.above_all.Tie as tie
 
 abbrev Inv-loop : tie.InvT-loop
-Inv-loop leaves at z i₀ i = Passing (λ a. ltZ a (toZ w64 z)) leaves at (breakPoints standard) i
+Inv-loop leaves m at z i₀ i = Passing (λ a. ltZ a (toZ w64 z)) leaves at (suc m) i
 
 abbrev μ-loop : tie.MeasureT-loop
-μ-loop leaves at z i₀ i = breakPoints standard - i
+μ-loop leaves m at z i₀ i = suc m - i
 
 fits : (c : tie.After-high Inv-loop μ-loop)
     → let l = c .before .before in SFits w32 (entry (l .before .args .leaves .now) (l .before .args .at + 4 * l .loop .i))
 fits c = let l = c .before .before in element-fits (l .before .args .leaves .now) (l .before .args .at + 4 * l .loop .i) (c .high .given)
+
+in-turn : (c : tie.In-loop Inv-loop μ-loop) → c .before .loop .i < suc (c .before .before .args .m)
+in-turn c = omega (arith, c .loop-test .taken)
 
 returns : tie.Need-returns Inv-loop μ-loop
 returns c =
@@ -31,7 +33,7 @@ returns c =
     let s = l .before in
     let z = stored w64 (s .args .z) in
     rw (toZ-ofZ (s .fits .z)) at
-    (read-fails (λ a. ltZ a z) (leZ z) (turned z) (s .args .leaves .now) (s .args .at) (l .loop .inv) (r .before .loop-test .taken) (fits r)
+    (read-fails (λ a. ltZ a z) (leZ z) (turned z) (s .args .leaves .now) (s .args .at) (l .loop .inv) (in-turn (r .before)) (fits r)
     (c .if1 .taken))
 
 loop-again : tie.Need-loop-again Inv-loop μ-loop
@@ -40,7 +42,7 @@ loop-again c =
     let l = r .before .before in
     let s = l .before in
     let z = stored w64 (s .args .z) in
-    read-passes (λ a. ltZ a z) (leZ z) (turned z) (s .args .leaves .now) (s .args .at) (l .loop .inv) (r .before .loop-test .taken) (fits r)
+    read-passes (λ a. ltZ a z) (leZ z) (turned z) (s .args .leaves .now) (s .args .at) (l .loop .inv) (in-turn (r .before)) (fits r)
     (c .if1 .left)
 
 returns-2 : tie.Need-returns-2 Inv-loop μ-loop
@@ -53,6 +55,6 @@ pub above-all-spec : {M : Type 1} → statement M
 above-all-spec =
     tie.close
     (tie.spec Inv-loop μ-loop
-    (λ c. let z = stored w64 (c .args .z) in pass-none (λ a. ltZ a z) (c .args .leaves .now) (c .args .at) (breakPoints standard))
+    (λ c. let z = stored w64 (c .args .z) in pass-none (λ a. ltZ a z) (c .args .leaves .now) (c .args .at) (suc (c .args .m)))
     (λ c. search needs) (λ c. search needs) (λ c. search needs) (λ c. search needs) (λ c. wide-fits (fits c)) returns (λ c. search needs)
     (λ c. omega arith) loop-again returns-2)

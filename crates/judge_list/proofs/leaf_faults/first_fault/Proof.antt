@@ -3,38 +3,44 @@ use Prim.Native.Nat.{_-_}
 use native.Mathlib.Omega.{arith}
 use borrow.Author.Needs.{needs}
 use lib.ListN.{length}
-use Rattle.setting.specs.Setting.{standard}
+use Rattle.setting.specs.Setting.{lists}
+use Rattle.judge_list.proofs.Pieces.{length-is}
 use Rattle.judge_list.proofs.Numbers.{ReadTo, read-none, Turn, turn-at, read-more, record-bad, read-all}
 use Rattle.judge_list.proofs.leaf_faults.first_fault.Statement.{statement}
 use Rattle.judge_list.proofs.leaf_faults.first_fault.Tie as tie
 
 abbrev Inv-loop : tie.InvT-loop
-Inv-loop leaves at₀ at = ReadTo standard leaves at
+Inv-loop leaves m record-length at₀ at = ReadTo (lists m) leaves at
 
 abbrev μ-loop : tie.MeasureT-loop
-μ-loop leaves at₀ at = length leaves - at
+μ-loop leaves m record-length at₀ at = length leaves - at
 
-turn : (c : tie.In-loop Inv-loop μ-loop) → Turn standard (c .before .before .args .leaves .now) (c .before .loop .at)
-turn c = turn-at standard (c .before .before .args .leaves .now) (c .before .loop .inv) (c .before .before .pre) (c .loop-test .taken)
+turn : (c : tie.In-loop Inv-loop μ-loop) → let s = c .before .before in Turn (lists (s .args .m)) (s .args .leaves .now) (c .before .loop .at)
+turn c = let s = c .before .before in turn-at (lists (s .args .m)) (s .args .leaves .now) (c .before .loop .inv) (s .pre .1) (c .loop-test .taken)
 
 returns : tie.Need-returns Inv-loop μ-loop
 returns c =
     let l = c .before .before .before in
+    let a = l .before .args in
     let e = c .before .record-fault .ensures in
-    rw e (record-bad standard (l .before .args .leaves .now) (l .loop .at) (turn (c .before .before)) (rw e at (c .if1 .taken)))
+    rw e (record-bad (lists (a .m)) (a .leaves .now) (l .loop .at) (turn (c .before .before)) (rw (e, length-is (a .m)) at (c .if1 .taken)))
 
 loop-again : tie.Need-loop-again Inv-loop μ-loop
 loop-again c =
     let l = c .before .before .before in
-    read-more standard (l .before .args .leaves .now) (l .loop .at) (turn (c .before .before))
-    (rw (c .before .record-fault .ensures) at (c .if1 .left))
+    let a = l .before .args in
+    let h = rw (c .before .record-fault .ensures, length-is (a .m)) at (c .if1 .left) in
+    rw (length-is (a .m)) (read-more (lists (a .m)) (a .leaves .now) (l .loop .at) (turn (c .before .before)) h)
 
 returns-2 : tie.Need-returns-2 Inv-loop μ-loop
-returns-2 c = read-all standard (c .before .before .args .leaves .now) (c .before .loop .at) (c .before .loop .inv) (c .loop-test .left)
+returns-2 c =
+    let a = c .before .before .args in
+    read-all (lists (a .m)) (a .leaves .now) (c .before .loop .at) (c .before .loop .inv) (c .loop-test .left)
 
 pub first-fault-spec : {M : Type 1} → statement M
 first-fault-spec =
     tie.close
-    (tie.spec Inv-loop μ-loop (λ c. read-none standard (c .args .leaves .now)) (λ c κs. turn c .more)
+    (tie.spec Inv-loop μ-loop (λ c. let h = c .pre .0 .most in search needs) (λ c. let h = c .pre .0 .most in search needs)
+    (λ c. read-none (lists (c .args .m)) (c .args .leaves .now)) (λ c κs. turn c .more)
     (λ c. let h = turn (c .before .before) .more in search needs) returns (λ c. let h = turn (c .before .before) .more in search needs)
     (λ c. omega arith) loop-again returns-2)

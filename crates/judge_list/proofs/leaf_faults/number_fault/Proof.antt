@@ -2,7 +2,7 @@
 use mathlib.Core.Path.{sym, _∙_}
 use borrow.Author.Needs.{needs}
 use lib.ListN.{length}
-use Rattle.setting.specs.Setting.{standard}
+use Rattle.setting.specs.Setting.{lists}
 use Rattle.judge_list.specs.Checks.{numberFault}
 use Rattle.judge_list.proofs.Numbers.{no-fault}
 use Rattle.judge_list.proofs.leaf_faults.number_fault.Statement.{statement}
@@ -13,8 +13,8 @@ list-fine-requires c κs = search needs
 
 returns : tie.Need-returns
 returns c =
-    let ns = c .before .before .args .leaves .now in
-    no-fault (length ns) (numberFault standard ns) (sym (c .before .list-fine .ensures) ∙ c .if1 .taken)
+    let a = c .before .before .args in
+    no-fault (length (a .leaves .now)) (numberFault (lists (a .m)) (a .leaves .now)) (sym (c .before .list-fine .ensures) ∙ c .if1 .taken)
 
 first-fault-requires : tie.Need-first-fault-requires
 first-fault-requires c κs = search needs

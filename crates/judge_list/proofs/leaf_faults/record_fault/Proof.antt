@@ -8,7 +8,7 @@ use borrow.Author.Needs.{needs}
 use lib.IntN.{pos}
 use Rattle.integers.specs.Entry.{entry}
 use Rattle.integers.proofs.Between.{element-fits, found-below, found-above, found-within}
-use Rattle.setting.specs.Setting.{standard, breakPoints, greatestNode}
+use Rattle.setting.specs.Setting.{lists, breakPoints, greatestNode}
 use Rattle.boxes.proofs.Faults.{place-most}
 use Rattle.judge_list.specs.Inside.{boxFineAt, fineAt}
 use Rattle.judge_list.proofs.Numbers.{curve-negative, curve-past, curve-fine, curve-bad, node-bad, boxes-next}
@@ -19,29 +19,29 @@ returns : tie.Need-returns
 returns c =
     let a = c .before .before .args in
     let ns = a .leaves .now in
-    curve-bad standard ns (a .at)
-    (rw add-zero (curve-negative (standard .most) (entry ns (a .at + 1)) (element-fits ns (a .at) (c .before .curve .given)) (c .if1 .taken)))
+    curve-bad (lists (a .m)) ns (a .at)
+    (rw add-zero (curve-negative (lists (a .m) .most) (entry ns (a .at + 1)) (element-fits ns (a .at) (c .before .curve .given)) (c .if1 .taken)))
 
 returns-2 : tie.Need-returns-2
 returns-2 c =
     let a = c .before .before .before .args in
     let ns = a .leaves .now in
-    curve-bad standard ns (a .at)
-    (rw add-zero (curve-past (standard .most) (entry ns (a .at + 1)) (element-fits ns (a .at) (c .before .before .curve .given)) (c .if2 .taken)))
+    curve-bad (lists (a .m)) ns (a .at)
+    (rw add-zero (curve-past (lists (a .m) .most) (entry ns (a .at + 1)) (element-fits ns (a .at) (c .before .before .curve .given)) (c .if2 .taken)))
 
-curve-passed : (c : tie.Else2) → fineAt (standard .most) (c .before .before .before .args .leaves .now) (c .before .before .before .args .at) 0 ≡ true
+curve-passed : (c : tie.Else2) → let a = c .before .before .before .args in fineAt (lists (a .m) .most) (a .leaves .now) (a .at) 0 ≡ true
 curve-passed c =
     let a = c .before .before .before .args in
     let ns = a .leaves .now in
-    rw add-zero (curve-fine (standard .most) (entry ns (a .at + 1)) (element-fits ns (a .at) (c .before .before .curve .given)) (c .before .if1 .left)
-    (c .if2 .left))
+    rw add-zero (curve-fine (lists (a .m) .most) (entry ns (a .at + 1)) (element-fits ns (a .at) (c .before .before .curve .given))
+    (c .before .if1 .left) (c .if2 .left))
 
 returns-3 : tie.Need-returns-3
 returns-3 c =
     let e = c .before .before in
     let a = e .before .before .before .args in
     let ns = a .leaves .now in
-    node-bad standard ns (a .at) (curve-passed e)
+    node-bad (lists (a .m)) ns (a .at) (curve-passed e)
     (found-below (element-fits ns (a .at + 1) (c .before .node .given)) (pos 1) (pos greatestNode) (c .if3 .taken))
 
 returns-4 : tie.Need-returns-4
@@ -49,13 +49,13 @@ returns-4 c =
     let e = c .before .before .before in
     let a = e .before .before .before .args in
     let ns = a .leaves .now in
-    node-bad standard ns (a .at) (curve-passed e)
+    node-bad (lists (a .m)) ns (a .at) (curve-passed e)
     (found-above (element-fits ns (a .at + 1) (c .before .before .node .given)) (pos 1) (pos greatestNode) (c .if4 .taken))
 
 add-result : tie.Need-add-result
 add-result c =
     let a = c .before .before .before .before .before .before .before .args in
-    let m = place-most (boxFineAt (a .leaves .now) (a .at + 2)) (4 * breakPoints standard) in
+    let m = place-most (boxFineAt (a .leaves .now) (a .at + 2)) (4 * breakPoints (lists (a .m))) in
     omega (arith, c .boxes-fault .ensures)
 
 returns-5 : tie.Need-returns-5
@@ -64,7 +64,7 @@ returns-5 c =
     let a = e .before .before .before .args in
     let ns = a .leaves .now in
     ap (λ n. 2 + n) (c .boxes-fault .ensures)
-    ∙ boxes-next standard ns (a .at) (curve-passed e)
+    ∙ boxes-next (lists (a .m)) ns (a .at) (curve-passed e)
     (found-within (element-fits ns (a .at + 1) (c .before .before .before .node .given)) (pos 1) (pos greatestNode) (c .before .before .if3 .left)
     (c .before .if4 .left))
 

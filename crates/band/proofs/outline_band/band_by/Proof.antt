@@ -1,0 +1,97 @@
+-- Checks 7 and 8 and the records, from the two passes.
+use mathlib.Core.Path.{_≡_, sym, _∙_}
+use Prim.Native.Nat.{_*_, _≤_}
+use native.Mathlib.Omega.{arith}
+use lib.ListN.{length}
+use borrow.Author.Needs.{needs}
+use mir.Facts.{toZ-ofZ}
+use Rattle.setting.specs.Setting.{lists, recordLength}
+use Rattle.setting.proofs.Pieces.{record-length-is}
+use Rattle.band_passes.specs.declared.passes.Counted.the-variants.{Total}
+use Rattle.band_passes.specs.Leaves.{curvesOf}
+use Rattle.band_passes.specs.Inside.{countedOf}
+use Rattle.outline.specs.Checks.{outlineFrom}
+use Rattle.band.proofs.Answers.{answer-too-wide, answer-few, answer-nodes, answer-too-few, answer-list, numbers-few}
+use Rattle.band.proofs.Answers.{read-count, fillable, report-done}
+use Rattle.band.proofs.outline_band.band_by.Statement.{statement}
+use Rattle.band.proofs.outline_band.band_by.Tie as tie
+
+-- what the first pass counted
+counted : (c : tie.After-known-told2) →
+    let s = c .before .before .before .before in
+    Total (c .before .leaves .given .0 .0)
+    ≡ countedOf (lists (s .args .pieces .m)) (s .args .t) (curvesOf (outlineFrom (s .args .curves) (s .args .ns .now) 0))
+counted c =
+    let s = c .before .before .before .before in
+    rw (toZ-ofZ (s .fits .t)) at (sym (c .before .leaves .given .1) ∙ c .before .before .before .count .ensures)
+
+mul-record-length : tie.Need-mul-record-length
+mul-record-length c = omega (arith, c .before .before .before .before .pre .0 .has .most)
+
+add-record-length : tie.Need-add-record-length
+add-record-length c = omega (arith, c .before .before .before .before .pre .0 .has .most)
+
+mul-if1 : tie.Need-mul-if1
+mul-if1 c =
+    let s = c .before .before .before .before in
+    let r = s .pre .1 in
+    let few = answer-few (lists (s .args .pieces .m)) (s .args .t) (curvesOf (outlineFrom (s .args .curves) (s .args .ns .now) 0)) (counted c)
+    (omega (arith, read-count r, r .few)) in
+    omega (arith, numbers-few (s .pre .0 .has .most) few)
+
+-- the test of the room, in the numbers of a record
+returns : tie.Need-returns
+returns c =
+    let k = c .before in
+    let s = k .before .before .before .before in
+    let m = s .args .pieces .m in (
+      answer-too-few (lists m) (s .args .t) (curvesOf (outlineFrom (s .args .curves) (s .args .ns .now) 0)) (counted k)
+          (rw (record-length-is m) at (c .if1 .taken)),
+      search needs,
+    )
+
+enough : (c : tie.Else1) → let k = c .before in
+    recordLength (lists (k .before .before .before .before .args .pieces .m)) * k .before .leaves .given .0 .0
+    ≤ length (k .before .before .before .before .args .records .now)
+enough c = rw (record-length-is (c .before .before .before .before .before .args .pieces .m)) at (c .if1 .left)
+
+write-all-requires : tie.Need-write-all-requires
+write-all-requires c κs =
+    let k = c .before .before in
+    let s = k .before .before .before .before in (
+      s .pre .0,
+      rw (toZ-ofZ (s .fits .t)) (fillable (s .pre .1) (lists (s .args .pieces .m)) (s .args .t) (counted k) (enough (c .before))),
+    )
+
+sub-nodes : tie.Need-sub-nodes
+sub-nodes c =
+    let k = c .before .before .before .before in
+    let s = k .before .before .before .before in
+    let cs = curvesOf (outlineFrom (s .args .curves) (s .args .ns .now) 0) in
+    omega (arith, answer-nodes (lists (s .args .pieces .m)) (s .args .t) cs (counted k), read-count (s .pre .1))
+
+returns-2 : tie.Need-returns-2
+returns-2 c =
+    let s = c .before .before .before .before in (
+      answer-too-wide (lists (s .args .pieces .m)) (s .args .t) (curvesOf (outlineFrom (s .args .curves) (s .args .ns .now) 0)) _
+          (rw (toZ-ofZ (s .fits .t)) at (sym (c .before .refusal .given .1) ∙ c .before .before .before .count .ensures)),
+      search needs,
+    )
+
+returns-3 : tie.Need-returns-3
+returns-3 c =
+    let k = c .before .before .before .before in
+    let s = k .before .before .before .before in
+    let m = s .args .pieces .m in
+    let e = counted k in
+    let h = enough (c .before .before .before) in (
+      report-done (s .pre .1) (lists m) (s .args .t) e h,
+      (rw (toZ-ofZ (s .fits .t)) at (c .before .write-all .ensures))
+          ∙ answer-list (lists m) (s .args .t) (curvesOf (outlineFrom (s .args .curves) (s .args .ns .now) 0)) e (s .args .records .now) h,
+    )
+
+pub band-by-spec : {M : Type 1} → statement M
+band-by-spec =
+    tie.close
+    (tie.spec (λ c κs. search needs) (λ c. search needs) (λ c. search needs) mul-record-length add-record-length mul-if1 returns
+    write-all-requires (λ c. search needs) sub-nodes returns-2 (λ c. search needs) returns-3)

@@ -1,0 +1,111 @@
+-- The terms of a coordinate: what the code puts together is the definition's, how large it is, and that bounds can be computed from it.
+use mathlib.Core.Path.{_≡_, refl, sym, _∙_, ap, ap₂, subst}
+use mathlib.Core.Bool.{Bool, true, false, cond}
+use mathlib.Core.List.{List, [], _∷_}
+use Prim.Native.Nat.{ℕ, _+_, _*_, _-_, _^_, _≤_}
+use native.Mathlib.Nat.{le-trans, le-refl, le-of-eq, add-mul}
+use native.Mathlib.Omega.{arith}
+use lib.Dec.{ltb}
+use lib.IntN.{ℤ, pos, natAbs, _+ℤ_, _-ℤ_, _*ℤ_}
+use lib.Signed.{ltZ}
+use Rattle.setting.specs.Setting.{HasRows}
+use Rattle.integers.specs.Entry.{entry}
+use Rattle.integers.proofs.Ring.{ring, sides}
+use Rattle.integers.proofs.Size.{Size, size-add, size-mul, size-neg}
+use Rattle.curve_halves.specs.Sizes.{Each}
+use Rattle.curve_nodes.specs.Differences.{difference}
+use Rattle.curve_nodes.proofs.Sizes.{difference-under}
+use Rattle.bound_rows.specs.Inside.{placeOf, Copied}
+use Rattle.bound_coordinate.specs.Inside.{Computed}
+use Rattle.bound_coordinate.specs.declared.terms.Terms.{Terms}
+use Rattle.bound_coordinate.specs.Terms.{chosen, termsOf, Within, Computable}
+use Rattle.bound_coordinate.proofs.Coordinates.{shift-small}
+
+-- ---- put together
+pub last-computed : {B : ℕ} {cs : List ℤ} {r : ℤ} (d : ℕ) → Each B cs → r ≡ entry cs d → Computed B (entry cs d) r
+last-computed {B} d h e = record { is = e; size = subst (λ z. natAbs z ≤ B) (sym e) (h .under d) }
+
+-- δ and ε are the second differences, p and q where their rows begin
+module _ (m d : ℕ) (cs : List ℤ) {start step δ ε : ℤ} {p q : ℕ}
+    (es : start ≡ pos 10000 *ℤ (pos m *ℤ entry cs 0)) (et : step ≡ pos 10000 *ℤ (entry cs d -ℤ entry cs 0))
+    (eδ : δ ≡ difference cs 0) (eε : ε ≡ difference cs 1) (ep : p ≡ placeOf d 0) (eq : q ≡ placeOf d 1) where
+  pub terms-are : {r s : ℕ} → r ≡ chosen δ p → s ≡ chosen ε q
+      → _≡_ {A = Terms} (record { start = start; step = step; difference0 = δ; difference1 = ε; row0 = r; row1 = s }) (termsOf m d cs)
+  unfolding termsOf
+  terms-are e f = λ j. record {
+    start = es j;
+    step = et j;
+    difference0 = eδ j;
+    difference1 = eε j;
+    row0 = (e ∙ ap₂ (λ x y. chosen x y) eδ ep) j;
+    row1 = (f ∙ ap₂ (λ x y. chosen x y) eε eq) j;
+  }
+
+-- ---- sizes
+pub place-under : (d k : ℕ) → k ≤ 1 → placeOf d k ≤ 81
+place-under d k l = cases (ltb (k + 1) d) (ltb d 3)
+  where
+    cases : (a b : Bool) → cond a (cond b 54 (27 * k)) 81 ≤ 81
+    cases true true = omega arith
+    cases true false = omega arith
+    cases false b = omega arith
+
+chosen-under : (δ : ℤ) {p : ℕ} → p ≤ 81 → chosen δ p ≤ 82
+chosen-under δ {p} h = cases (ltZ δ (pos 0))
+  where
+    cases : (t : Bool) → cond t (p + 1) p ≤ 82
+    cases true = omega arith
+    cases false = omega arith
+
+-- a coordinate's ends f and l are at most B in size
+module _ {B : ℕ} (f l : ℤ) (hf : natAbs f ≤ B) (hl : natAbs l ≤ B) where
+  abbrev first : Size f
+  first = record { bound = B; under = hf }
+
+  abbrev last : Size l
+  last = record { bound = B; under = hl }
+
+  abbrev count : (n : ℕ) → Size (pos n)
+  count n = record { bound = n; under = le-refl n }
+
+  start-size : (m : ℕ) → natAbs (pos 10000 *ℤ (pos m *ℤ f)) ≤ 10000 * (m * B)
+  start-size m = size-mul (count 10000) (size-mul (count m) first) .under
+
+  step-size : natAbs (pos 10000 *ℤ (l -ℤ f)) ≤ 20000 * B
+  step-size = le-trans (size-mul (count 10000) (size-add last (size-neg first)) .under) (omega arith)
+
+  -- the chord's value is between its ends
+  mixed-size : (n i : ℕ) → natAbs (pos 10000 *ℤ (pos (n + i) *ℤ f) +ℤ pos i *ℤ (pos 10000 *ℤ (l -ℤ f))) ≤ 10000 * ((n + i) * B)
+  mixed-size n i =
+      let e : pos 10000 *ℤ (pos (n + i) *ℤ f) +ℤ pos i *ℤ (pos 10000 *ℤ (l -ℤ f)) ≡ pos 10000 *ℤ (pos n *ℤ f +ℤ pos i *ℤ l)
+      = ring (pos n ∷ pos i ∷ f ∷ l ∷ []) (search sides depth 20) refl in
+      le-trans (le-of-eq (ap natAbs e)) (le-trans (size-mul (count 10000) (size-add (size-mul (count n) first) (size-mul (count i) last)) .under)
+      (le-of-eq (ap (λ k. 10000 * k) (sym (add-mul n i B)))))
+
+  chord-size : {m i : ℕ} → i ≤ m → natAbs (pos 10000 *ℤ (pos m *ℤ f) +ℤ pos i *ℤ (pos 10000 *ℤ (l -ℤ f))) ≤ 10000 * (m * B)
+  chord-size {m} {i} h = let e : m - i + i ≡ m = omega arith in
+      subst (λ (k : ℕ). natAbs (pos 10000 *ℤ (pos k *ℤ f) +ℤ pos i *ℤ (pos 10000 *ℤ (l -ℤ f))) ≤ 10000 * (k * B)) e (mixed-size (m - i) i)
+
+pub terms-within : (m d s : ℕ) {cs : List ℤ} → Each (2 ^ 20 * 2 ^ s) cs → Within m s (termsOf m d cs)
+unfolding termsOf
+terms-within m d s {cs} h = record {
+  start = start-size (entry cs 0) (entry cs d) (h .under 0) (h .under d) m;
+  step = step-size (entry cs 0) (entry cs d) (h .under 0) (h .under d);
+  chord = λ i hi. chord-size (entry cs 0) (entry cs d) (h .under 0) (h .under d) hi;
+  difference0 = difference-under h 0;
+  difference1 = difference-under h 1;
+  row0 = chosen-under (difference cs 0) (place-under d 0 (omega arith));
+  row1 = chosen-under (difference cs 1) (place-under d 1 (omega arith));
+}
+
+-- bounds can be computed: of degree d at depth k
+pub computable : {m d k c : ℕ} {rows cs : List ℤ} → HasRows m → Copied m rows → d ≤ 3 → k ≤ 8 → Each (2 ^ 20 * 2 ^ (d * k)) cs → c * m ≡ 840
+    → Computable m (d * k) c rows (termsOf m d cs)
+computable {m} {d} {k} h rows most shallow each scaled = record {
+  small = rows .small;
+  whole = rows .whole;
+  within = terms-within m d (d * k) each;
+  shallow = shift-small most shallow;
+  scaled = scaled;
+  most = h .most;
+}

@@ -1,0 +1,146 @@
+-- The bounds as the code computes them, from rows that were copied out of the table, are the low and the high of the definitions.
+use mathlib.Core.Path.{_≡_, refl, sym, _∙_, ap, ap₂}
+use mathlib.Core.Bool.{Bool, true, false, cond}
+use mathlib.Core.List.{List, [], _∷_}
+use mathlib.Core.Logic.{⊎-elim}
+use Prim.Native.Nat.{ℕ, zero, suc, _+_, _*_, _≤_, _<_}
+use native.Mathlib.Omega.{arith}
+use lib.Dec.{ltb, eqb}
+use lib.ListN.{length}
+use lib.IntN.{ℤ, pos, _+ℤ_, _*ℤ_, *ℤ-zero, zero-*ℤ}
+use lib.Signed.{ltZ}
+use borrow.Author.Tests.{le-ltb}
+use Rattle.setting.specs.Setting.{Setting, HasRows}
+use Rattle.integers.specs.Entry.{entry}
+use Rattle.integers.specs.Rounding.{floor, ceiling}
+use Rattle.integers.proofs.Ring.{ring, sides}
+use Rattle.integers.proofs.Order.{lt-or-ge}
+use Rattle.curve_nodes.specs.Differences.{difference}
+use Rattle.bound_rows.specs.Rows.{Row, rowAt}
+use Rattle.bound_rows.specs.Table.{rowsOf}
+use Rattle.bound_rows.specs.Inside.{placeOf, tripleAt, Copied}
+use Rattle.bound_rows.proofs.Rule.{rows-count}
+use Rattle.bound_enclosure.specs.Bounds.{exchanged, chord, rowSum}
+use Rattle.bound_enclosure.specs.AtDepth.{lowOf, highOf}
+use Rattle.bound_enclosure.proofs.Reduced.{low-reduced, high-reduced}
+use Rattle.bound_coordinate.specs.Terms.{chosen, termsOf, chordAt, denominatorOf, lowBy, highBy}
+use Rattle.bound_coordinate.proofs.Coordinates.{over-positive}
+
+-- ---- the sum of row × difference, for at most two differences
+-- the entry by which a difference is multiplied: it chooses its row by its own sign
+abbrev factor : List Row → ℕ → ℕ → ℤ → ℤ
+factor ρs i k δ = cond (ltZ δ (pos 0)) (entry (rowAt ρs k .low) i) (entry (rowAt ρs k .high) i)
+
+-- a row that the degree does not have is empty
+no-row : (ρs : List Row) (k : ℕ) → length ρs ≤ k → rowAt ρs k ≡ record { high = []; low = [] }
+no-row [] k l = refl
+no-row (ρ ∷ ρs) zero l = absurd (omega arith)
+no-row (ρ ∷ ρs) (suc k) l = no-row ρs k (omega arith)
+
+either : {x : ℤ} (b : Bool) → cond b x x ≡ x
+either true = refl
+either false = refl
+
+module _ (cs : List ℤ) (i : ℕ) where
+  abbrev term : List Row → ℕ → ℤ
+  term ρs k = factor ρs i k (difference cs k) *ℤ difference cs k
+
+  no-term : (k : ℕ) → term [] k ≡ pos 0
+  no-term k = ap (λ z. z *ℤ difference cs k) (either (ltZ (difference cs k) (pos 0))) ∙ zero-*ℤ (difference cs k)
+
+  sum-two : (ρs : List Row) → length ρs ≤ 2 → rowSum ρs i 0 cs ≡ term ρs 0 +ℤ term ρs 1
+  unfolding rowSum
+  sum-two [] l = sym (ap₂ _+ℤ_ (no-term 0) (no-term 1))
+  sum-two (ρ ∷ []) l = ap (λ z. term (ρ ∷ []) 0 +ℤ z) (sym (no-term 1))
+  sum-two (ρ ∷ σ ∷ []) l = let ρs : List Row = ρ ∷ σ ∷ [] in ring (term ρs 0 ∷ term ρs 1 ∷ []) (search sides depth 20) refl
+  sum-two (ρ ∷ σ ∷ τ ∷ ρs) l = absurd (omega arith)
+
+-- rows exchanged
+exchanged-length : (ρs : List Row) → length (exchanged ρs) ≡ length ρs
+exchanged-length [] = refl
+exchanged-length (ρ ∷ ρs) = ap suc (exchanged-length ρs)
+
+exchanged-at : (ρs : List Row) (k : ℕ) → rowAt (exchanged ρs) k ≡ record { high = rowAt ρs k .low; low = rowAt ρs k .high }
+exchanged-at [] k = refl
+exchanged-at (ρ ∷ ρs) zero = refl
+exchanged-at (ρ ∷ ρs) (suc k) = exchanged-at ρs k
+
+module _ (σ : Setting) (has : HasRows (σ .pieces)) {d : ℕ} (least : 1 ≤ d) (most : d ≤ 3) (cs : List ℤ) {i : ℕ} (hi : i ≤ σ .pieces) where
+  abbrev m : ℕ
+  m = σ .pieces
+
+  abbrev ρs : List Row
+  ρs = rowsOf m d
+
+  abbrev δ : ℕ → ℤ
+  δ = difference cs
+
+  -- ---- the number that is divided, from the factors of the two differences
+  abbrev dividend : (a b : ℤ) → ℤ
+  dividend a b = chordAt (termsOf m d cs) i +ℤ (a *ℤ δ 0 +ℤ b *ℤ δ 1)
+
+  dividend-is : (a b sum : ℤ) → sum ≡ a *ℤ δ 0 +ℤ b *ℤ δ 1 → chord m d i cs +ℤ pos m *ℤ sum ≡ dividend (pos m *ℤ a) (pos m *ℤ b)
+  unfolding termsOf
+  dividend-is a b sum e =
+      ap (λ z. chord m d i cs +ℤ pos m *ℤ z) e
+      ∙ ring (pos m ∷ pos i ∷ entry cs 0 ∷ entry cs d ∷ a ∷ b ∷ δ 0 ∷ δ 1 ∷ []) (search sides depth 20) refl
+
+  module _ (k : ℕ) where
+    abbrev lowFactor : ℕ → ℤ
+    lowFactor j = factor (exchanged ρs) i j (δ j)
+
+    abbrev highFactor : ℕ → ℤ
+    highFactor j = factor ρs i j (δ j)
+
+    low-divided : lowOf σ d k cs i ≡ floor (dividend (pos m *ℤ lowFactor 0) (pos m *ℤ lowFactor 1)) (denominatorOf m (d * k))
+    low-divided =
+        low-reduced (has .least) (over-positive d k) ρs d cs i
+        ∙ ap (λ n. floor n (denominatorOf m (d * k))) (dividend-is (lowFactor 0) (lowFactor 1) (rowSum (exchanged ρs) i 0 cs)
+        (sum-two cs i (exchanged ρs) (omega (arith, exchanged-length ρs, rows-count m d))))
+
+    high-divided : highOf σ d k cs i ≡ ceiling (dividend (pos m *ℤ highFactor 0) (pos m *ℤ highFactor 1)) (denominatorOf m (d * k))
+    high-divided =
+        high-reduced (has .least) (over-positive d k) ρs d cs i
+        ∙ ap (λ n. ceiling n (denominatorOf m (d * k))) (dividend-is (highFactor 0) (highFactor 1) (rowSum ρs i 0 cs)
+        (sum-two cs i ρs (omega (arith, rows-count m d))))
+
+    -- ---- the rows that the terms choose
+    module _ {rows : List ℤ} (h : Copied m rows) where
+      abbrev Read : (p j t : ℕ) → Type 0
+      Read p j t = entry rows (p + (3 * i + t)) ≡ pos m *ℤ tripleAt (rowAt ρs j) i t
+
+      -- the numbers of a difference that the degree does not have are zeros
+      row-read : (j t : ℕ) → t < 3 → Read (placeOf d j) j t
+      row-read j t ht = ⊎-elim (λ l. h .row d j i t most (omega arith) hi ht) none (lt-or-ge (j + 1) d)
+        where
+          none : d ≤ j + 1 → Read (placeOf d j) j t
+          none l =
+              ap (λ (b : Bool). entry rows (cond b (cond (ltb d 3) 54 (27 * j)) 81 + (3 * i + t))) (le-ltb (j + 1) d l)
+              ∙ h .none (3 * i + t) (omega (arith, has .most))
+              ∙ sym (ap (λ (ρ : Row). pos m *ℤ tripleAt ρ i t) (no-row ρs j (omega (arith, rows-count m d)))
+              ∙ ap (λ z. pos m *ℤ z) (either (eqb t 1)) ∙ *ℤ-zero (pos m))
+
+      high-read : (j : ℕ) → entry rows (chosen (δ j) (placeOf d j) + 3 * i) ≡ pos m *ℤ highFactor j
+      high-read j = cases (ltZ (δ j) (pos 0))
+        where
+          cases : (b : Bool) → entry rows (cond b (placeOf d j + 1) (placeOf d j) + 3 * i)
+              ≡ pos m *ℤ cond b (entry (rowAt ρs j .low) i) (entry (rowAt ρs j .high) i)
+          cases true = ap (entry rows) {y = placeOf d j + (3 * i + 1)} (omega arith) ∙ row-read j 1 (omega arith)
+          cases false = ap (entry rows) {y = placeOf d j + (3 * i + 0)} (omega arith) ∙ row-read j 0 (omega arith)
+
+      low-read : (j : ℕ) → entry rows (chosen (δ j) (placeOf d j) + (3 * i + 1)) ≡ pos m *ℤ lowFactor j
+      low-read j = cases (ltZ (δ j) (pos 0))
+          ∙ ap (λ (ρ : Row). pos m *ℤ cond (ltZ (δ j) (pos 0)) (entry (ρ .low) i) (entry (ρ .high) i)) (sym (exchanged-at ρs j))
+        where
+          cases : (b : Bool) → entry rows (cond b (placeOf d j + 1) (placeOf d j) + (3 * i + 1))
+              ≡ pos m *ℤ cond b (entry (rowAt ρs j .high) i) (entry (rowAt ρs j .low) i)
+          cases true = ap (entry rows) {y = placeOf d j + (3 * i + 2)} (omega arith) ∙ row-read j 2 (omega arith)
+          cases false = row-read j 1 (omega arith)
+
+      pub low-is : lowBy m (d * k) rows (termsOf m d cs) i ≡ lowOf σ d k cs i
+      unfolding lowBy termsOf
+      low-is = ap (λ n. floor n (denominatorOf m (d * k))) (ap₂ dividend (low-read 0) (low-read 1)) ∙ sym low-divided
+
+      pub high-is : highBy m (d * k) rows (termsOf m d cs) i ≡ highOf σ d k cs i
+      unfolding highBy termsOf
+      high-is = ap (λ n. ceiling n (denominatorOf m (d * k))) (ap₂ dividend (high-read 0) (high-read 1)) ∙ sym high-divided

@@ -1,0 +1,54 @@
+-- The high at a break point: the number that is divided, raised by one less than the divisor, rounded down.
+use Prim.Native.Nat.{_+_, _*_}
+use native.Mathlib.Omega.{arith}
+use borrow.Author.Needs.{needs}
+use Rattle.integers.proofs.Machine.{fits! }
+use Rattle.bound_coordinate.specs.Terms.{highBy}
+use Rattle.bound_coordinate.proofs.Coordinates.{bounded, pieces}
+use Rattle.bound_coordinate.proofs.Numerators.{less-fits, raised-fits, high-size, high-computed}
+use Rattle.bound_coordinate.proofs.break_points.high_at.Statement.{statement}
+use Rattle.bound_coordinate.proofs.break_points.high_at.Tie as tie
+
+numerator-requires : tie.Need-numerator-requires
+numerator-requires c κs =
+    let s = c .before .before in
+    let h = s .pre .0 in
+    (record { m = s .args .m; s = s .args .shift; c = s .args .scale; computable = h; point = s .pre .1 }, omega arith, omega arith)
+
+sub-more : tie.Need-sub-more
+sub-more c =
+    let s = c .before .before .before in
+    let a = s .args in
+    let t = a .t in
+    less-fits (a .rows .now) (t .row0 + 3 * a .i) (t .row1 + 3 * a .i) (s .pre .0) (s .pre .1) (c .numerator .ensures)
+
+add-rounded-down : tie.Need-add-rounded-down
+add-rounded-down c =
+    let s = c .before .before .before in
+    let a = s .args in
+    let t = a .t in
+    raised-fits (a .rows .now) (t .row0 + 3 * a .i) (t .row1 + 3 * a .i) (s .pre .0) (s .pre .1) (c .numerator .ensures)
+
+rounded-down-requires : tie.Need-rounded-down-requires
+rounded-down-requires c κs =
+    let s = c .before .before .before in
+    let h = s .pre .0 in
+    let a = s .args in
+    let t = a .t in
+    (high-size (a .rows .now) (t .row0 + 3 * a .i) (t .row1 + 3 * a .i) h (s .pre .1) (c .numerator .ensures), h .shallow, h .scaled, h .most)
+
+returns : tie.Need-returns
+unfolding highBy
+returns c =
+    let s = c .before .before .before .before in
+    let a = s .args in
+    let t = a .t in
+    high-computed (a .rows .now) (t .row0 + 3 * a .i) (t .row1 + 3 * a .i) (s .pre .0) (s .pre .1)
+    (c .before .numerator .ensures) (c .rounded-down .ensures)
+
+pub high-at-spec : {M : Type 1} → statement M
+high-at-spec =
+    tie.close
+    (tie.spec (λ c. search needs) (λ c. search needs) (λ c. search needs) (λ c. search needs) numerator-requires
+    (λ c. search needs) (λ c. fits! (search (pieces (c .before .before .before .pre .0 .most), bounded) depth 40) tt)
+    (λ c. search needs) (λ c. search needs) sub-more add-rounded-down rounded-down-requires returns)

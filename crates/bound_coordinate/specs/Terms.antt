@@ -1,0 +1,77 @@
+-- The low and the high of a coordinate at a break point as the code computes them, from copied rows. Only the contracts
+-- of functions inside cite what stands here; nothing of it is part of a public promise.
+use mathlib.Core.Path.{_≡_}
+use mathlib.Core.Bool.{cond}
+use mathlib.Core.List.{List}
+use Prim.Native.Nat.{ℕ, _+_, _*_, _^_, _≤_}
+use lib.ListN.{length}
+use lib.IntN.{ℤ, pos, natAbs, _+ℤ_, _-ℤ_, _*ℤ_}
+use lib.Signed.{ltZ}
+use Rattle.integers.specs.Entry.{entry}
+use Rattle.integers.specs.Rounding.{floor, ceiling}
+use Rattle.curve_halves.specs.Sizes.{Each}
+use Rattle.curve_nodes.specs.Differences.{difference}
+use Rattle.bound_rows.specs.Inside.{placeOf}
+use Rattle.bound_coordinate.specs.declared.terms.Terms.{Terms}
+
+-- where a difference begins to read the rows at p: a negative one, whose high is the low row's, one number further on
+abbrev pub chosen : ℤ → ℕ → ℕ
+chosen δ p = cond (ltZ δ (pos 0)) (p + 1) p
+
+-- the terms of a coordinate of degree d for m pieces
+unfoldable pub termsOf : (m d : ℕ) → List ℤ → Terms
+termsOf m d cs = record {
+  start = pos 10000 *ℤ (pos m *ℤ entry cs 0);
+  step = pos 10000 *ℤ (entry cs d -ℤ entry cs 0);
+  difference0 = difference cs 0;
+  difference1 = difference cs 1;
+  row0 = chosen (difference cs 0) (placeOf d 0);
+  row1 = chosen (difference cs 1) (placeOf d 1);
+}
+
+-- 10000 m times the chord's value at break point i
+abbrev pub chordAt : Terms → ℕ → ℤ
+chordAt t i = t .start +ℤ pos i *ℤ t .step
+
+-- the terms of m pieces, over 2^s, of a coordinate within 2^20
+pub record Within (m s : ℕ) (t : Terms) : Type 0 where
+  pub start : natAbs (t .start) ≤ 10000 * (m * (2 ^ 20 * 2 ^ s))
+  pub step : natAbs (t .step) ≤ 20000 * (2 ^ 20 * 2 ^ s)
+  pub chord : (i : ℕ) → i ≤ m → natAbs (chordAt t i) ≤ 10000 * (m * (2 ^ 20 * 2 ^ s))
+  pub difference0 : natAbs (t .difference0) ≤ 4 * (2 ^ 20 * 2 ^ s)
+  pub difference1 : natAbs (t .difference1) ≤ 4 * (2 ^ 20 * 2 ^ s)
+  pub row0 : t .row0 ≤ 82
+  pub row1 : t .row1 ≤ 82
+
+-- the bounds of m pieces over 2^s can be computed from these rows and terms; c is 840 / m
+pub record Computable (m s c : ℕ) (rows : List ℤ) (t : Terms) : Type 0 where
+  pub small : Each (5000 * m) rows
+  pub whole : length rows ≡ 108
+  pub within : Within m s t
+  pub shallow : s ≤ 24
+  pub scaled : c * m ≡ 840
+  pub most : m ≤ 8
+
+-- the same at break point i, for some number of pieces
+pub record ComputableAt (i : ℕ) (rows : List ℤ) (t : Terms) : Type 0 where
+  pub m : ℕ
+  pub s : ℕ
+  pub c : ℕ
+  pub computable : Computable m s c rows t
+  pub point : i ≤ m
+
+-- the number that is divided at break point i: the chord and the sum of row × difference, for rows read from places
+-- p and q
+abbrev pub numeratorOf : List ℤ → Terms → (p q i : ℕ) → ℤ
+numeratorOf rows t p q i = chordAt t i +ℤ (entry rows p *ℤ t .difference0 +ℤ entry rows q *ℤ t .difference1)
+
+abbrev pub denominatorOf : (m s : ℕ) → ℤ
+denominatorOf m s = pos 625 *ℤ pos m *ℤ pos (2 ^ s)
+
+-- the low and the high at break point i
+unfoldable pub lowBy : (m s : ℕ) → List ℤ → Terms → ℕ → ℤ
+lowBy m s rows t i =
+    floor (numeratorOf rows t (t .row0 + (3 * i + 1)) (t .row1 + (3 * i + 1)) i) (denominatorOf m s)
+
+unfoldable pub highBy : (m s : ℕ) → List ℤ → Terms → ℕ → ℤ
+highBy m s rows t i = ceiling (numeratorOf rows t (t .row0 + 3 * i) (t .row1 + 3 * i) i) (denominatorOf m s)

@@ -1,0 +1,80 @@
+// What the test of a node takes from the number of pieces alone.
+ghost use mathlib.Core.Path.{_≡_};
+ghost use Prim.Native.Nat.{_≤_, _<_, _-_, _+_, _*_, max};
+ghost use Rattle.setting.specs.Setting.{HasRows};
+ghost use Rattle.bound_rows.specs.Inside.{placeOf, Copied};
+ghost use Rattle.bound_node.specs.Inside.{gapAt, piecesBy, piecesOf};
+
+// The number of pieces, 840 over it, the largest gap of degree 2, the corner of degree 3, and whether its gaps are
+// those of a break point.
+pub struct Pieces {
+    pub m: usize,
+    pub scale: usize,
+    pub single: u64,
+    pub near: u64,
+    pub far: u64,
+    pub exact: bool,
+}
+
+// Where the rows of second difference k of a degree begin among the copied rows.
+fn start_of(degree: u32, k: usize) -> usize
+    requires { ⌜ (k < degree - 1) × (degree ≤ 3) ⌝ }
+    ensures { λ r. ⌜ (r ≡ placeOf degree k) × (r ≤ 54) ⌝ }
+{
+    if degree < 3 {
+        return 54;
+    }
+    27 * k
+}
+
+// The gap of the rows of second difference k of a degree at break point i; the copied rows are m times the rows.
+fn gap_at(rows: &[i64], m: usize, degree: u32, k: usize, i: usize) -> u64
+    requires { ⌜ (HasRows m) × (Copied m (now rows)) × (k < degree - 1) × (degree ≤ 3) × (i ≤ m) ⌝ }
+    ensures { λ r. ⌜ (r ≡ gapAt m degree k i) × (r ≤ 10000) ⌝ }
+{
+    let start = start_of(degree, k);
+    let high = rows[start + 3 * i];
+    let low = rows[start + 3 * i + 1];
+    (high - low) as u64 / (m as u64)
+}
+
+// The larger of two sums.
+pub fn larger(a: u64, b: u64) -> u64
+    ensures { λ r. ⌜ r ≡ max a b ⌝ }
+{
+    if a < b { b } else { a }
+}
+
+// The whole, from the gaps at the break point where the first is the largest, and the largest sum.
+fn pieces_by(m: usize, single: u64, near: u64, other: u64, both: u64) -> Pieces
+    requires { ⌜ (1 ≤ m) × (near ≤ both) ⌝ }
+    ensures { λ r. ⌜ r ≡ piecesBy m single near other both ⌝ }
+{
+    let far = both - near;
+    Pieces {
+        m,
+        scale: 840 / m,
+        single,
+        near,
+        far,
+        exact: other == far,
+    }
+}
+
+// What goes with m pieces, from their rows. G and the largest gaps stand at the break points 0 and 1.
+pub fn pieces_of(rows: &[i64], m: usize) -> Pieces
+    requires { ⌜ (HasRows m) × (Copied m (now rows)) ⌝ }
+    ensures { λ r. ⌜ r ≡ piecesOf m ⌝ }
+{
+    let a0 = gap_at(rows, m, 3, 0, 0);
+    let a1 = gap_at(rows, m, 3, 0, 1);
+    let b0 = gap_at(rows, m, 3, 1, 0);
+    let b1 = gap_at(rows, m, 3, 1, 1);
+    let single = gap_at(rows, m, 2, 0, 1);
+    let both = larger(a0 + b0, a1 + b1);
+    if a0 < a1 {
+        pieces_by(m, single, a1, b1, both)
+    } else {
+        pieces_by(m, single, a0, b0, both)
+    }
+}

@@ -1,0 +1,54 @@
+-- `judge::beyond::near_from` meets its contract. The loop's invariant: the records from `from` to `at` are apart from the point.
+use mathlib.Core.Path.{sym, _∙_}
+use Prim.Native.Nat.{_+_, _-_, _≤_}
+use native.Mathlib.Omega.{arith}
+use borrow.Author.Needs.{needs}
+use borrow.Author.Tests.{not-false}
+use lib.ListN.{length}
+use mir.Syntax.{w64}
+use mir.Val.{toZ}
+use mir.Facts.{toZ-ofZ}
+use Rattle.setting.specs.Setting.{lists, recordLength}
+use Rattle.boxes.proofs.Records.{record-left}
+use Rattle.judge_list.proofs.Pieces.{length-is}
+use Rattle.judge.specs.Inside.{ApartTo}
+use Rattle.judge.proofs.Apart.{apart-here, apart-more}
+use Rattle.judge.proofs.beyond.near_from.Statement.{statement}
+use Rattle.judge.proofs.beyond.near_from.Tie as tie
+
+abbrev Inv-loop : tie.InvT-loop
+Inv-loop leaves m from x y record-length at₀ at = ApartTo (lists m) (toZ w64 x) (toZ w64 y) leaves from at
+
+abbrev μ-loop : tie.MeasureT-loop
+μ-loop leaves m from x y record-length at₀ at = length leaves - at
+
+-- one more record is there
+more : (c : tie.In-loop Inv-loop μ-loop)
+    → let s = c .before .before in c .before .loop .at + recordLength (lists (s .args .m)) ≤ length (s .args .leaves .now)
+more c =
+    let s = c .before .before in
+    record-left (recordLength (lists (s .args .m))) (c .before .loop .inv .whole) (s .pre .1) (c .loop-test .taken)
+
+returns : tie.Need-returns Inv-loop μ-loop
+returns c =
+    let l = c .before .before .before in
+    let f = l .before .fits in
+    rw (toZ-ofZ (f .x), toZ-ofZ (f .y)) at (l .loop .inv)
+
+loop-again : tie.Need-loop-again Inv-loop μ-loop
+loop-again c =
+    let l = c .before .before .before in
+    let e = sym (c .before .apart .ensures) ∙ not-false (c .before .apart .result) (c .if1 .left) in
+    rw (length-is (l .before .args .m)) (apart-more (l .loop .inv) e)
+
+returns-2 : tie.Need-returns-2 Inv-loop μ-loop
+returns-2 c =
+    let f = c .before .before .fits in
+    rw (toZ-ofZ (f .x), toZ-ofZ (f .y)) at (c .before .loop .inv)
+
+pub near-from-spec : {M : Type 1} → statement M
+near-from-spec =
+    tie.close
+    (tie.spec Inv-loop μ-loop (λ c. let h = c .pre .0 .most in search needs) (λ c. let h = c .pre .0 .most in search needs)
+    (λ c. apart-here (c .pre .2)) (λ c κs. let h = more c in let f = c .before .loop .inv .after in omega arith) returns
+    (λ c. let h = more (c .before .before) in search needs) (λ c. omega arith) loop-again returns-2)

@@ -1,0 +1,2 @@
+-- Laws of a setting. Each file opens with what it holds.
+pub mod Pieces
