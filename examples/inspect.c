@@ -21,10 +21,7 @@
 
 /* A curve takes at most 9 numbers. There is room for one curve more than the engine takes, so that it can refuse it. */
 static int32_t outline[9 * (CONTOUR_BAND_CURVES_MAX + 1)];
-static size_t outline_length;
-
-/* No curve has more than 256 leaves. */
-static int32_t records[CONTOUR_BAND_CURVES_MAX * 256 * CONTOUR_BAND_RECORD(M)];
+static size_t outline_length, curves;
 
 /* Prints what is wrong with a line of a file, and ends. */
 static void stop(const char *file, int line, const char *what) {
@@ -85,7 +82,19 @@ static int add_curve(const char *line) {
     outline[outline_length++] = count - 1;
     memcpy(outline + outline_length, points, 2 * (size_t)count * sizeof *points);
     outline_length += 2 * (size_t)count;
+    curves++;
     return 1;
+}
+
+/* Room for the records of every leaf of the outline. No curve has more than 256. */
+static int32_t *room(size_t *length) {
+    *length = 256 * CONTOUR_BAND_RECORD(M) * (curves + 1);
+    int32_t *records = malloc(*length * sizeof *records);
+    if (records == NULL) {
+        fprintf(stderr, "there is no memory for the records\n");
+        exit(EXIT_FAILURE);
+    }
+    return records;
 }
 
 /* Reads the outline file to the outline. Its tolerance. */
@@ -118,7 +127,7 @@ static void print_leaf(const int32_t *record) {
 }
 
 /* Judges every point of a file against the records, and prints the judgements and their counts. */
-static void judge_points(const char *file, size_t records_length) {
+static void judge_points(const char *file, const int32_t *records, size_t records_length) {
     char line[100];
     int points = 0, on = 0, off = 0, refused = 0;
     FILE *stream = opened(file);
@@ -150,8 +159,9 @@ int main(int count, char **arguments) {
         return EXIT_FAILURE;
     }
     const int32_t tolerance = read_outline(arguments[1]);
-    const struct contour_band_answer answer =
-        contour_band(outline, outline_length, tolerance, M, records, sizeof records / sizeof *records);
+    size_t length;
+    int32_t *records = room(&length);
+    const struct contour_band_answer answer = contour_band(outline, outline_length, tolerance, M, records, length);
     if (answer.refusal != CONTOUR_BAND_ACCEPTED) {
         fprintf(stderr, "%s: refused %u %llu\n", arguments[1], (unsigned)answer.refusal, (unsigned long long)answer.spot);
         return EXIT_FAILURE;
@@ -162,6 +172,7 @@ int main(int count, char **arguments) {
         print_leaf(records + CONTOUR_BAND_RECORD(M) * leaf);
     }
     /* Points are judged against the records written, not against the rest of the list. */
-    judge_points(arguments[2], CONTOUR_BAND_RECORD(M) * (size_t)answer.leaves);
+    judge_points(arguments[2], records, CONTOUR_BAND_RECORD(M) * (size_t)answer.leaves);
+    free(records);
     return EXIT_SUCCESS;
 }

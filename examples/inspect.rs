@@ -32,13 +32,13 @@ fn main() -> ExitCode {
 }
 
 fn inspect(outline_file: &str, points_file: &str) -> Result<(), String> {
-    let (tolerance, outline) = read_outline(outline_file)?;
+    let (tolerance, curves) = read_outline(outline_file)?;
     let points = read_points(points_file)?;
 
-    // No outline has more than 64 curves, and no curve more than 256 leaves.
-    let mut records = vec![0; 64 * 256 * record_length(M)];
-    let report =
-        band(&outline, tolerance, M, &mut records).map_err(|refusal| format!("{outline_file}: {refusal}"))?;
+    // No curve has more than 256 leaves.
+    let mut records = vec![0; curves.len() * 256 * record_length(M)];
+    let report = band(&curves.concat(), tolerance, M, &mut records)
+        .map_err(|refusal| format!("{outline_file}: {refusal}"))?;
     // Points are judged against the records written, not against the rest of the list.
     records.truncate(record_length(M) * report.leaves as usize);
 
@@ -77,23 +77,22 @@ fn inspect(outline_file: &str, points_file: &str) -> Result<(), String> {
 
 /// The tolerance of an outline file, and its curves as the engine takes them: degree, then x and y of
 /// each control point.
-fn read_outline(file: &str) -> Result<(i32, Vec<i32>), String> {
+fn read_outline(file: &str) -> Result<(i32, Vec<Vec<i32>>), String> {
     let text = read(file)?;
     let mut lines = text.lines();
     let tolerance = lines
         .next()
         .and_then(tolerance_of)
         .ok_or_else(|| format!("{file}, line 1: (tolerance T) is expected"))?;
-    let mut outline = Vec::new();
+    let mut curves = Vec::new();
     for (i, line) in lines.enumerate() {
         let points =
             points_of(line, "curve").filter(|points| (2..=4).contains(&points.len())).ok_or_else(|| {
                 format!("{file}, line {}: (curve (x y) (x y) ..) of 2 to 4 points is expected", i + 2)
             })?;
-        outline.push(points.len() as i32 - 1);
-        outline.extend(points.concat());
+        curves.push([vec![points.len() as i32 - 1], points.concat()].concat());
     }
-    Ok((tolerance, outline))
+    Ok((tolerance, curves))
 }
 
 /// The points of a points file.

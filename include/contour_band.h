@@ -59,7 +59,7 @@ extern "C" {
 #define CONTOUR_BAND_TOLERANCE_MAX 1048576
 #define CONTOUR_BAND_COORDINATE_MIN (-1048576)
 #define CONTOUR_BAND_COORDINATE_MAX 1048576
-#define CONTOUR_BAND_CURVES_MAX 64
+#define CONTOUR_BAND_CURVES_MAX 4096
 
 /* The largest number of a box and of a point, in sixteenths of a stage unit; its negative is the least. */
 #define CONTOUR_BAND_FARTHEST 536870912
@@ -75,7 +75,7 @@ enum contour_band_refusal {
     CONTOUR_BAND_PIECES = 18,          /* m is not 1 to 8; 0 */
     CONTOUR_BAND_TOLERANCE = 1,        /* the tolerance is outside its range; 0 */
     CONTOUR_BAND_EMPTY_OUTLINE = 6,    /* the outline has no number; 0 */
-    CONTOUR_BAND_TOO_MANY_CURVES = 5,  /* a 65th curve begins; the index of its degree */
+    CONTOUR_BAND_TOO_MANY_CURVES = 5,  /* a 4,097th curve begins; the index of its degree */
     CONTOUR_BAND_DEGREE = 2,           /* a degree is not 1, 2 or 3; its index */
     CONTOUR_BAND_CUT_SHORT = 3,        /* the outline ends inside a curve; the outline's length */
     CONTOUR_BAND_COORDINATE = 4,       /* a coordinate is outside its range; the index of the curve's first such */
@@ -93,7 +93,7 @@ enum contour_band_refusal {
 struct contour_band_answer {
     uint32_t refusal; /* 0 where the outline is accepted, else the number of the refusal */
     uint64_t spot;    /* the refusal's spot; 0 where the outline is accepted */
-    uint64_t curves;  /* the curves of the outline, 1 to 64; 0 where it is refused */
+    uint64_t curves;  /* the curves of the outline, 1 to 4,096; 0 where it is refused */
     uint64_t leaves;  /* the leaves, each a record at the front of the records; 0 where the outline is refused */
     uint64_t nodes;   /* the nodes met, which is 2 * leaves - curves; 0 where the outline is refused */
 };
@@ -101,7 +101,8 @@ struct contour_band_answer {
 /* Puts a band round an outline.
  *
  * outline: for each curve its degree d, which is 1, 2 or 3, then x and y of its d + 1 control points, in stage units.
- *     Curves are numbered from 0. Each begins where the one before it ends; the outline may stay open at its ends.
+ *     There are 1 to 4,096 curves, numbered from 0. Each begins where the one before it ends; the outline may stay open at its
+ *     ends.
  * tolerance: the greatest diagonal of a box, in sixteenths of a stage unit.
  * m: how many straight pieces a leaf has, 1 to 8. The more it has, the fewer leaves there are as a rule, and the longer is a
  *     record. A negative number becomes a large one, and is refused.
@@ -128,8 +129,8 @@ struct contour_band_judgement {
 /* Judges a point against a list of leaf records, which it only reads.
  *
  * leaves: records as contour_band writes them, one or more, in any order. To judge against a band give exactly the records
- *     written, without the rest of the list. A number is bad where a curve is not 0 to 63, a node not 1 to 511, a box number
- *     beyond the farthest, or a low above its high; the last is named by the low's index.
+ *     written, without the rest of the list. A number is bad where a curve is not 0 to 4,095, a node not 1 to 511, a box
+ *     number beyond the farthest, or a low above its high; the last is named by the low's index.
  * m: how many pieces each leaf has, 1 to 8. To judge against a band give the m of the banding.
  * x, y: the point, in sixteenths of a stage unit.
  *

@@ -6,7 +6,7 @@ use mathlib.Core.Option.{Option, none, some}
 use Prim.Native.Nat.{ℕ, _+_, _*_, _≤_}
 use native.Mathlib.Nat.{le-of-eq}
 use native.Mathlib.Omega.{arith}
-use lib.Dec.{ltb}
+use lib.Dec.{ltb, lit≤}
 use borrow.Author.Tests.{ltb-false}
 use lib.ListN.{length, take, replicate, length-replicate}
 use lib.IntN.{ℤ, pos}
@@ -15,11 +15,11 @@ use mir.Val.{Fits}
 use Rattle.integers.proofs.Clash.{clash}
 use Rattle.refusals.specs.declared.Refusal.{Refusal}
 use Rattle.refusals.specs.declared.Refusal.the-variants.{TextTooLong}
-use Rattle.setting.specs.Setting.{standard, recordLength}
+use Rattle.setting.specs.Setting.{standard, texts, recordLength}
 use Rattle.band.specs.declared.banding.Banded.{Banded}
 use Rattle.band.specs.declared.banding.Banded.the-variants.{Done, Refused}
 use Rattle.band.specs.Banding.{written}
-use Rattle.band.proofs.Theorems.{done-exactly, written-some, written-sound}
+use Rattle.band.proofs.Theorems.{done-exactly, done-listed, written-listed, written-some, written-sound}
 use Rattle.engine.proofs.Outcomes.{done-room}
 use Rattle.engine.proofs.Passing.{length-fine, no-bad-number}
 use Rattle.write_numbers.specs.Appends.{Appended, PutWithin}
@@ -44,7 +44,7 @@ module _ (m : Meaning) (old : List ℤ) (c l n : ℕ) (e : bandOf m (length old)
     where
       go : (m : Meaning) → bandOf m (length old) ≡ Done c l n → recordLength standard * l ≤ length old
       go (refused r) f = clash (cc)
-      go (means T outline points) f = done-room standard T outline (length old) f
+      go (means T outline points) f = done-room texts T outline (length old) f
 
   -- the leaves written pass checks 9 and 10
   pub leaves-fine : length old ≤ lent → LeavesFine (take (recordLength standard * l) (recordsAfter m old))
@@ -53,13 +53,14 @@ module _ (m : Meaning) (old : List ℤ) (c l n : ℕ) (e : bandOf m (length old)
       go : (m : Meaning) → bandOf m (length old) ≡ Done c l n → LeavesFine (take (recordLength standard * l) (recordsAfter m old))
       go (refused r) f = clash (cc)
       go (means T outline points) f =
-          let h = done-exactly standard T outline (length old) c l n .0 f in
+          let h = done-exactly standard T outline (length old) c l n .0 (done-listed texts (lit≤ tt) T outline (length old) f) in
           let sound = written-sound standard T outline old (h .1) (h .2) in
           let some = written-some standard T outline old (h .1) (h .2) in
           let rs = take (recordLength standard * l) (written standard T outline old) in
+          subst (λ (ns : List ℤ). LeavesFine (take (recordLength standard * l) ns)) (sym (written-listed texts (lit≤ tt) T outline old f))
           record {
             passed = record { whole = length-fine standard (length rs) l some (sound .whole); numbers = no-bad-number sound };
-            few = omega (arith, sound .whole, done-room standard T outline (length old) f);
+            few = omega (arith, sound .whole, done-room texts T outline (length old) f);
           }
 
 -- ---- a text that is not refused is short

@@ -9,7 +9,7 @@ use lib.Seq.{length-take-le}
 use lib.IntN.{ℤ}
 use lib.Signed.{mag}
 use mir.Syntax.{w32}
-use Rattle.setting.specs.Setting.{Setting, piecesFine, standard}
+use Rattle.setting.specs.Setting.{Setting, piecesFine, texts}
 use Rattle.integers.proofs.Ranges.{stored, read-again}
 use Rattle.refusals.specs.declared.Refusal.{Refusal}
 use Rattle.refusals.specs.declared.Refusal.the-variants.{Tolerance as WrongTolerance, Pieces}
@@ -89,13 +89,13 @@ module _ (s : List ℕ) (c : TextCheck) (e : c ≡ textCheckOf (meaning s)) (old
     checks-same : outlined 64 (take n o) ≡ outlined 64 (text-means .outline)
     checks-same = ap (outlined 64) (lent s d o n a z) ∙ outline-kept 64 s T (text-means .outline) (text-means .points) (text-means .is)
 
-    pub text-band : (b : Banded) → b ≡ banded standard (stored w32 T) (take n o) (length old) → b ≡ bandOf (meaning s) (length old)
+    pub text-band : (b : Banded) → b ≡ banded texts (stored w32 T) (take n o) (length old) → b ≡ bandOf (meaning s) (length old)
     text-band b p =
-        p ∙ ap (λ (x : ℤ). banded standard x (take n o) (length old)) (read-again w32 T h)
-        ∙ banded-same standard T (take n o) (text-means .outline) (length old) checks-same
+        p ∙ ap (λ (x : ℤ). banded texts x (take n o) (length old)) (read-again w32 T h)
+        ∙ banded-same texts T (take n o) (text-means .outline) (length old) checks-same
         ∙ ap (λ (x : Meaning). bandOf x (length old)) (sym (text-means .is))
 
-    pub text-records : (new : List ℤ) → new ≡ written standard (stored w32 T) (take n o) old → new ≡ recordsAfter (meaning s) old
+    pub text-records : (new : List ℤ) → new ≡ written texts (stored w32 T) (take n o) old → new ≡ recordsAfter (meaning s) old
     text-records new q =
-        q ∙ ap (λ (x : ℤ). written standard x (take n o) old) (read-again w32 T h) ∙ written-same standard T (take n o) (text-means .outline) old checks-same
+        q ∙ ap (λ (x : ℤ). written texts x (take n o) old) (read-again w32 T h) ∙ written-same texts T (take n o) (text-means .outline) old checks-same
         ∙ ap (λ (x : Meaning). recordsAfter x old) (sym (text-means .is))

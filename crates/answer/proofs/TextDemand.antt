@@ -2,17 +2,18 @@
 use mathlib.Core.Path.{_≡_, refl, sym, _∙_, ap, subst}
 use mathlib.Core.List.{List, [], _∷_, _++_, append-assoc}
 use mathlib.Core.Option.{none}
-use Prim.Native.Nat.{ℕ, _+_, _*_}
+use Prim.Native.Nat.{ℕ, _+_, _*_, _≤_}
 use native.Mathlib.Nat.{le-of-eq}
 use native.Mathlib.Omega.{arith}
-use lib.ListN.{length, replicate, length-replicate, getD}
+use lib.Dec.{lit≤}
+use lib.ListN.{length, take, replicate, length-replicate, getD}
 use lib.IntN.{ℤ, pos}
-use Rattle.setting.specs.Setting.{standard, recordLength}
+use Rattle.setting.specs.Setting.{standard, texts, recordLength}
 use Rattle.curve_nodes.specs.declared.Curve.{Curve}
 use Rattle.band.specs.declared.banding.Banded.the-variants.{Done}
-use Rattle.band.specs.Banding.{banded}
+use Rattle.band.specs.Banding.{banded, written}
 use Rattle.band.specs.Outcomes.{Faultless}
-use Rattle.band.proofs.Theorems.{done-exactly, written-sound}
+use Rattle.band.proofs.Theorems.{done-exactly, done-listed, faultless-listed, written-listed, written-sound}
 use Rattle.judge.specs.declared.judging.Judgement.{Judgement}
 use Rattle.judge.specs.declared.judging.Judgement.the-variants.{On, Off, Refused}
 use Rattle.judge.specs.Judging.{pointFault, judgingFault, Verdict, Judged}
@@ -52,23 +53,30 @@ says-off Off e = refl
 says-off (On leaf cover) e = let z = ap (λ (l : List ℕ). getD l 2 0) e in absurd (omega arith)
 says-off (Refused r) e = let z = ap (λ (l : List ℕ). getD l 1 0) e in absurd (omega arith)
 
-module _ (T : ℤ) (outline : List ℤ) (a b c : ℕ) (done : banded standard T outline lent ≡ Done a b c) where
+few : texts .most ≤ standard .most
+few = lit≤ tt
+
+module _ (T : ℤ) (outline : List ℤ) (a b c : ℕ) (done : banded texts T outline lent ≡ Done a b c) where
   abbrev leaves : List ℤ
   leaves = textLeaves T outline b
 
-  zeros-lent : banded standard T outline (length (replicate lent (pos 0))) ≡ Done a b c
-  zeros-lent = ap (banded standard T outline) (length-replicate lent (pos 0)) ∙ done
+  zeros-lent : banded texts T outline (length (replicate lent (pos 0))) ≡ Done a b c
+  zeros-lent = ap (banded texts T outline) (length-replicate lent (pos 0)) ∙ done
 
   -- the curves of the outline, which has no fault
-  done-curves : (cs : List Curve) × Faultless standard T outline cs
-  done-curves = let h = done-exactly standard T outline (length (replicate lent (pos 0))) a b c .0 zeros-lent in (h .0, h .1)
+  done-curves : (cs : List Curve) × Faultless texts T outline cs
+  done-curves = let h = done-exactly texts T outline (length (replicate lent (pos 0))) a b c .0 zeros-lent in (h .0, h .1)
 
-  -- the engine's demand 3, of the answer that judging gives
+  -- the engine's demand 3, of the answer that judging gives; the leaves are those that the outline has as a list
   demand : (x y : ℤ) → Demand3 standard T (done-curves .0) leaves x y (judgement standard leaves x y)
   demand x y =
-      let j = judgement standard leaves x y in
-      let d = demand-3 standard T outline (replicate lent (pos 0)) a b c zeros-lent x y j (is-judged standard leaves x y) in
-      subst (λ cs. Demand3 standard T cs leaves x y j) (same-curves (d .are) (done-curves .1 .outline)) (d .demand-3)
+      let zeros = replicate lent (pos 0) in
+      let rs = take (recordLength standard * b) (written standard T outline zeros) in
+      let j = judgement standard rs x y in
+      let d = demand-3 standard T outline zeros a b c (done-listed texts few T outline (length zeros) zeros-lent) x y j (is-judged standard rs x y) in
+      rw (written-listed texts few T outline zeros zeros-lent)
+      (subst (λ cs. Demand3 standard T cs rs x y j) (same-curves (d .are) (faultless-listed texts few T outline (done-curves .1) .outline))
+      (d .demand-3))
 
   -- where the point is in range nothing is refused, so what judging says of the leaves is the line
   passes : (x y : ℤ) → pointFault x y ≡ none → judgingFault standard leaves x y ≡ none
@@ -78,11 +86,11 @@ module _ (T : ℤ) (outline : List ℤ) (a b c : ℕ) (done : banded standard T 
 
   whole : length leaves ≡ recordLength standard * b
   whole =
-      let h = done-exactly standard T outline (length (replicate lent (pos 0))) a b c .0 zeros-lent in
-      written-sound standard T outline (replicate lent (pos 0)) (h .1) (h .2) .whole
+      let h = done-exactly texts T outline (length (replicate lent (pos 0))) a b c .0 zeros-lent in
+      written-sound texts T outline (replicate lent (pos 0)) (h .1) (h .2) .whole
 
 module _ (s : List ℕ) (T : ℤ) (outline : List ℤ) (points : List (ℤ × ℤ)) (m : meaning s ≡ means T outline points) (a b c : ℕ)
-    (done : banded standard T outline lent ≡ Done a b c) where
+    (done : banded texts T outline lent ≡ Done a b c) where
   all-lines : answerOf s ≡ bandLines a b c (textRecords T outline) ++ pointAnswers (textLeaves T outline b) points
   unfolding answerOf answerTo
   all-lines = ap answerTo m ∙ ap (λ o. lines o (textRecords T outline) points) done

@@ -3,7 +3,7 @@
 use mathlib.Core.List.{List}
 use Prim.Native.Nat.{ℕ}
 use lib.IntN.{ℤ}
-use Rattle.setting.specs.Setting.{standard}
+use Rattle.setting.specs.Setting.{texts}
 use Rattle.band.specs.declared.banding.Banded.{Banded}
 use Rattle.band.specs.declared.banding.Banded.the-variants.{Refused}
 use Rattle.band.specs.Banding.{banded, written}
@@ -11,8 +11,8 @@ use Rattle.text_lines.specs.Meaning.{Meaning, refused, means}
 
 abbrev pub bandOf : Meaning → ℕ → Banded
 bandOf (refused r) room = Refused r
-bandOf (means T outline points) room = banded standard T outline room
+bandOf (means T outline points) room = banded texts T outline room
 
 abbrev pub recordsAfter : Meaning → List ℤ → List ℤ
 recordsAfter (refused r) old = old
-recordsAfter (means T outline points) old = written standard T outline old
+recordsAfter (means T outline points) old = written texts T outline old

@@ -9,7 +9,7 @@ use Prim.Native.Nat.{ℕ, _+_, _*_, _<_}
 use lib.ListN.{take, replicate}
 use lib.IntN.{ℤ, pos}
 use Rattle.integers.specs.Entry.{entry}
-use Rattle.setting.specs.Setting.{standard, recordLength}
+use Rattle.setting.specs.Setting.{standard, texts, recordLength}
 use Rattle.curve_nodes.specs.declared.Curve.{Curve}
 use Rattle.curve_nodes.specs.Points.{Equals}
 use Rattle.outline.specs.Checks.{curves, outlined}
@@ -31,7 +31,7 @@ pub record SaysOn (line : List ℕ) : Type 0 where
 
 -- the lent list as banding leaves it, and the leaves written in it
 abbrev pub textRecords : ℤ → List ℤ → List ℤ
-textRecords T outline = written standard T outline (replicate lent (pos 0))
+textRecords T outline = written texts T outline (replicate lent (pos 0))
 
 abbrev pub textLeaves : ℤ → List ℤ → (b : ℕ) → List ℤ
 textLeaves T outline b = take (recordLength standard * b) (textRecords T outline)
@@ -59,7 +59,7 @@ module _ (s : List ℕ) (T : ℤ) (outline : List ℤ) (a b c : ℕ) where
   pub record TextDemand3 (points : List (ℤ × ℤ)) : Type 0 where
     -- the outline has no fault, and these are its curves
     pub all : List Curve
-    pub are : outlined (standard .most) outline ≡ curves all
+    pub are : outlined (texts .most) outline ≡ curves all
     -- the answer is the lines of the band, then one line for each point, in order
     pub all-lines : answerOf s ≡ bandLines a b c (textRecords T outline) ++ pointAnswers (textLeaves T outline b) points
     pub each-point : (before : List (ℤ × ℤ)) (x y : ℤ) (after : List (ℤ × ℤ)) → points ≡ before ++ (x, y) ∷ after

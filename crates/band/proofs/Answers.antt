@@ -1,27 +1,28 @@
 -- What banding answers and leaves in the list, from what its two passes find.
 use mathlib.Core.Path.{_≡_, refl, sym, _∙_, ap, ap₂, subst}
 use mathlib.Core.Bool.{true, false}
+use mathlib.Core.Logic.{⊎-elim}
 use mathlib.Core.List.{List, [], _∷_, _++_}
 use mathlib.Core.Option.{Option, none, some}
 use Prim.Native.Nat.{ℕ, suc, _+_, _-_, _*_, _^_, _≤_, _<_}
-use native.Mathlib.Nat.{zero-add, mul-le-mul}
+use native.Mathlib.Nat.{zero-add, mul-le-mul, le-of-eq}
 use native.Mathlib.Omega.{arith}
 use borrow.Author.Tests.{lt-ltb, le-ltb}
 use lib.ListN.{length, length-append, drop}
 use lib.Seq.{sets, sets-eq}
 use lib.IntN.{ℤ}
-use Rattle.setting.specs.Setting.{Setting, piecesFine, recordLength}
+use Rattle.integers.proofs.Order.{lt-or-ge}
+use Rattle.setting.specs.Setting.{Setting, lists, piecesFine, recordLength}
 use Rattle.refusals.specs.declared.Refusal.{Refusal}
 use Rattle.refusals.specs.declared.Refusal.the-variants.{Tolerance, TooFewRecords, Pieces}
 use Rattle.curve_nodes.specs.declared.Curve.{Curve}
 use Rattle.outline.specs.declared.Checked.the-variants.{Curves, Faulty}
-use Rattle.outline.specs.Curves.{nextAt, curveAt}
-use Rattle.outline.specs.Checks.{toleranceFine, curves, withCurve, outlineFrom, outlined}
+use Rattle.outline.specs.Checks.{toleranceFine, curves, outlineFrom, outlined}
 use Rattle.outline.specs.Inside.{checkedOf}
-use Rattle.outline.proofs.Steps.{outline-begins, outline-ends, outline-ended, outline-step}
-use Rattle.outline.proofs.Accepted.{Accepted, checked-curves, checked-refused, outlined-from, accepted-most}
+use Rattle.outline.proofs.Accepted.{Accepted, checked-curves, checked-refused, outlined-from, accepted-most, accepted-within}
 use Rattle.band.specs.declared.banding.Banded.{Banded}
 use Rattle.band.specs.declared.banding.Banded.the-variants.{Done, Refused}
+use Rattle.band_passes.specs.declared.passes.Counted.{Counted}
 use Rattle.band_passes.specs.declared.passes.Counted.the-variants.{Total, Stopped}
 use Rattle.walk_curve.specs.Walked.{endsOf}
 use Rattle.band_records.specs.Records.{recordsOf, allRecords}
@@ -30,6 +31,7 @@ use Rattle.band.specs.Banding.{bandCurves, writtenBy, banded, written}
 use Rattle.band_passes.specs.Inside.{Readable, countedOf, Fillable}
 use Rattle.band_passes.proofs.Counting.{nodes-of-curves, few-leaves}
 use Rattle.band_records.proofs.Lengths.{records-length}
+use Rattle.band.proofs.ByPieces.{all-records-same, counted-same}
 
 -- ---- what the first pass says
 counted-leaves : (o : Option Refusal) (l m : ℕ) → Total m ≡ elim o [ some r ↦ Stopped r | none ↦ Total l ] → (o ≡ none) × (m ≡ l)
@@ -94,15 +96,22 @@ module _ (σ : Setting) (T : ℤ) (cs : List Curve) where
     answer-list l h =
         front-written l (allRecords σ T 0 cs) (omega (arith, all-records-length σ T 0 cs, ap (λ n. recordLength σ * n) (leaves-counted e .1)))
 
--- ---- an outline without faults
-outline-exact : (left : ℕ) (ns : List ℤ) (at : ℕ) (cs : List Curve) → outlineFrom left ns at ≡ curves cs → outlineFrom (length cs) ns at ≡ curves cs
-outline-exact left ns at [] e = outline-ended ns at 0 (outline-ends left ns at e)
-outline-exact left ns at (c ∷ cs) e =
-    let b = outline-begins left ns at c cs e in
-    outline-step ns at (length cs) (b .no-fault)
-    ∙ ap (withCurve (curveAt ns at)) (outline-exact (left - 1) ns (nextAt ns at) cs (b .rest))
-    ∙ ap (λ (d : Curve). curves (d ∷ cs)) (sym (b .is))
+-- ---- the answer goes by the pieces of a setting alone
+pub band-curves-same : (σ : Setting) (T : ℤ) (cs : List Curve) (room : ℕ) → bandCurves (lists (σ .pieces)) T cs room ≡ bandCurves σ T cs room
+band-curves-same σ T cs room = go (countedOf σ T cs) refl
+  where
+    go : (c : Counted) → c ≡ countedOf σ T cs → bandCurves (lists (σ .pieces)) T cs room ≡ bandCurves σ T cs room
+    go (Stopped r) e =
+        let f = e ∙ counted-same σ T cs in
+        sym (answer-too-wide (lists (σ .pieces)) T cs room f) ∙ answer-too-wide σ T cs room e
+    go (Total m) e =
+        let f = e ∙ counted-same σ T cs in
+        ⊎-elim
+        (λ l. sym (answer-too-few (lists (σ .pieces)) T cs f l) ∙ answer-too-few σ T cs e l)
+        (λ l. sym (answer-done (lists (σ .pieces)) T cs f l) ∙ answer-done σ T cs e l)
+        (lt-or-ge room (recordLength σ * m))
 
+-- ---- an outline without faults
 module _ {ns : List ℤ} {n : ℕ} (r : Readable ns n) where
   pub read-count : length (curvesOf (outlineFrom n ns 0)) ≡ n
   read-count = ap (λ o. length (curvesOf o)) (r .is) ∙ r .count
@@ -125,22 +134,22 @@ module _ (σ : Setting) (ns : List ℤ) where
     found = checked-curves (outlined (σ .most) ns) n (sym e)
 
     read : outlineFrom n ns 0 ≡ curves (found .cs)
-    read = let a = found in subst (λ k. outlineFrom k ns 0 ≡ curves (a .cs)) (a .count)
-        (outline-exact (σ .most) ns 0 (a .cs) (outlined-from (σ .most) ns (a .cs) (a .is)))
+    read = let a = found in accepted-within (σ .most) n ns 0 (a .cs) (outlined-from (σ .most) ns (a .cs) (a .is)) (le-of-eq (a .count))
 
     pub readable : σ .most ≤ 65536 → Readable ns n
     readable h = let a = found in
         record { all = a .cs; is = read; count = a .count; few = omega (arith, h, accepted-most (σ .most) ns (a .cs) (a .is), a .count) }
 
+    -- banding of the curves is that of a caller who gives lists
     pub banded-read : (T : ℤ) (room : ℕ) → piecesFine (σ .pieces) ≡ true → toleranceFine T ≡ true
-        → bandCurves σ T (curvesOf (outlineFrom n ns 0)) room ≡ banded σ T ns room
+        → bandCurves (lists (σ .pieces)) T (curvesOf (outlineFrom n ns 0)) room ≡ banded σ T ns room
     unfolding banded
-    banded-read T room rows f = rw (banded, rows, f, read, found .is)
+    banded-read T room rows f = rw (banded, rows, f, read, found .is) (band-curves-same σ T (found .cs) room)
 
     pub written-curves : (T : ℤ) (l : List ℤ) {l′ : List ℤ} (b : Banded) → b ≡ banded σ T ns (length l)
-        → l′ ≡ writtenBy b (allRecords σ T 0 (curvesOf (outlineFrom n ns 0))) l → l′ ≡ written σ T ns l
+        → l′ ≡ writtenBy b (allRecords (lists (σ .pieces)) T 0 (curvesOf (outlineFrom n ns 0))) l → l′ ≡ written σ T ns l
     unfolding written
-    written-curves T l b f g = g ∙ rw (f, read, found .is)
+    written-curves T l b f g = g ∙ rw (f, read, found .is, all-records-same σ T 0 (found .cs))
 
   module _ (T : ℤ) where
     pub banded-pieces : (room : ℕ) → piecesFine (σ .pieces) ≡ false → Refused Pieces ≡ banded σ T ns room

@@ -1,4 +1,5 @@
 -- Laws of banding. Each file opens with what it holds.
+pub mod ByPieces
 pub mod Answers
 pub mod Depths
 pub mod Premise

@@ -1,7 +1,8 @@
 // Banding: the leaves of an outline at a tolerance, as records.
 ghost use mathlib.Core.Path.{_≡_};
+ghost use Prim.Native.Nat.{_≤_};
 ghost use lib.ListN.{length};
-ghost use Rattle.setting.specs.Setting.{lists, piecesFine};
+ghost use Rattle.setting.specs.Setting.{lists, limited, piecesFine};
 ghost use Rattle.band.specs.Banding.{banded, written};
 use crate::banding::Banded;
 use crate::outline_band::band_curves;
@@ -21,13 +22,29 @@ fn pieces_fine(m: u32) -> bool
     m <= 8
 }
 
-// Puts a band of m pieces a leaf round an outline, at a tolerance in sixteenths: the leaves' records stand at the front
-// of the list afterwards, and what stood behind them stays. A refusal alters nothing. Every outline, tolerance, m and
-// list may be asked about.
+// Puts a band of m pieces a leaf round an outline of at most 4,096 curves, at a tolerance in sixteenths: the leaves'
+// records stand at the front of the list afterwards, and what stood behind them stays. A refusal alters nothing. Every
+// outline, tolerance, m and list may be asked about.
 pub fn band(outline: &[i32], tolerance: i32, m: u32, records: &mut [i32]) -> Banded
     ensures { λ r. ⌜ r ≡ banded (lists m) tolerance (now (outline .entry)) (length (now (records .entry))) ⌝ }
     ensures { λ r. ⌜ now (records .exit)
         ≡ written (lists m) tolerance (now (outline .entry)) (now (records .entry)) ⌝ }
+{
+    band_most(outline, 4096, tolerance, m, records)
+}
+
+// The same of an outline that may have `most` curves.
+pub fn band_most(
+    outline: &[i32],
+    most: usize,
+    tolerance: i32,
+    m: u32,
+    records: &mut [i32],
+) -> Banded
+    requires { ⌜ most ≤ 65536 ⌝ }
+    ensures { λ r. ⌜ r ≡ banded (limited most m) tolerance (now (outline .entry)) (length (now (records .entry))) ⌝ }
+    ensures { λ r. ⌜ now (records .exit)
+        ≡ written (limited most m) tolerance (now (outline .entry)) (now (records .entry)) ⌝ }
 {
     if !pieces_fine(m) {
         return Banded::Refused(Refusal::Pieces);
@@ -35,7 +52,7 @@ pub fn band(outline: &[i32], tolerance: i32, m: u32, records: &mut [i32]) -> Ban
     if !outline_checks::tolerance_fine(tolerance) {
         return Banded::Refused(Refusal::Tolerance);
     }
-    match outline_checks::check_outline(outline, 64) {
+    match outline_checks::check_outline(outline, most) {
         Checked::Faulty(refusal) => Banded::Refused(refusal),
         Checked::Curves(curves) => band_curves(
             outline,

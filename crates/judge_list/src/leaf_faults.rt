@@ -52,7 +52,7 @@ fn record_fault(leaves: &[i32], m: usize, at: usize) -> usize
     if curve < 0 {
         return 0;
     }
-    if 64 <= curve {
+    if 4096 <= curve {
         return 0;
     }
     let node = leaves[at + 1];

@@ -30,7 +30,7 @@ fn record_fine(leaves: &[i32], m: usize, at: usize) -> bool
 {
     let curve = leaves[at];
     let node = leaves[at + 1];
-    let curve_fine = (0 <= curve) & (curve < 64);
+    let curve_fine = (0 <= curve) & (curve < 4096);
     let node_fine = (1 <= node) & (node <= 511);
     curve_fine & node_fine & sides_fine(leaves, at + 2, 2 * m + 2)
 }

@@ -1,5 +1,5 @@
 -- Accepted outlines: how many curves they have, and what holds of each: halving it has room in 64 bits, its degree is 1 to 3, zeros stand past it.
-use mathlib.Core.Path.{_≡_, refl}
+use mathlib.Core.Path.{_≡_, refl, sym, ap, _∙_}
 use mathlib.Core.List.{List, [], _∷_, List·Memᴰ, List·Memᴰ·head, List·Memᴰ·tail, List·Memᴰ·not-nil, List·Memᴰ·cases-cons}
 use mathlib.Core.Logic.{⊎-elim}
 use mathlib.Core.Option.{none}
@@ -14,11 +14,11 @@ use Rattle.curve_nodes.specs.Bounds.{Sized}
 use Rattle.outline.specs.declared.Checked.the-variants.{Curves, Faulty}
 use Rattle.outline.specs.Curves.{nextAt, curveAt}
 use Rattle.outline.specs.Faults.{faultAt}
-use Rattle.outline.specs.Checks.{Outlined, curves, faulty, outlineFrom, outlined}
+use Rattle.outline.specs.Checks.{Outlined, curves, faulty, withCurve, outlineFrom, outlined}
 use Rattle.outline.specs.Inside.{checkedOf}
 use Rattle.integers.proofs.Clash.{clash}
 use Rattle.outline.proofs.Faultless.{Padded, faultless, curve-sized, curve-padded}
-use Rattle.outline.proofs.Steps.{outline-begins, outline-ends}
+use Rattle.outline.proofs.Steps.{outline-ended, outline-step, outline-begins, outline-ends}
 
 -- ---- what holds of every curve without a fault holds of each curve of an accepted list
 module _ (P : Curve → Type 0) (ns : List ℤ) (rule : (at : ℕ) → faultAt ns at ≡ none → P (curveAt ns at)) where
@@ -50,6 +50,22 @@ unfolding outlined
 accepted-some most [] cs e = clash (cc)
 accepted-some most (z ∷ ns) [] e = absurd (not-suc-le-zero (outline-ends most (z ∷ ns) 0 e))
 accepted-some most (z ∷ ns) (c ∷ cs) e = omega arith
+
+-- ---- curves that are accepted are accepted wherever so many may stand
+pub accepted-within : (left more : ℕ) (ns : List ℤ) (at : ℕ) (cs : List Curve) → outlineFrom left ns at ≡ curves cs → length cs ≤ more
+    → outlineFrom more ns at ≡ curves cs
+accepted-within left more ns at [] e h = outline-ended ns at more (outline-ends left ns at e)
+accepted-within left zero ns at (c ∷ cs) e h = absurd (not-suc-le-zero h)
+accepted-within left (suc more) ns at (c ∷ cs) e h =
+    let b = outline-begins left ns at c cs e in
+    outline-step ns at more (b .no-fault)
+    ∙ ap (withCurve (curveAt ns at)) (accepted-within (left - 1) more ns (nextAt ns at) cs (b .rest) (le-of-suc-le-suc h))
+    ∙ ap (λ (d : Curve). curves (d ∷ cs)) (sym (b .is))
+
+pub outlined-within : (most more : ℕ) (ns : List ℤ) (cs : List Curve) → outlined most ns ≡ curves cs → length cs ≤ more → outlined more ns ≡ curves cs
+unfolding outlined
+outlined-within most more [] cs e h = clash (cc)
+outlined-within most more (z ∷ ns) cs e h = accepted-within most more (z ∷ ns) 0 cs e h
 
 -- ---- halving has room, and the padding
 module _ (left : ℕ) (ns : List ℤ) (at : ℕ) where

@@ -7,4 +7,5 @@ pub mod PointBefore
 pub mod Steps
 pub mod Accepted
 pub mod Meeting
+pub mod Places
 pub mod Examples

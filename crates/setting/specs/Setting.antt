@@ -10,13 +10,21 @@ pub record Setting : Type 0 where
   -- how many pieces a leaf has, so that its break points are 0 to this number
   pub pieces : ℕ
 
--- that of a caller who gives lists and the number of pieces, m (request 05)
-abbrev pub lists : ℕ → Setting
-lists m = record { most = 64; pieces = m }
+-- at most so many curves, and m pieces
+abbrev pub limited : (most m : ℕ) → Setting
+limited most m = record { most = most; pieces = m }
 
--- that of texts, document 01's
+-- that of a caller who gives lists and the number of pieces, m (requests 05 and 06); every leaf list is judged in it
+abbrev pub lists : ℕ → Setting
+lists m = limited 4096 m
+
+-- that of a caller of lists with document 01's number of pieces, which texts keep
 abbrev pub standard : Setting
 standard = lists 3
+
+-- that of texts, which stop at their 65th curve
+abbrev pub texts : Setting
+texts = limited 64 3
 
 -- 18: the number of pieces is 1 to 8
 abbrev pub piecesFine : ℕ → Bool

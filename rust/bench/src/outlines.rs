@@ -20,6 +20,11 @@ pub fn cubics() -> Vec<i32> {
     outline
 }
 
+/// So many of them, the circle gone round as often as it takes: it ends where it begins.
+pub fn rounds(curves: usize) -> Vec<i32> {
+    cubics().into_iter().cycle().take(9 * curves).collect()
+}
+
 /// 64 quadratic arches whose leaves at T 44 are all at one depth, 0 to 8, with three pieces. A halving makes the second
 /// difference of a quadratic a quarter of what it was, everywhere alike.
 pub fn arches(depth: u32) -> Vec<i32> {

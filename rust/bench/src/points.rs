@@ -1,6 +1,6 @@
 //! The leaves and the points that the engines judge.
 
-use crate::outlines::cubics;
+use crate::outlines::{arches, cubics};
 use contour_band::record_length;
 
 /// How many leaves the points are judged against.
@@ -36,10 +36,32 @@ pub fn leaves(m: u32) -> Leaves {
     Leaves { records, m }
 }
 
+/// 256 records of three pieces for each of so many quadratic arches side by side, a multiple of 64: those of 64 arches,
+/// each time farther to the right and with the next curve numbers.
+pub fn many(arches_in_all: usize) -> Leaves {
+    const M: u32 = 3;
+    let mut records = vec![0; record_length(M) * 256 * 64];
+    contour_band::band(&arches(8), 44, M, &mut records).expect("the outline is accepted");
+    let first = records.clone();
+    for block in 1..arches_in_all as i32 / 64 {
+        for record in first.chunks_exact(record_length(M)) {
+            let start = records.len();
+            records.extend(record);
+            records[start] += 64 * block;
+            for b in records[start + 2..].chunks_exact_mut(4) {
+                b[0] += 16 * 64_000 * block;
+                b[1] += 16 * 64_000 * block;
+            }
+        }
+    }
+    Leaves { records, m: M }
+}
+
 /// A mixture of two boxes of a leaf. Leaves, covers and fractions change with `i` in great steps.
 fn mixture(leaves: &Leaves, i: usize) -> [i32; 4] {
     let length = record_length(leaves.m);
-    let record = &leaves.records[length * (617 * i % LEAVES)..][..length];
+    let count = leaves.records.len() / length;
+    let record = &leaves.records[length * (617 * count / 1_000 * i % count)..][..length];
     let start = 2 + 4 * (i % leaves.m as usize);
     let part = (7_919 * i % 1_001) as i64;
     [0, 1, 2, 3].map(|n| {

@@ -6,7 +6,7 @@ use crate::refusal::Refusal;
 /// What banding reports of an outline that it accepts.
 #[derive(Debug, Clone, Copy, PartialEq, Eq, Hash)]
 pub struct Report {
-    /// The curves of the outline, 1 to 64.
+    /// The curves of the outline, 1 to 4,096.
     pub curves: u64,
     /// The leaves, each written as one record.
     pub leaves: u64,
@@ -17,7 +17,7 @@ pub struct Report {
 /// Puts a band round an outline.
 ///
 /// `outline` has for each curve its degree d (1, 2 or 3), then x and y of its d + 1 control points
-/// in stage units, each from −1,048,576 to 1,048,576. There are 1 to 64 curves, and each begins where
+/// in stage units, each from −1,048,576 to 1,048,576. There are 1 to 4,096 curves, and each begins where
 /// the one before it ends; the outline may stay open at its ends. `tolerance` is the greatest diagonal
 /// of a box, 2 to 1,048,576 sixteenths of a unit. `m` is how many straight pieces a leaf has, 1 to 8: the
 /// more, the fewer leaves there are as a rule, and the longer is a record.

@@ -161,8 +161,8 @@ mod tests {
         assert_eq!(band(&[4], 2, 3, &mut records), refused(2, 0));
         assert_eq!(band(&[1, 0], 2, 3, &mut records), refused(3, 2));
         assert_eq!(band(&[1, 0, 0, 1_048_577, 0], 2, 3, &mut records), refused(4, 3));
-        assert_eq!(band(&[1, 0, 0, 0, 0].repeat(65), 2, 3, &mut records), refused(5, 320));
-        assert_eq!(band(&line.repeat(65), 2, 3, &mut records), refused(17, 5));
+        assert_eq!(band(&[1, 0, 0, 0, 0].repeat(4_097), 2, 3, &mut records), refused(5, 20_480));
+        assert_eq!(band(&line.repeat(4_097), 2, 3, &mut records), refused(17, 5));
         assert_eq!(band(&[], 2, 3, &mut records), refused(6, 0));
         assert_eq!(band(&steep, 2, 3, &mut records), refused(7, 256));
         assert_eq!(band(&line, 2, 3, &mut []), refused(8, 1));

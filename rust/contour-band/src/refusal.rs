@@ -31,9 +31,9 @@ pub enum Refusal {
         /// The index in the outline of the later curve's degree.
         index: usize,
     },
-    /// 5: the outline has more than 64 curves.
+    /// 5: the outline has more than 4,096 curves.
     TooManyCurves {
-        /// The index in the outline of the 65th curve's degree.
+        /// The index in the outline of the 4,097th curve's degree.
         index: usize,
     },
     /// 6: the outline has no curve.
@@ -55,8 +55,8 @@ pub enum Refusal {
         /// The leaf list's length.
         length: usize,
     },
-    /// 10: a number of the leaf list is bad: a curve is not 0 to 63, a node is not 1 to 511, a box
-    /// number is beyond ±[`FARTHEST`](crate::FARTHEST), or a low is above its high.
+    /// 10: a number of the leaf list is bad: a curve is not 0 to 4,095, a node is not 1 to 511, a
+    /// box number is beyond ±[`FARTHEST`](crate::FARTHEST), or a low is above its high.
     LeafListNumber {
         /// The index of the first such number; for a low above its high, the low's.
         index: usize,
@@ -156,7 +156,7 @@ impl fmt::Display for Refusal {
             Refusal::Degree { .. } => write!(f, "a degree is not 1, 2 or 3"),
             Refusal::CutShort { .. } => write!(f, "the outline ends inside a curve"),
             Refusal::Coordinate { .. } => write!(f, "a coordinate is outside its range"),
-            Refusal::TooManyCurves { .. } => write!(f, "the outline has more than 64 curves"),
+            Refusal::TooManyCurves { .. } => write!(f, "the outline has more than 4,096 curves"),
             Refusal::Gap { .. } => write!(f, "a curve does not begin where the one before it ends"),
             Refusal::EmptyOutline => write!(f, "the outline is empty"),
             Refusal::TooWide { curve, node } => {
@@ -202,7 +202,7 @@ mod tests {
             let refusal = Refusal::new(number, spot);
             assert_eq!((refusal.number(), refusal.spot()), (number, spot));
         }
-        assert_eq!(Refusal::new(7, 512 * 63 + 300), Refusal::TooWide { curve: 63, node: 300 });
+        assert_eq!(Refusal::new(7, 512 * 4_095 + 511), Refusal::TooWide { curve: 4_095, node: 511 });
     }
 
     #[test]

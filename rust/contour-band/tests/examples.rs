@@ -132,9 +132,9 @@ fn refusals_of_judging() {
     let (_, mut records) = written(&CURVE_A, 43);
     assert_eq!(judge(&[], M, 0, 0), Err(Refusal::LeafListLength { length: 0 }));
     assert_eq!(judge(&records[1..], M, 0, 0), Err(Refusal::LeafListLength { length: 35 }));
-    records[RECORD] = 64;
+    records[RECORD] = 4_096;
     assert_eq!(judge(&records, M, FARTHEST + 1, 0), Err(Refusal::LeafListNumber { index: 18 }));
-    records[RECORD] = 63;
+    records[RECORD] = 4_095;
     assert_eq!(judge(&records, M, FARTHEST + 1, 0), Err(Refusal::PointX));
     assert_eq!(judge(&records, M, 0, -FARTHEST - 1), Err(Refusal::PointY));
     // Refusals of banding come before those of the point, and leave the list as it was.

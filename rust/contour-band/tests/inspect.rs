@@ -46,7 +46,7 @@ fn both_say_what_is_wrong() {
     const NO_CURVE: &str = "(curve (x y) (x y) ..) of 2 to 4 points is expected";
     const NO_POINT: &str = "(point (x y)) is expected";
     let line = "(tolerance 2)\n(curve (0 0) (0 1))\n";
-    let too_many = format!("(tolerance 2)\n{}", "(curve (0 0) (0 0))\n".repeat(65));
+    let too_many = format!("(tolerance 2)\n{}", "(curve (0 0) (0 0))\n".repeat(4_097));
     let cases = [
         ("", "", NO_TOLERANCE.to_owned()),
         ("(tolerance )\n", "", NO_TOLERANCE.to_owned()),
@@ -64,7 +64,7 @@ fn both_say_what_is_wrong() {
         (line, "(point (0 0) (1 1))\n", format!("line 1: {NO_POINT}")),
         ("(tolerance 1)\n(curve (0 0) (0 1))\n", "", "refused 1 0".to_owned()),
         ("(tolerance 2)\n", "", "refused 6 0".to_owned()),
-        (&too_many, "", "refused 5 320".to_owned()),
+        (&too_many, "", "refused 5 20480".to_owned()),
         ("(tolerance 2)\n(curve (0 0) (0 1))\n(curve (0 0) (0 1))\n", "", "refused 17 5".to_owned()),
         ("(tolerance 2)\n(curve (0 0) (0 1048577))\n", "", "refused 4 4".to_owned()),
     ];

@@ -9,8 +9,8 @@ use std::io::Write;
 /// Numbers on each side of a lent list, which no engine may touch.
 const MARGIN: usize = 20;
 
-/// Enough numbers for the leaves of any outline with eight pieces, with some to spare.
-const LONGEST: usize = record_length(8) * 64 * 256 + 1_000;
+/// Enough numbers for 64 curves of 256 leaves and 4,200 of one, with eight pieces, and some to spare.
+const LONGEST: usize = record_length(8) * (64 * 256 + 4_200) + 1_000;
 
 /// What an engine answers.
 #[derive(Debug, Clone, Copy, PartialEq, Eq)]

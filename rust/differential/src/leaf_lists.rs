@@ -44,7 +44,7 @@ pub fn leaf_list(random: &mut Random) -> LeafList {
     let step = if random.one_in(2) { 1 } else { random.magnitude() };
     let mut numbers = Vec::new();
     for _ in 0..records {
-        numbers.push(random.pick(&[0, 1, 31, 63]));
+        numbers.push(random.pick(&[0, 1, 64, 4_095]));
         numbers.push(random.between(1, 511));
         boxes(random, m, step, &mut numbers);
     }
@@ -135,10 +135,10 @@ pub const AWKWARD: [i32; 16] = [
     0,
     1,
     2,
-    63,
-    64,
     511,
     512,
+    4_095,
+    4_096,
     FARTHEST,
     FARTHEST + 1,
     i32::MAX - 1,

@@ -6,6 +6,9 @@ use crate::random::Random;
 /// The largest coordinate and its negative are in range, 1 more is not.
 pub const EDGE: i32 = 1_048_576;
 
+/// So many curves are taken, 1 more is not.
+pub const MOST_CURVES: usize = 4_096;
+
 /// How the control values of a curve are drawn.
 #[derive(Debug, Clone, Copy)]
 enum Shape {
@@ -37,13 +40,13 @@ pub fn tolerance(random: &mut Random) -> i32 {
 /// sixteenths high, before it is rounded. It is 16 × G × D / 10000 at depth 0.
 const STEEP: [i32; 8] = [4_740, 18_300, 40_000, 74_500, 117_000, 168_000, 229_000, 296_000];
 
-/// 64 cubics, each from where the one before ends, with 256 leaves of m pieces at a tolerance of 3: their
+/// So many cubics, each from where the one before ends, with 256 leaves of m pieces at a tolerance of 3: their
 /// second differences are 0 and 0 in x, −D and −D in y.
-pub fn deepest(random: &mut Random, m: u32) -> Vec<i32> {
+pub fn deepest(random: &mut Random, curves: usize, m: u32) -> Vec<i32> {
     let steep = STEEP[m as usize - 1];
     let highest = EDGE - steep - 20_000;
     let mut outline: Vec<i32> = Vec::new();
-    while outline.len() < 9 * 64 {
+    while outline.len() < 9 * curves {
         let (x, y) = match outline[..] {
             [.., x, y] => (x, y),
             _ => (random.between(-EDGE, EDGE), random.between(-EDGE, highest)),
@@ -163,9 +166,10 @@ pub fn damage(random: &mut Random, outline: &mut Vec<i32>, tolerance: &mut i32, 
             7 => pieces::damage(random, m),
             8 if starts(outline).len() > 1 => part(random, outline),
             _ => {
-                // Past 64 curves, with or without an end inside the last one.
+                // Many curves more, at times past the most, with or without an end inside the last one.
                 let [x, y] = if let [.., x, y] = outline[..] { [x, y] } else { [0, 0] };
-                let lines = 65 - random.below(4);
+                let most = if random.one_in(100) { MOST_CURVES } else { 64 };
+                let lines = most + 1 - random.below(4);
                 outline.extend([1, x, y, x, y].repeat(lines));
                 outline.truncate(outline.len() - random.below(5));
             }

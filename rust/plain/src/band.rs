@@ -23,9 +23,20 @@ pub struct Report {
 /// Writes the leaf records of an outline, at a tolerance in sixteenths and with m pieces to a leaf, to the
 /// front of `records`. Numbers past them stay as they were, and so do all where the answer is a refusal.
 pub fn band(outline: &[i32], tolerance: i32, m: u32, records: &mut [i32]) -> Result<Report, Refusal> {
+    band_most(outline, outline::MOST_CURVES, tolerance, m, records)
+}
+
+/// Bands an outline that may have `most` curves.
+pub fn band_most(
+    outline: &[i32],
+    most: usize,
+    tolerance: i32,
+    m: u32,
+    records: &mut [i32],
+) -> Result<Report, Refusal> {
     check_pieces(m)?;
     outline::check_tolerance(tolerance)?;
-    let curves = outline::curves(outline)?;
+    let curves = outline::curves(outline, most)?;
     for_pieces!(m, band_curves)(&curves, tolerance, records)
 }
 

@@ -5,7 +5,7 @@ use crate::refusal::Refusal;
 use std::ops::RangeInclusive;
 
 /// Curve numbers that a record may have.
-const CURVES: RangeInclusive<i32> = 0..=63;
+const CURVES: RangeInclusive<i32> = 0..=4_095;
 
 /// Nodes that a record may have.
 const NODES: RangeInclusive<i32> = 1..=511;
@@ -75,7 +75,7 @@ mod tests {
     fn two_records(m: u32) -> Vec<i32> {
         let numbers = 4 * (m as i32 + 1);
         let first = [0, 1].into_iter().chain((0..numbers).map(|n| n - 9));
-        first.chain([63, 511]).chain((0..numbers).map(|n| 5 * n - 40)).collect()
+        first.chain([4_095, 511]).chain((0..numbers).map(|n| 5 * n - 40)).collect()
     }
 
     fn check(m: u32, leaves: &[i32]) -> Result<(), Refusal> {
@@ -115,13 +115,13 @@ mod tests {
     #[test]
     fn curves_and_nodes_have_their_ranges() {
         for (m, start) in (1..=8).flat_map(|m| [(m, 0), (m, record_length(m))]) {
-            for curve in [i32::MIN, -1, 64, i32::MAX] {
+            for curve in [i32::MIN, -1, 4_096, i32::MAX] {
                 assert_eq!(with(m, start, curve), bad(start));
             }
             for node in [i32::MIN, -1, 0, 512, i32::MAX] {
                 assert_eq!(with(m, start + 1, node), bad(start + 1));
             }
-            for curve in [0, 1, 63] {
+            for curve in [0, 1, 63, 64, 4_095] {
                 assert_eq!(with(m, start, curve), Ok(()));
             }
             for node in [1, 2, 511] {

@@ -13,8 +13,8 @@ const COORDINATES: RangeInclusive<i32> = -1_048_576..=1_048_576;
 /// Degrees that are taken.
 const DEGREES: RangeInclusive<i32> = 1..=3;
 
-/// How many curves an outline may have.
-const MOST_CURVES: usize = 64;
+/// How many curves an outline that is given as a list may have.
+pub const MOST_CURVES: usize = 4_096;
 
 /// Check 1.
 pub fn check_tolerance(tolerance: i32) -> Result<(), Refusal> {
@@ -25,8 +25,8 @@ pub fn check_tolerance(tolerance: i32) -> Result<(), Refusal> {
     }
 }
 
-/// The curves of an outline, after checks 6 and, curve by curve, 5, 2, 3, 4 and 17.
-pub fn curves(outline: &[i32]) -> Result<Vec<Curve>, Refusal> {
+/// The curves of an outline that may have `most`, after checks 6 and, curve by curve, 5, 2, 3, 4 and 17.
+pub fn curves(outline: &[i32], most: usize) -> Result<Vec<Curve>, Refusal> {
     if outline.is_empty() {
         return Err(Refusal::EmptyOutline);
     }
@@ -34,7 +34,7 @@ pub fn curves(outline: &[i32]) -> Result<Vec<Curve>, Refusal> {
     let mut end: Option<&[i32]> = None;
     let mut index = 0;
     while index < outline.len() {
-        if curves.len() == MOST_CURVES {
+        if curves.len() == most {
             return Err(Refusal::TooManyCurves { index });
         }
         let degree = degree(outline[index]).ok_or(Refusal::Degree { index })?;
@@ -68,8 +68,13 @@ mod tests {
     /// A line of no length, which meets itself.
     const STILL: [i32; 5] = [1, 0, 1, 0, 1];
 
+    /// How many curves an outline of a list has.
+    fn count(outline: &[i32]) -> Result<usize, Refusal> {
+        curves(outline, MOST_CURVES).map(|curves| curves.len())
+    }
+
     fn refusal(outline: &[i32]) -> Refusal {
-        curves(outline).expect_err("the outline is faulty")
+        count(outline).expect_err("the outline is faulty")
     }
 
     #[test]
@@ -93,7 +98,7 @@ mod tests {
         for degree in 1..=3 {
             let mut outline = vec![0; 3 + 2 * degree];
             outline[0] = degree as i32;
-            assert_eq!(curves(&outline).map(|c| c.len()), Ok(1));
+            assert_eq!(count(&outline), Ok(1));
         }
     }
 
@@ -122,21 +127,33 @@ mod tests {
             }
         }
         for good in [-1_048_576, 1_048_576] {
-            assert!(curves(&[1, good, good, good, good]).is_ok());
+            assert_eq!(count(&[1, good, good, good, good]), Ok(1));
         }
     }
 
     #[test]
-    fn a_65th_curve_is_named_before_anything_of_it_is_read() {
-        let mut outline = STILL.repeat(64);
-        assert_eq!(curves(&outline).map(|c| c.len()), Ok(64));
-        outline.push(9);
-        assert_eq!(refusal(&outline), Refusal::TooManyCurves { index: 320 });
-        outline.extend([5, 5, 5, 5]);
-        outline[320] = 1;
-        assert_eq!(refusal(&outline), Refusal::TooManyCurves { index: 320 });
-        outline[316] = i32::MIN;
-        assert_eq!(refusal(&outline), Refusal::Coordinate { index: 316 });
+    fn a_curve_too_many_is_named_before_anything_of_it_is_read() {
+        for most in [1, 2, 64, MOST_CURVES] {
+            let mut outline = STILL.repeat(most);
+            let index = outline.len();
+            let refusal = |outline: &[i32]| curves(outline, most).expect_err("the outline is faulty");
+            assert_eq!(curves(&outline, most).map(|curves| curves.len()), Ok(most));
+            outline.push(9);
+            assert_eq!(refusal(&outline), Refusal::TooManyCurves { index });
+            outline.extend([5, 5, 5, 5]);
+            outline[index] = 1;
+            assert_eq!(refusal(&outline), Refusal::TooManyCurves { index });
+            outline[index - 4] = i32::MIN;
+            assert_eq!(refusal(&outline), Refusal::Coordinate { index: index - 4 });
+        }
+    }
+
+    #[test]
+    fn lists_have_up_to_4096_curves() {
+        for curves in [64, 65, 4_095, 4_096] {
+            assert_eq!(count(&STILL.repeat(curves)), Ok(curves));
+        }
+        assert_eq!(refusal(&STILL.repeat(4_097)), Refusal::TooManyCurves { index: 20_480 });
     }
 
     /// A curve of each degree from a point to another, through points that are neither.
@@ -151,9 +168,8 @@ mod tests {
     fn a_curve_begins_at_the_last_point_of_the_curve_before() {
         for (first, second) in (1..=3).flat_map(|first| (1..=3).map(move |second| (first, second))) {
             let index = 3 + 2 * first as usize;
-            let after =
-                |start| curves(&[curve(first, [3, 4], [5, 6]), curve(second, start, [8, 9])].concat());
-            assert_eq!(after([5, 6]).map(|c| c.len()), Ok(2));
+            let after = |start| count(&[curve(first, [3, 4], [5, 6]), curve(second, start, [8, 9])].concat());
+            assert_eq!(after([5, 6]), Ok(2));
             // Off by one, the first point of the curve before, the point before the last, the padding.
             for start in [[4, 6], [6, 6], [5, 5], [5, 7], [3, 4], [70, 80], [72, 82], [0, 0], [6, 5]] {
                 assert_eq!(after(start), Err(Refusal::Gap { index }));
@@ -163,9 +179,9 @@ mod tests {
 
     #[test]
     fn an_outline_may_stay_open_and_have_curves_of_no_length() {
-        assert_eq!(curves(&curve(3, [3, 4], [5, 6])).map(|c| c.len()), Ok(1));
+        assert_eq!(count(&curve(3, [3, 4], [5, 6])), Ok(1));
         let still = [LINE, STILL, STILL].concat();
-        assert_eq!(curves(&still).map(|c| c.len()), Ok(3));
+        assert_eq!(count(&still), Ok(3));
     }
 
     #[test]

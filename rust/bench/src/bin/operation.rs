@@ -3,12 +3,13 @@
 //!
 //! `operation ENGINE OPERATION INPUT TIMES`. ENGINE is plain, proved or sampled. OPERATION and INPUT are
 //! band with an outline, a number of curves or a depth where it has one, a tolerance and m, as in
-//! nominal:16:3, cubics-64:16:8 and arches-3:44:3, which prints the number of leaves; judge with the place
-//! of the points and m, as in near:3; draw with the shape of the boxes.
+//! nominal:16:3, cubics-64:16:8 and arches-3:44:3; judge with the place of the points and m, as in near:3, and
+//! with a number of curves where each is to have 256 leaves, as in near-4096:3; draw with the shape of the
+//! boxes. The first two print the number of leaves.
 
 use bench::sampled::{self, Packing, M};
 use bench::{outlines, pairs, points};
-use contour_band::record_length;
+use contour_band::{record_length, Refusal};
 use std::hint::black_box;
 use std::process::ExitCode;
 
@@ -41,16 +42,20 @@ fn band(engine: &str, input: &str, times: usize) -> Option<()> {
     let (rest, m) = with_pieces(input)?;
     let (name, tolerance) = rest.split_once(':')?;
     let outline = match name.split_once('-') {
-        Some(("cubics", curves)) => outlines::cubics().get(..9 * curves.parse::<usize>().ok()?)?.to_vec(),
+        Some(("cubics", curves)) => outlines::rounds(curves.parse().ok()?),
         Some(("arches", depth)) => outlines::arches(depth.parse().ok()?),
         None if name == "nominal" => outlines::nominal(),
         _ => return None,
     };
     let tolerance = tolerance.parse().ok()?;
-    let mut records = vec![0; 64 * 256 * record_length(m)];
+    // An empty list asks how many leaves there are.
+    let Err(Refusal::TooFewRecords { leaves }) = contour_band::band(&outline, tolerance, m, &mut []) else {
+        return None;
+    };
+    let mut records = vec![0; leaves * record_length(m)];
     let report = contour_band::band(&outline, tolerance, m, &mut records).ok()?;
     let mut leaves = vec![0; report.curves as usize];
-    for record in records.chunks_exact(record_length(m)).take(report.leaves as usize) {
+    for record in records.chunks_exact(record_length(m)) {
         leaves[record[0] as usize] += 1;
     }
     for _ in 0..times {
@@ -68,8 +73,14 @@ fn band(engine: &str, input: &str, times: usize) -> Option<()> {
 
 /// Judges one point at a time.
 fn judge(engine: &str, input: &str, times: usize) -> Option<()> {
-    let (place, m) = with_pieces(input)?;
-    let leaves = points::leaves(m);
+    let (name, m) = with_pieces(input)?;
+    let (place, leaves) = match name.split_once('-') {
+        Some((place, curves)) => (place, points::many(curves.parse().ok()?)),
+        None => (name, points::leaves(m)),
+    };
+    if leaves.m != m {
+        return None;
+    }
     let points = match place {
         "near" => points::near(&leaves),
         "beside" => points::beside(&leaves),
@@ -86,6 +97,7 @@ fn judge(engine: &str, input: &str, times: usize) -> Option<()> {
         };
         assert_eq!(refused, place == "refused");
     }
+    println!("{}", leaves.records.len() / record_length(m));
     Some(())
 }
 

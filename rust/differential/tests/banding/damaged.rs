@@ -3,7 +3,7 @@
 
 use differential::banding::Answer::{self, Accepted, Refused};
 use differential::banding::Comparison;
-use differential::outlines::{starts, AWKWARD, EDGE};
+use differential::outlines::{starts, AWKWARD, EDGE, MOST_CURVES};
 use differential::pieces::WRONG;
 use plain::record_length;
 use std::collections::BTreeSet;
@@ -159,7 +159,7 @@ fn first(curves: &[Vec<i32>], faults: &[Fault], length: usize) -> Option<(u32, u
     }
     let mut index = 0;
     for (at, curve) in curves.iter().enumerate() {
-        if at == 64 {
+        if at == MOST_CURVES {
             return Some((5, index as u64));
         }
         if has(&|f| matches!(f, Degree(place, _) if *place == at)) {
@@ -217,7 +217,7 @@ fn faults(count: usize, places: &[usize]) -> Vec<Fault> {
     let mut faults = vec![Empty, Lent(true), Lent(false)];
     faults.extend([i32::MIN, -1, 0, 1, EDGE + 1, i32::MAX].map(Tolerance));
     faults.extend(WRONG.map(Pieces));
-    faults.extend([65, 66].map(Curves));
+    faults.extend([MOST_CURVES + 1, MOST_CURVES + 2].map(Curves));
     faults.extend((1..9).map(Cut));
     for &at in places {
         faults.extend([i32::MIN, -1, 0, 4, i32::MAX].map(|degree| Degree(at, degree)));
@@ -265,14 +265,14 @@ fn every_two_faults() {
     let mut pairs = BTreeSet::new();
     // Each m in turn.
     let mut turns = (1..=8).cycle();
-    // Four curves, and 65 or 66 with faults before, in and after the 65th.
-    for (count, places) in [(4, &[0, 1, 2, 3][..]), (64, &[0, 1, 62, 63, 64, 65])] {
+    // Four curves, and one or two too many with faults before, in and after the first of these.
+    for (count, places) in [(4, &[0, 1, 2, 3][..]), (MOST_CURVES, &[0, 1, 4_094, 4_095, 4_096, 4_097])] {
         let faults = faults(count, places);
         for &one in &faults {
             for &other in &faults {
                 // The long outlines are for 5 only.
                 let many = matches!(one, Curves(_)) || matches!(other, Curves(_));
-                if one == other || (count == 64) != many {
+                if one == other || (count == MOST_CURVES) != many {
                     continue;
                 }
                 let m = turns.next().expect("a cycle has no end");

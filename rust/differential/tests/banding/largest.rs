@@ -1,4 +1,4 @@
-//! Outlines with the most curves and the most leaves.
+//! Outlines whose curves have the most leaves.
 
 use differential::banding::Answer::{Accepted, Refused};
 use differential::banding::Comparison;
@@ -12,7 +12,7 @@ fn the_most_leaves() {
     let mut comparison = Comparison::new("banding, the most leaves, seed 601", seed);
     let mut random = Random::new(seed);
     for m in 1..=8 {
-        let mut outline = deepest(&mut random, m);
+        let mut outline = deepest(&mut random, 64, m);
         comparison.tally.outlines += 1;
         let answer = comparison.band_into_every_length(&outline, 3, m);
         assert_eq!(answer, Accepted { curves: 64, leaves: 16_384, nodes: 32_704 });

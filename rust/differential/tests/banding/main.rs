@@ -5,5 +5,6 @@ mod edges;
 mod examples;
 mod largest;
 mod meeting;
+mod most_curves;
 mod random;
 mod short_lists;

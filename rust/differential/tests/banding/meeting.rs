@@ -2,7 +2,7 @@
 
 use differential::banding::Answer::{self, Accepted, Refused};
 use differential::banding::Comparison;
-use differential::outlines::{in_range, EDGE};
+use differential::outlines::{in_range, EDGE, MOST_CURVES};
 use differential::pieces::pieces;
 use differential::random::Random;
 
@@ -130,8 +130,10 @@ fn the_first_gap_of_many_curves() {
     let seed = 612;
     let mut comparison = Comparison::new("banding, gaps among many curves, seed 612", seed);
     let mut random = Random::new(seed);
-    for curves in [3, 4, 10, 63, 64, 65, 66] {
-        for _ in 0..200 {
+    let few = [3, 4, 10, 64, 65].map(|curves| (curves, 200, 44));
+    let many = [MOST_CURVES, MOST_CURVES + 1].map(|curves| (curves, 20, EDGE));
+    for (curves, times, tolerance) in few.into_iter().chain(many) {
+        for _ in 0..times {
             // None, one or two of them begin elsewhere.
             let gaps: Vec<usize> = (0..random.below(3)).map(|_| 1 + random.below(curves - 1)).collect();
             let mut outline: Vec<Vec<i32>> = Vec::new();
@@ -145,11 +147,11 @@ fn the_first_gap_of_many_curves() {
                 outline.push(curve(&mut random, degree, start));
             }
             comparison.tally.outlines += 1;
-            let answer = comparison.band_into_every_length(&outline.concat(), 44, pieces(&mut random));
-            let most = &outline[..curves.min(64)];
+            let answer = comparison.band_into_every_length(&outline.concat(), tolerance, pieces(&mut random));
+            let most = &outline[..curves.min(MOST_CURVES)];
             match expected(most) {
                 Some(refused) => assert_eq!(answer, refused),
-                None if curves > 64 => assert_eq!(answer, Refused(5, most.concat().len() as u64)),
+                None if curves > MOST_CURVES => assert_eq!(answer, Refused(5, most.concat().len() as u64)),
                 None => assert!(matches!(answer, Accepted { .. } | Refused(7, _))),
             }
         }
@@ -157,7 +159,7 @@ fn the_first_gap_of_many_curves() {
     let refused = &comparison.tally.refused;
     assert!(
         refused[17] > 500
-            && refused[5] > 100
+            && refused[5] > 4
             && comparison.tally.accepted.iter().all(|&accepted| accepted > 10)
     );
     comparison.report();

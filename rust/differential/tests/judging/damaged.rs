@@ -24,7 +24,7 @@ const BOXES: [[i32; 4]; 9] = [
 /// Three records of m pieces that pass. One of them has the box that holds all.
 fn records(m: u32) -> Vec<i32> {
     let mut records = Vec::new();
-    for (number, head) in [[0, 1], [63, 511], [31, 256]].into_iter().enumerate() {
+    for (number, head) in [[0, 1], [4_095, 511], [64, 256]].into_iter().enumerate() {
         records.extend(head);
         let boxes = BOXES.iter().cycle().skip(3 * number).take(m as usize + 1);
         records.extend(boxes.flatten());
@@ -129,7 +129,7 @@ fn faults(m: u32) -> Vec<Fault> {
     faults.extend((1..record).chain([record + 1]).map(Longer));
     for index in 0..3 * record {
         let bad: &[i32] = match index % record {
-            0 => &[i32::MIN, -1, 64, i32::MAX],
+            0 => &[i32::MIN, -1, 4_096, i32::MAX],
             1 => &[i32::MIN, -1, 0, 512, i32::MAX],
             _ => &[i32::MIN, -FARTHEST - 1, FARTHEST + 1, i32::MAX],
         };

@@ -12,7 +12,7 @@ fn the_most_leaves() {
     let mut comparison = Comparison::new("judging, the most leaves, seed 731");
     let mut random = Random::new(731);
     for m in 1..=8 {
-        let outline = deepest(&mut random, m);
+        let outline = deepest(&mut random, 64, m);
         let band = Band::new(&outline, 3, m).expect("the outline is accepted");
         assert_eq!(band.records.len(), record_length(m) * 16_384);
         let list = LeafList::new(band.records.clone(), m);

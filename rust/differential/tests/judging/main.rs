@@ -6,6 +6,7 @@ mod examples;
 mod finest;
 mod first;
 mod largest;
+mod most_records;
 mod pieces;
 mod random;
 mod small;

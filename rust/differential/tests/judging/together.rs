@@ -31,7 +31,7 @@ fn examples() {
 fn orders() {
     const STEEP: [i32; 9] = [3, 0, 0, 0, 1_048_576, 0, 1_048_576, 0, 0];
     const ENDS: [i32; 7] = [i32::MIN, -FARTHEST - 1, -FARTHEST, 0, FARTHEST, FARTHEST + 1, i32::MAX];
-    let many = [1, 0, 0, 0, 0].repeat(65);
+    let many = [1, 0, 0, 0, 0].repeat(4_097);
     let apart = [1, 0, 0, 0, 1].repeat(2);
     let calls: [(&[i32], i32, u32, usize, Option<(u32, u64)>); 18] = [
         (&CURVE_A, 44, 0, 18, Some((18, 0))),
@@ -39,7 +39,7 @@ fn orders() {
         (&[], 44, u32::MAX, 0, Some((18, 0))),
         (&CURVE_A, 1, 3, 18, Some((1, 0))),
         (&[], 44, 3, 18, Some((6, 0))),
-        (&many, 44, 3, 18, Some((5, 320))),
+        (&many, 44, 3, 18, Some((5, 20_480))),
         (&[4], 44, 3, 18, Some((2, 0))),
         (&CURVE_A[..8], 44, 3, 18, Some((3, 8))),
         (&[1, 0, 0, 1_048_577, 0], 44, 3, 18, Some((4, 3))),

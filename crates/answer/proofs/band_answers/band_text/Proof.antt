@@ -4,11 +4,11 @@ use Rattle.answer.proofs.Bands.{kept-inside, kept-length, refused-band,
 use Rattle.answer.proofs.band_answers.band_text.Statement.{statement}
 use Rattle.answer.proofs.band_answers.band_text.Tie as tie
 
-slice-reshare-prefix-band : tie.Need-slice-reshare-prefix-band
-slice-reshare-prefix-band c = search kept-inside
+slice-reshare-prefix-band-most : tie.Need-slice-reshare-prefix-band-most
+slice-reshare-prefix-band-most c = search kept-inside
 
-slice-aggregate-band : tie.Need-slice-aggregate-band
-slice-aggregate-band c = search kept-length
+slice-aggregate-band-most : tie.Need-slice-aggregate-band-most
+slice-aggregate-band-most c = search kept-length
 
 returns : tie.Need-returns
 returns c = (search refused-band, search refused-records)
@@ -20,5 +20,5 @@ pub band-text-spec : {M : Type 1} → statement M
 band-text-spec =
     tie.close
     (tie.spec (λ c κs. search needs) (λ c. search needs) (λ c. search needs) (λ c κs. search needs)
-    slice-reshare-prefix-band slice-aggregate-band (λ c κs. search needs) returns (λ c. search needs)
+    slice-reshare-prefix-band-most slice-aggregate-band-most (λ c κs. search needs) returns (λ c. search needs)
     (λ c. search needs) returns-2)
