@@ -61,6 +61,14 @@ extern "C" {
 #define CONTOUR_BAND_COORDINATE_MAX 1048576
 #define CONTOUR_BAND_CURVES_MAX 4096
 
+/* What the bench station takes; how many numbers it must lend for its leaves at most; and how many bytes of stack its call
+ * takes at most, whatever it is given. The call calls nothing but functions of the library, none of which calls itself or
+ * has an array that goes with the input; rust/contour-band/tests/stack.c measures it. */
+#define CONTOUR_BAND_STATION_CURVES_MAX 64
+#define CONTOUR_BAND_STATION_LEAVES_MAX 128
+#define CONTOUR_BAND_STATION_ROOM(m) (CONTOUR_BAND_STATION_LEAVES_MAX * CONTOUR_BAND_RECORD(m))
+#define CONTOUR_BAND_STATION_STACK 4096
+
 /* The largest number of a box and of a point, in sixteenths of a stage unit; its negative is the least. */
 #define CONTOUR_BAND_FARTHEST 536870912
 
@@ -68,19 +76,20 @@ extern "C" {
 #define CONTOUR_BAND_VERTEX_ROOM 16
 
 /* The refusals, each with its condition and its spot. They stand in the order in which an operation tries them: banding 18, 1
- * to 8 and 17 (5, 2, 3, 4 and 17 curve by curve), judging 18 and 9 to 11, banding and judging together those of banding and
- * then 11, drawing 12 and 13. A refusal leaves every lent list as it was. */
+ * to 8 and 17 (5, 2, 3, 4 and 17 curve by curve), and 19 for the bench station alone; judging 18 and 9 to 11, banding and
+ * judging together those of banding and then 11, drawing 12 and 13. A refusal leaves every lent list as it was. */
 enum contour_band_refusal {
     CONTOUR_BAND_ACCEPTED = 0,         /* nothing is refused; 0 */
     CONTOUR_BAND_PIECES = 18,          /* m is not 1 to 8; 0 */
     CONTOUR_BAND_TOLERANCE = 1,        /* the tolerance is outside its range; 0 */
     CONTOUR_BAND_EMPTY_OUTLINE = 6,    /* the outline has no number; 0 */
-    CONTOUR_BAND_TOO_MANY_CURVES = 5,  /* a 4,097th curve begins; the index of its degree */
+    CONTOUR_BAND_TOO_MANY_CURVES = 5,  /* a 4,097th curve begins, for the bench station a 65th; the index of its degree */
     CONTOUR_BAND_DEGREE = 2,           /* a degree is not 1, 2 or 3; its index */
     CONTOUR_BAND_CUT_SHORT = 3,        /* the outline ends inside a curve; the outline's length */
     CONTOUR_BAND_COORDINATE = 4,       /* a coordinate is outside its range; the index of the curve's first such */
     CONTOUR_BAND_GAP = 17,             /* a curve does not begin where the one before it ends; the index of its degree */
     CONTOUR_BAND_TOO_WIDE = 7,         /* a box at depth 8 has a longer diagonal than the tolerance; 512 * curve + node, for the first */
+    CONTOUR_BAND_TOO_MANY_LEAVES = 19, /* the bench station's outline has more than 128 leaves; the number of leaves */
     CONTOUR_BAND_TOO_FEW_RECORDS = 8,  /* records_length is less than (6 + 4 * m) * leaves; the number of leaves */
     CONTOUR_BAND_LEAVES_LENGTH = 9,    /* leaves_length is 0 or no multiple of 6 + 4 * m; leaves_length */
     CONTOUR_BAND_LEAVES_NUMBER = 10,   /* a number of the leaves is bad, see contour_judge; the index of the first such */
@@ -116,6 +125,18 @@ struct contour_band_answer {
  * that is otherwise accepted, so its spot says how many leaves to lend room for. */
 struct contour_band_answer contour_band(const int32_t *outline, size_t outline_length, int32_t tolerance, uint32_t m,
                                         int32_t *records, size_t records_length);
+
+/* Puts a band round an outline as contour_band does, for the bench station: at most 64 curves and 128 leaves are taken.
+ *
+ * The parameters and the answer are those of contour_band. CONTOUR_BAND_STATION_ROOM(m) numbers of records are always enough.
+ * What this accepts, contour_band accepts with the same report and the same records; and what contour_band accepts with at
+ * most 64 curves and 128 leaves, this accepts.
+ *
+ * Refused: as in contour_band, but 5 falls on the 65th curve, and 19 comes after 7 and before 8: however long the records
+ * are, its spot is the number of all leaves. With a records_length of 0 the answer to any outline that is otherwise accepted
+ * is 8 or 19, and its spot says how many leaves there are. */
+struct contour_band_answer contour_station_band(const int32_t *outline, size_t outline_length, int32_t tolerance,
+                                                uint32_t m, int32_t *records, size_t records_length);
 
 /* What judging answers. */
 struct contour_band_judgement {

@@ -19,7 +19,8 @@ use Rattle.setting.specs.Setting.{standard, texts, recordLength}
 use Rattle.band.specs.declared.banding.Banded.{Banded}
 use Rattle.band.specs.declared.banding.Banded.the-variants.{Done, Refused}
 use Rattle.band.specs.Banding.{written}
-use Rattle.band.proofs.Theorems.{done-exactly, done-listed, written-listed, written-some, written-sound}
+use Rattle.band.proofs.Theorems.{done-exactly, written-some, written-sound}
+use Rattle.band.proofs.Station.{done-listed, written-listed}
 use Rattle.engine.proofs.Outcomes.{done-room}
 use Rattle.engine.proofs.Passing.{length-fine, no-bad-number}
 use Rattle.write_numbers.specs.Appends.{Appended, PutWithin}

@@ -13,7 +13,8 @@ use Rattle.curve_nodes.specs.declared.Curve.{Curve}
 use Rattle.band.specs.declared.banding.Banded.the-variants.{Done}
 use Rattle.band.specs.Banding.{banded, written}
 use Rattle.band.specs.Outcomes.{Faultless}
-use Rattle.band.proofs.Theorems.{done-exactly, done-listed, faultless-listed, written-listed, written-sound}
+use Rattle.band.proofs.Theorems.{done-exactly, written-sound}
+use Rattle.band.proofs.Station.{faultless-listed}
 use Rattle.judge.specs.declared.judging.Judgement.{Judgement}
 use Rattle.judge.specs.declared.judging.Judgement.the-variants.{On, Off, Refused}
 use Rattle.judge.specs.Judging.{pointFault, judgingFault, Verdict, Judged}
@@ -21,7 +22,7 @@ use Rattle.judge.specs.Judgements.{judgement}
 use Rattle.judge.proofs.Answers.{judged-found}
 use Rattle.judge.proofs.Judgements.{is-judged}
 use Rattle.engine.specs.Demand3.{IsOn, Demand3}
-use Rattle.engine.proofs.Demand3.{demand-3}
+use Rattle.engine.proofs.Demand3.{demand-3-listed}
 use Rattle.engine.proofs.Meeting.{same-curves}
 use Rattle.text_lines.specs.Meaning.{means, meaning}
 use Rattle.write_lines.specs.Answers.{refusedLine, onLine, offLine}
@@ -70,13 +71,10 @@ module _ (T : ℤ) (outline : List ℤ) (a b c : ℕ) (done : banded texts T out
   -- the engine's demand 3, of the answer that judging gives; the leaves are those that the outline has as a list
   demand : (x y : ℤ) → Demand3 standard T (done-curves .0) leaves x y (judgement standard leaves x y)
   demand x y =
-      let zeros = replicate lent (pos 0) in
-      let rs = take (recordLength standard * b) (written standard T outline zeros) in
-      let j = judgement standard rs x y in
-      let d = demand-3 standard T outline zeros a b c (done-listed texts few T outline (length zeros) zeros-lent) x y j (is-judged standard rs x y) in
-      rw (written-listed texts few T outline zeros zeros-lent)
-      (subst (λ cs. Demand3 standard T cs rs x y j) (same-curves (d .are) (faultless-listed texts few T outline (done-curves .1) .outline))
-      (d .demand-3))
+      let j = judgement standard leaves x y in
+      let d = demand-3-listed texts few T outline (replicate lent (pos 0)) a b c zeros-lent x y j (is-judged standard leaves x y) in
+      subst (λ cs. Demand3 standard T cs leaves x y j) (same-curves (d .are) (faultless-listed texts few T outline (done-curves .1) .outline))
+      (d .demand-3)
 
   -- where the point is in range nothing is refused, so what judging says of the leaves is the line
   passes : (x y : ℤ) → pointFault x y ≡ none → judgingFault standard leaves x y ≡ none

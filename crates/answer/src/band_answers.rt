@@ -19,7 +19,7 @@ pub fn band_text(text: &[u8], numbers: &mut [i32], records: &mut [i32]) -> Bande
         TextCheck::TextRefused(refusal) => Banded::Refused(refusal),
         TextCheck::TextFine(tolerance) => {
             let n = text_outline::keep_outline(text, numbers);
-            band::band_most(&numbers[..n], 64, tolerance, 3, records)
+            band::band_most(&numbers[..n], 64, 16384, tolerance, 3, records)
         }
     }
 }

@@ -1,7 +1,6 @@
 -- What banding answers and leaves in the list, from what its two passes find.
 use mathlib.Core.Path.{_≡_, refl, sym, _∙_, ap, ap₂, subst}
 use mathlib.Core.Bool.{true, false}
-use mathlib.Core.Logic.{⊎-elim}
 use mathlib.Core.List.{List, [], _∷_, _++_}
 use mathlib.Core.Option.{Option, none, some}
 use Prim.Native.Nat.{ℕ, suc, _+_, _-_, _*_, _^_, _≤_, _<_}
@@ -11,10 +10,9 @@ use borrow.Author.Tests.{lt-ltb, le-ltb}
 use lib.ListN.{length, length-append, drop}
 use lib.Seq.{sets, sets-eq}
 use lib.IntN.{ℤ}
-use Rattle.integers.proofs.Order.{lt-or-ge}
-use Rattle.setting.specs.Setting.{Setting, lists, piecesFine, recordLength}
+use Rattle.setting.specs.Setting.{Setting, limited, piecesFine, recordLength}
 use Rattle.refusals.specs.declared.Refusal.{Refusal}
-use Rattle.refusals.specs.declared.Refusal.the-variants.{Tolerance, TooFewRecords, Pieces}
+use Rattle.refusals.specs.declared.Refusal.the-variants.{Tolerance, TooFewRecords, Pieces, TooManyLeaves}
 use Rattle.curve_nodes.specs.declared.Curve.{Curve}
 use Rattle.outline.specs.declared.Checked.the-variants.{Curves, Faulty}
 use Rattle.outline.specs.Checks.{toleranceFine, curves, outlineFrom, outlined}
@@ -31,7 +29,10 @@ use Rattle.band.specs.Banding.{bandCurves, writtenBy, banded, written}
 use Rattle.band_passes.specs.Inside.{Readable, countedOf, Fillable}
 use Rattle.band_passes.proofs.Counting.{nodes-of-curves, few-leaves}
 use Rattle.band_records.proofs.Lengths.{records-length}
-use Rattle.band.proofs.ByPieces.{all-records-same, counted-same}
+use Rattle.band_passes.specs.Meeting.{AllMeet}
+use Rattle.band_passes.proofs.Wide.{none-wide}
+use Rattle.band.proofs.Cases.{many-said, few-said, done-said}
+use Rattle.band.proofs.ByPieces.{listed, all-records-same, counted-same, band-curves-same}
 
 -- ---- what the first pass says
 counted-leaves : (o : Option Refusal) (l m : ℕ) → Total m ≡ elim o [ some r ↦ Stopped r | none ↦ Total l ] → (o ≡ none) × (m ≡ l)
@@ -61,34 +62,51 @@ front-written l rs h = sets-eq rs l 0 (omega (arith, h)) ∙ ap (λ n. rs ++ dro
 pub numbers-few : {m leaves : ℕ} → m ≤ 8 → leaves ≤ 2 ^ 24 → (6 + 4 * m) * leaves ≤ 38 * 2 ^ 24
 numbers-few {m} few less = mul-le-mul {n₁ = 6 + 4 * m} {n₂ = 38} (omega (arith, few)) less
 
--- ---- 7, 8 and the report
+-- ---- 7, 19, 8 and the report; the first pass knows the pieces alone
 module _ (σ : Setting) (T : ℤ) (cs : List Curve) where
-  leaves-counted : {m : ℕ} → Total m ≡ countedOf σ T cs → (firstTooWide σ T 0 cs ≡ none) × (m ≡ leavesOf σ T cs)
+  own-count : {c : Counted} → c ≡ countedOf (listed σ) T cs → c ≡ countedOf σ T cs
+  own-count e = e ∙ sym (counted-same σ (listed σ .most) (listed σ .leaves) T cs)
+
+  leaves-counted : {m : ℕ} → Total m ≡ countedOf (listed σ) T cs → (firstTooWide σ T 0 cs ≡ none) × (m ≡ leavesOf σ T cs)
   unfolding countedOf
-  leaves-counted {m} e = counted-leaves (firstTooWide σ T 0 cs) (leavesOf σ T cs) m e
+  leaves-counted {m} e = counted-leaves (firstTooWide σ T 0 cs) (leavesOf σ T cs) m (own-count e)
 
-  pub answer-too-wide : {r : Refusal} (room : ℕ) → Stopped r ≡ countedOf σ T cs → Refused r ≡ bandCurves σ T cs room
+  pub answer-too-wide : {r : Refusal} (room : ℕ) → Stopped r ≡ countedOf (listed σ) T cs → Refused r ≡ bandCurves σ T cs room
   unfolding countedOf bandCurves
-  answer-too-wide {r} room e = rw (bandCurves, counted-stopped (firstTooWide σ T 0 cs) (leavesOf σ T cs) r e)
+  answer-too-wide {r} room e = rw (counted-stopped (firstTooWide σ T 0 cs) (leavesOf σ T cs) r (own-count e))
 
-  module _ {m : ℕ} (e : Total m ≡ countedOf σ T cs) where
+  module _ {m : ℕ} (e : Total m ≡ countedOf (listed σ) T cs) where
     pub answer-few : length cs ≤ 65536 → m ≤ 2 ^ 24
     answer-few h = omega (arith, leaves-counted e .1, few-leaves σ T cs)
 
     pub answer-nodes : length cs ≤ 2 * m
     answer-nodes = omega (arith, leaves-counted e .1, nodes-of-curves σ T cs)
 
-    pub answer-too-few : {room : ℕ} → room < recordLength σ * m → Refused (TooFewRecords m) ≡ bandCurves σ T cs room
-    unfolding bandCurves
-    answer-too-few {room} h =
-        let w = leaves-counted e in rw (bandCurves, w .0, sym (w .1), lt-ltb room (recordLength σ * m) h) (ap (λ k. Refused (TooFewRecords k)) (w .1))
+    met : AllMeet σ T cs
+    met = none-wide σ T 0 cs .0 (leaves-counted e .0)
 
-    answer-done : {room : ℕ} → recordLength σ * m ≤ room → Done (length cs) m (2 * m - length cs) ≡ bandCurves σ T cs room
-    unfolding bandCurves
-    answer-done {room} h =
-        let w = leaves-counted e in
-        let n : 2 * m - length cs ≡ nodesOf σ T cs = omega (arith, nodes-of-curves σ T cs, w .1) in
-        rw (bandCurves, w .0, sym (w .1), le-ltb room (recordLength σ * m) h) (ap₂ (Done (length cs)) (w .1) n)
+    pub answer-too-many : (room : ℕ) → σ .leaves < m → Refused (TooManyLeaves m) ≡ bandCurves σ T cs room
+    answer-too-many room h =
+        let w = leaves-counted e .1 in sym (many-said σ T cs room (record { meet = met; more = omega (arith, w); leaves = sym w }))
+
+    module _ (taken : m ≤ σ .leaves) where
+      pub answer-too-few : {room : ℕ} → room < recordLength σ * m → Refused (TooFewRecords m) ≡ bandCurves σ T cs room
+      answer-too-few {room} h =
+          let w = leaves-counted e .1 in
+          let short : room < recordLength σ * leavesOf σ T cs = omega (arith, ap (λ n. recordLength σ * n) w) in
+          sym (few-said σ T cs room (record { meet = met; taken = omega (arith, w); short = short; leaves = sym w }))
+
+      answer-done : {room : ℕ} → recordLength σ * m ≤ room → Done (length cs) m (2 * m - length cs) ≡ bandCurves σ T cs room
+      answer-done {room} h =
+          let w = leaves-counted e .1 in
+          sym (done-said σ T cs room (record {
+            meet = met;
+            taken = omega (arith, w);
+            enough = omega (arith, ap (λ n. recordLength σ * n) w);
+            curves = refl;
+            leaves = sym w;
+            nodes = omega (arith, nodes-of-curves σ T cs, w);
+          }))
 
     -- the records stand in front of what was there
     pub answer-list : (l : List ℤ) → recordLength σ * m ≤ length l
@@ -96,37 +114,22 @@ module _ (σ : Setting) (T : ℤ) (cs : List Curve) where
     answer-list l h =
         front-written l (allRecords σ T 0 cs) (omega (arith, all-records-length σ T 0 cs, ap (λ n. recordLength σ * n) (leaves-counted e .1)))
 
--- ---- the answer goes by the pieces of a setting alone
-pub band-curves-same : (σ : Setting) (T : ℤ) (cs : List Curve) (room : ℕ) → bandCurves (lists (σ .pieces)) T cs room ≡ bandCurves σ T cs room
-band-curves-same σ T cs room = go (countedOf σ T cs) refl
-  where
-    go : (c : Counted) → c ≡ countedOf σ T cs → bandCurves (lists (σ .pieces)) T cs room ≡ bandCurves σ T cs room
-    go (Stopped r) e =
-        let f = e ∙ counted-same σ T cs in
-        sym (answer-too-wide (lists (σ .pieces)) T cs room f) ∙ answer-too-wide σ T cs room e
-    go (Total m) e =
-        let f = e ∙ counted-same σ T cs in
-        ⊎-elim
-        (λ l. sym (answer-too-few (lists (σ .pieces)) T cs f l) ∙ answer-too-few σ T cs e l)
-        (λ l. sym (answer-done (lists (σ .pieces)) T cs f l) ∙ answer-done σ T cs e l)
-        (lt-or-ge room (recordLength σ * m))
-
 -- ---- an outline without faults
 module _ {ns : List ℤ} {n : ℕ} (r : Readable ns n) where
   pub read-count : length (curvesOf (outlineFrom n ns 0)) ≡ n
   read-count = ap (λ o. length (curvesOf o)) (r .is) ∙ r .count
 
-  pub fillable : (σ : Setting) (T : ℤ) {m room : ℕ} → Total m ≡ countedOf σ T (curvesOf (outlineFrom n ns 0)) → recordLength σ * m ≤ room
+  pub fillable : (σ : Setting) (T : ℤ) {m room : ℕ} → Total m ≡ countedOf (listed σ) T (curvesOf (outlineFrom n ns 0)) → recordLength σ * m ≤ room
       → Fillable σ T ns n room
   fillable σ T e h =
-      let w = leaves-counted σ T (r .all) (e ∙ ap (λ o. countedOf σ T (curvesOf o)) (r .is)) in
+      let w = leaves-counted σ T (r .all) (e ∙ ap (λ o. countedOf (listed σ) T (curvesOf o)) (r .is)) in
       record { readable = r; passing = w .0; enough = omega (arith, h, ap (λ n. recordLength σ * n) (w .1)) }
 
-  pub report-done : (σ : Setting) (T : ℤ) {m room : ℕ} → Total m ≡ countedOf σ T (curvesOf (outlineFrom n ns 0)) → recordLength σ * m ≤ room
-      → Done n m (2 * m - n) ≡ bandCurves σ T (curvesOf (outlineFrom n ns 0)) room
-  report-done σ T {m} {room} e h =
+  pub report-done : (σ : Setting) (T : ℤ) {m room : ℕ} → Total m ≡ countedOf (listed σ) T (curvesOf (outlineFrom n ns 0)) → m ≤ σ .leaves
+      → recordLength σ * m ≤ room → Done n m (2 * m - n) ≡ bandCurves σ T (curvesOf (outlineFrom n ns 0)) room
+  report-done σ T {m} {room} e taken h =
       let cs = curvesOf (outlineFrom n ns 0) in
-      subst (λ k. Done k m (2 * m - k) ≡ bandCurves σ T cs room) read-count (answer-done σ T cs e h)
+      subst (λ k. Done k m (2 * m - k) ≡ bandCurves σ T cs room) read-count (answer-done σ T cs e taken h)
 
 module _ (σ : Setting) (ns : List ℤ) where
   module _ {n : ℕ} (e : Curves n ≡ checkedOf (outlined (σ .most) ns)) where
@@ -140,16 +143,17 @@ module _ (σ : Setting) (ns : List ℤ) where
     readable h = let a = found in
         record { all = a .cs; is = read; count = a .count; few = omega (arith, h, accepted-most (σ .most) ns (a .cs) (a .is), a .count) }
 
-    -- banding of the curves is that of a caller who gives lists
+    -- banding of the curves does not know how many more there might have been
     pub banded-read : (T : ℤ) (room : ℕ) → piecesFine (σ .pieces) ≡ true → toleranceFine T ≡ true
-        → bandCurves (lists (σ .pieces)) T (curvesOf (outlineFrom n ns 0)) room ≡ banded σ T ns room
+        → bandCurves (limited n (σ .leaves) (σ .pieces)) T (curvesOf (outlineFrom n ns 0)) room ≡ banded σ T ns room
     unfolding banded
-    banded-read T room rows f = rw (banded, rows, f, read, found .is) (band-curves-same σ T (found .cs) room)
+    banded-read T room rows f = rw (banded, rows, f, read, found .is) (sym (band-curves-same σ n T (found .cs) room))
 
     pub written-curves : (T : ℤ) (l : List ℤ) {l′ : List ℤ} (b : Banded) → b ≡ banded σ T ns (length l)
-        → l′ ≡ writtenBy b (allRecords (lists (σ .pieces)) T 0 (curvesOf (outlineFrom n ns 0))) l → l′ ≡ written σ T ns l
+        → l′ ≡ writtenBy b (allRecords (listed σ) T 0 (curvesOf (outlineFrom n ns 0))) l → l′ ≡ written σ T ns l
     unfolding written
-    written-curves T l b f g = g ∙ rw (f, read, found .is, all-records-same σ T 0 (found .cs))
+    written-curves T l b f g =
+        g ∙ rw (f, read, found .is, all-records-same σ (listed σ .most) (listed σ .leaves) T 0 (found .cs))
 
   module _ (T : ℤ) where
     pub banded-pieces : (room : ℕ) → piecesFine (σ .pieces) ≡ false → Refused Pieces ≡ banded σ T ns room

@@ -1,11 +1,11 @@
--- Examples of banding beside the starred ones, by computation: what stands behind the records, two curves, the spots of 7 and 8,
--- and a list that is left as it was.
+-- Examples of banding beside the starred ones, by computation: what stands behind the records, two curves, the spots of 7, 8
+-- and 19, and a list that is left as it was.
 use mathlib.Core.Path.{_≡_, refl}
 use mathlib.Core.List.{List, [], _∷_, _++_}
 use Prim.Native.Nat.{ℕ}
 use lib.ListN.{replicate}
 use lib.IntN.{ℤ, pos}
-use Rattle.setting.specs.Setting.{standard}
+use Rattle.setting.specs.Setting.{standard, limited}
 use Rattle.refusals.specs.Refusals.{numberOf, spotOf}
 use Rattle.band.specs.declared.banding.Banded.{Banded}
 use Rattle.band.specs.declared.banding.Banded.the-variants.{Done, Refused}
@@ -34,6 +34,10 @@ A = pos 3 ∷ pos 0 ∷ pos 0 ∷ pos 10 ∷ pos 30 ∷ pos 20 ∷ pos 30 ∷ po
 abbrev line : List ℤ
 line = pos 1 ∷ pos 0 ∷ pos 0 ∷ pos 0 ∷ pos 1 ∷ []
 
+-- the line and back, and the line again
+abbrev three-lines : List ℤ
+three-lines = line ++ (pos 1 ∷ pos 0 ∷ pos 1 ∷ pos 0 ∷ pos 0 ∷ line)
+
 abbrev tall : List ℤ
 tall = pos 3 ∷ pos 0 ∷ pos 0 ∷ pos 0 ∷ pos 1048576 ∷ pos 0 ∷ pos 1048576 ∷ pos 0 ∷ pos 0 ∷ []
 
@@ -54,6 +58,19 @@ two-curves = refl
 pub second-too-wide : refusal (answer (pos 2) (pos 1 ∷ pos 0 ∷ pos 1 ∷ pos 0 ∷ pos 0 ∷ tall) 0) ≡ (7, 768)
 unfolding computing
 second-too-wide = refl
+
+-- ---- 19: more leaves than the one that is taken; after 7 and before 8, and its spot is all of them
+pub too-many : refusal (banded (limited 64 1 3) (pos 2) three-lines 0) ≡ (19, 3)
+unfolding computing
+too-many = refl
+
+pub wide-before-many : refusal (banded (limited 64 1 3) (pos 2) (pos 1 ∷ pos 0 ∷ pos 1 ∷ pos 0 ∷ pos 0 ∷ tall) 0) ≡ (7, 768)
+unfolding computing
+wide-before-many = refl
+
+pub as-many-as-taken : banded (limited 64 3 3) (pos 2) three-lines 54 ≡ Done 3 3 3
+unfolding computing
+as-many-as-taken = refl
 
 -- ---- 17: a curve that does not begin where the line ends, before 7
 pub gap : refusal (answer (pos 2) (line ++ tall) 0) ≡ (17, 5)

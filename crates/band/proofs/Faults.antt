@@ -27,15 +27,16 @@ use Rattle.walk_tree.proofs.Tree.{either}
 pub record Early (r : Refusal) : Type 0 where
   pub not-wide : numberOf r ≡ 7 → ⊥
   pub not-few : numberOf r ≡ 8 → ⊥
+  pub not-many : numberOf r ≡ 19 → ⊥
 
 early-at-most : (r : Refusal) → numberOf r ≤ 6 → Early r
-early-at-most r h = record { not-wide = λ e. omega arith; not-few = λ e. omega arith }
+early-at-most r h = record { not-wide = λ e. omega arith; not-few = λ e. omega arith; not-many = λ e. omega arith }
 
 early-gap : (i : ℕ) → Early (Gap i)
-early-gap i = record { not-wide = λ e. omega arith; not-few = λ e. omega arith }
+early-gap i = record { not-wide = λ e. omega arith; not-few = λ e. omega arith; not-many = λ e. omega arith }
 
 early-pieces : Early Pieces
-early-pieces = record { not-wide = λ e. omega arith; not-few = λ e. omega arith }
+early-pieces = record { not-wide = λ e. omega arith; not-few = λ e. omega arith; not-many = λ e. omega arith }
 
 fault-early : (ns : List ℤ) (at : ℕ) (r : Refusal) → faultAt ns at ≡ some r → Early r
 fault-early ns at r e = go r (rw e at (finding ns at))

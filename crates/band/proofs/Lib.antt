@@ -1,4 +1,5 @@
 -- Laws of banding. Each file opens with what it holds.
+pub mod Cases
 pub mod ByPieces
 pub mod Answers
 pub mod Depths
@@ -7,5 +8,5 @@ pub mod Computing
 pub mod Examples
 pub mod Sound
 pub mod Faults
-pub mod Cases
 pub mod Theorems
+pub mod Station

@@ -9,33 +9,32 @@ use lib.ListN.{length, take, drop}
 use lib.Seq.{take-at, drop-at}
 use lib.IntN.{ℤ}
 use Rattle.refusals.specs.declared.Refusal.{Refusal}
-use Rattle.refusals.specs.declared.Refusal.the-variants.{TooWide, TooFewRecords}
+use Rattle.refusals.specs.declared.Refusal.the-variants.{TooWide, TooFewRecords, TooManyLeaves}
 use Rattle.refusals.specs.Refusals.{numberOf}
 use Rattle.curve_nodes.specs.declared.Curve.{Curve}
 use Rattle.curve_nodes.specs.Bounds.{Sized}
 use Rattle.curve_nodes.specs.Nodes.{depth, start}
-use Rattle.outline.proofs.Accepted.{outlined-from, outlined-within, accepted-most, accepted-all}
+use Rattle.outline.proofs.Accepted.{outlined-from, accepted-most, accepted-all}
 use Rattle.band.specs.declared.banding.Banded.{Banded}
 use Rattle.band.specs.declared.banding.Banded.the-variants.{Done, Refused}
 use Rattle.walk_tree.specs.Leaves.{Leaf, Spans, EndToEnd}
 use Rattle.walk_curve.specs.Walked.{nodeMeets, endsOf}
 use Rattle.band_records.specs.Records.{allRecords}
-use Rattle.setting.specs.Setting.{Setting, lists, HasRows, recordLength, deepest}
+use Rattle.setting.specs.Setting.{Setting, HasRows, recordLength, deepest}
 use Rattle.setting.proofs.Pieces.{fine-has-rows}
 use Rattle.band.specs.Banding.{bandCurves, banded, written}
 use Rattle.band_records.specs.Ranges.{SoundList}
 use Rattle.band_passes.specs.Meeting.{AllMeet, FirstWide}
-use Rattle.band.specs.Outcomes.{Faultless, Few, Report, Flat}
+use Rattle.band.specs.Outcomes.{Faultless, Many, Few, Report, Flat}
 use Rattle.walk_tree.proofs.Leaves.{all-leaves}
 use Rattle.walk_tree.proofs.Covering.{some-end-spans, ends-end-to-end, neighbours-meet, in-order}
-use Rattle.band_passes.proofs.Counting.{nodes-of-curves}
+use Rattle.band_passes.proofs.Counting.{nodes-of-curves, few-leaves}
 use Rattle.band.proofs.Depths.{end-depth, none-too-wide}
 use Rattle.walk_tree.proofs.Failing.{none-passing}
 use Rattle.band.proofs.Sound.{some-leaves, records-sound}
 use Rattle.band.proofs.Faults.{Early, banded-curves, faultless-or}
-use Rattle.band.proofs.Answers.{all-records-length, band-curves-same, written-refused}
-use Rattle.band.proofs.ByPieces.{all-records-same}
-use Rattle.band.proofs.Cases.{wide-said, few-said, done-said, said-wide, said-few, said-done}
+use Rattle.band.proofs.Answers.{all-records-length, written-refused}
+use Rattle.band.proofs.Cases.{wide-said, many-said, few-said, done-said, said-wide, said-many, said-few, said-done}
 
 -- ---- the answer of banding, behind the checks before the walk: 18, 1 to 6 and 17
 module _ (σ : Setting) (T : ℤ) (ns : List ℤ) (room : ℕ) where
@@ -59,6 +58,18 @@ module _ (σ : Setting) (T : ℤ) (ns : List ℤ) (room : ℕ) where
     λ h. banded-curves σ T ns room (h .0) (h .1) ∙ wide-said σ T (h .0) room (h .2),
   )
 
+  pub many-exactly : (l : ℕ) → (banded σ T ns room ≡ Refused (TooManyLeaves l)) ↔ ((cs : List Curve) × Faultless σ T ns cs × Many σ T cs l)
+  many-exactly l = (
+    λ e. let h = of-curves (λ q m f. m .not-many (refused-is f)) e in (h .0, h .1, said-many σ T (h .0) room l (h .2)),
+    λ h. banded-curves σ T ns room (h .0) (h .1) ∙ many-said σ T (h .0) room (h .2),
+  )
+
+  -- where a curve's 256 leaves are always taken, there are never too many
+  pub never-many : 256 * σ .most ≤ σ .leaves → (l : ℕ) → banded σ T ns room ≡ Refused (TooManyLeaves l) → ⊥
+  never-many all l e =
+      let h = many-exactly l .0 e in
+      omega (arith, h .2 .more, few-leaves σ T (h .0), accepted-most (σ .most) ns (h .0) (h .1 .outline))
+
   pub few-exactly : (l : ℕ) → (banded σ T ns room ≡ Refused (TooFewRecords l)) ↔ ((cs : List Curve) × Faultless σ T ns cs × Few σ T cs room l)
   few-exactly l = (
     λ e. let h = of-curves (λ q m f. m .not-few (refused-is f)) e in (h .0, h .1, said-few σ T (h .0) room l (h .2)),
@@ -70,6 +81,16 @@ module _ (σ : Setting) (T : ℤ) (ns : List ℤ) (room : ℕ) where
     λ e. let h = of-curves (λ q l f. not-done f) e in (h .0, h .1, said-done σ T (h .0) room a b c (h .2)),
     λ h. banded-curves σ T ns room (h .0) (h .1) ∙ done-said σ T (h .0) room (h .2),
   )
+
+  -- no more curves and leaves than the setting takes, and no more leaves than 256 a curve
+  pub done-limits : (a b c : ℕ) → banded σ T ns room ≡ Done a b c → (a ≤ σ .most) × (b ≤ σ .leaves) × (b ≤ 256 * a)
+  done-limits a b c e =
+      let h = done-exactly a b c .0 e in
+      let r = h .2 in (
+        omega (arith, r .curves, accepted-most (σ .most) ns (h .0) (h .1 .outline)),
+        omega (arith, r .leaves, r .taken),
+        omega (arith, r .curves, r .leaves, few-leaves σ T (h .0)),
+      )
 
   -- nodes = 2 × leaves − curves
   pub nodes-reported : (a b c : ℕ) → banded σ T ns room ≡ Done a b c → c + a ≡ 2 * b
@@ -116,29 +137,6 @@ module _ (σ : Setting) (T : ℤ) (ns old : List ℤ) where
     pub written-sound : SoundList σ b (take (recordLength σ * b) (written σ T ns old))
     written-sound =
         rw records-written (subst (λ n. SoundList σ n records) (r .leaves) (records-sound σ T ns cs (f .outline) (faultless-rows f)))
-
--- ---- an outline that is accepted where no more curves may stand than in lists is accepted from a caller who gives lists, with the same report, and
--- the same records are written
-module _ (σ : Setting) (few : σ .most ≤ lists (σ .pieces) .most) (T : ℤ) (ns : List ℤ) where
-  pub faultless-listed : {cs : List Curve} → Faultless σ T ns cs → Faultless (lists (σ .pieces)) T ns cs
-  faultless-listed {cs} f = record {
-    pieces = f .pieces;
-    tolerance = f .tolerance;
-    outline = outlined-within (σ .most) (lists (σ .pieces) .most) ns cs (f .outline) (omega (arith, few, accepted-most (σ .most) ns cs (f .outline)));
-  }
-
-  pub done-listed : (room : ℕ) {a b c : ℕ} → banded σ T ns room ≡ Done a b c → banded (lists (σ .pieces)) T ns room ≡ Done a b c
-  done-listed room {a} {b} {c} e =
-      let h = done-exactly σ T ns room a b c .0 e in
-      banded-curves (lists (σ .pieces)) T ns room (h .0) (faultless-listed (h .1))
-      ∙ band-curves-same σ T (h .0) room ∙ sym (banded-curves σ T ns room (h .0) (h .1)) ∙ e
-
-  pub written-listed : (old : List ℤ) {a b c : ℕ} → banded σ T ns (length old) ≡ Done a b c
-      → written σ T ns old ≡ written (lists (σ .pieces)) T ns old
-  unfolding written
-  written-listed old {a} {b} {c} e =
-      let f = done-exactly σ T ns (length old) a b c .0 e .1 in
-      rw (e, done-listed (length old) e, f .outline, faultless-listed f .outline, all-records-same σ T 0)
 
 -- ---- the leaves of an accepted outline's curve c
 module _ (σ : Setting) (T : ℤ) (cs : List Curve) (meet : AllMeet σ T cs) (c : Curve) (i : List·Memᴰ c cs) where

@@ -1,13 +1,14 @@
 -- What banding answers in a setting, and what it leaves in the caller's list (document 01).
 use mathlib.Core.Bool.{true, false}
 use mathlib.Core.List.{List, _++_}
-use mathlib.Core.Option.{none, some}
+use mathlib.Core.Option.{Option, none, some}
 use Prim.Native.Nat.{ℕ, _*_}
 use lib.Dec.{ltb}
 use lib.ListN.{length, drop}
 use lib.IntN.{ℤ}
 use Rattle.setting.specs.Setting.{Setting, piecesFine, recordLength}
-use Rattle.refusals.specs.declared.Refusal.the-variants.{Tolerance, TooFewRecords, Pieces}
+use Rattle.refusals.specs.declared.Refusal.{Refusal}
+use Rattle.refusals.specs.declared.Refusal.the-variants.{Tolerance, TooFewRecords, Pieces, TooManyLeaves}
 use Rattle.curve_nodes.specs.declared.Curve.{Curve}
 use Rattle.outline.specs.Checks.{toleranceFine, Outlined, curves, faulty, outlined}
 use Rattle.band.specs.declared.banding.Banded.{Banded}
@@ -15,17 +16,21 @@ use Rattle.band.specs.declared.banding.Banded.the-variants.{Done, Refuse
 use Rattle.band_records.specs.Records.{allRecords}
 use Rattle.band_passes.specs.Leaves.{firstTooWide, leavesOf, nodesOf, curvesOf}
 
--- ---- the answer, with `room` numbers lent: 7, then 8, then the report
-unfoldable pub bandCurves : Setting → ℤ → List Curve → ℕ → Banded
-bandCurves σ T cs room =
-    elim (firstTooWide σ T 0 cs) [
-      | some r ↦ Refused r
-      | none ↦
-          elim (ltb room (recordLength σ * leavesOf σ T cs)) [
-            | true ↦ Refused (TooFewRecords (leavesOf σ T cs))
-            | false ↦ Done (length cs) (leavesOf σ T cs) (nodesOf σ T cs)
+-- ---- the answer to what the walk of the curves finds, with `room` numbers lent: 7, then 19, then 8, then the report
+abbrev pub answerFor : Setting → (room : ℕ) → (tooWide : Option Refusal) → (count leaves nodes : ℕ) → Banded
+answerFor σ room (some r) count leaves nodes = Refused r
+answerFor σ room none count leaves nodes =
+    elim (ltb (σ .leaves) leaves) [
+      | true ↦ Refused (TooManyLeaves leaves)
+      | false ↦
+          elim (ltb room (recordLength σ * leaves)) [
+            | true ↦ Refused (TooFewRecords leaves)
+            | false ↦ Done count leaves nodes
           ]
     ]
+
+unfoldable pub bandCurves : Setting → ℤ → List Curve → ℕ → Banded
+bandCurves σ T cs room = answerFor σ room (firstTooWide σ T 0 cs) (length cs) (leavesOf σ T cs) (nodesOf σ T cs)
 
 abbrev pub bandOutlined : Setting → ℤ → Outlined → ℕ → Banded
 bandOutlined σ T (faulty r) room = Refused r

@@ -23,15 +23,23 @@ pub record Faultless (σ : Setting) (T : ℤ) (ns : List ℤ) (cs : List Curve) 
   pub tolerance : toleranceFine T ≡ true
   pub outline : outlined (σ .most) ns ≡ curves cs
 
--- check 8: nothing is too wide, but the l leaves find no room
+-- check 19: nothing is too wide, but there are l leaves, more than the setting takes
+pub record Many (σ : Setting) (T : ℤ) (cs : List Curve) (l : ℕ) : Type 0 where
+  pub meet : AllMeet σ T cs
+  pub more : σ .leaves < leavesOf σ T cs
+  pub leaves : leavesOf σ T cs ≡ l
+
+-- check 8: nothing is too wide and the leaves are not too many, but the l of them find no room
 pub record Few (σ : Setting) (T : ℤ) (cs : List Curve) (room l : ℕ) : Type 0 where
   pub meet : AllMeet σ T cs
+  pub taken : leavesOf σ T cs ≤ σ .leaves
   pub short : room < recordLength σ * leavesOf σ T cs
   pub leaves : leavesOf σ T cs ≡ l
 
 -- nothing is refused, and a curves, b leaves and c nodes are reported
 pub record Report (σ : Setting) (T : ℤ) (cs : List Curve) (room a b c : ℕ) : Type 0 where
   pub meet : AllMeet σ T cs
+  pub taken : leavesOf σ T cs ≤ σ .leaves
   pub enough : recordLength σ * leavesOf σ T cs ≤ room
   pub curves : length cs ≡ a
   pub leaves : leavesOf σ T cs ≡ b

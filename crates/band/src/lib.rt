@@ -2,7 +2,7 @@
 ghost use mathlib.Core.Path.{_≡_};
 ghost use Prim.Native.Nat.{_≤_};
 ghost use lib.ListN.{length};
-ghost use Rattle.setting.specs.Setting.{lists, limited, piecesFine};
+ghost use Rattle.setting.specs.Setting.{lists, station, limited, piecesFine};
 ghost use Rattle.band.specs.Banding.{banded, written};
 use crate::banding::Banded;
 use crate::outline_band::band_curves;
@@ -30,21 +30,32 @@ pub fn band(outline: &[i32], tolerance: i32, m: u32, records: &mut [i32]) -> Ban
     ensures { λ r. ⌜ now (records .exit)
         ≡ written (lists m) tolerance (now (outline .entry)) (now (records .entry)) ⌝ }
 {
-    band_most(outline, 4096, tolerance, m, records)
+    band_most(outline, 4096, 1048576, tolerance, m, records)
 }
 
-// The same of an outline that may have `most` curves.
+// The same for the bench station, which takes 64 curves and 128 leaves.
+pub fn station_band(outline: &[i32], tolerance: i32, m: u32, records: &mut [i32]) -> Banded
+    ensures { λ r. ⌜ r ≡ banded (station m) tolerance (now (outline .entry)) (length (now (records .entry))) ⌝ }
+    ensures { λ r. ⌜ now (records .exit)
+        ≡ written (station m) tolerance (now (outline .entry)) (now (records .entry)) ⌝ }
+{
+    band_most(outline, 64, 128, tolerance, m, records)
+}
+
+// The same of an outline that may have `most` curves and `leaves` leaves.
 pub fn band_most(
     outline: &[i32],
     most: usize,
+    leaves: usize,
     tolerance: i32,
     m: u32,
     records: &mut [i32],
 ) -> Banded
     requires { ⌜ most ≤ 65536 ⌝ }
-    ensures { λ r. ⌜ r ≡ banded (limited most m) tolerance (now (outline .entry)) (length (now (records .entry))) ⌝ }
+    ensures { λ r. ⌜ r
+        ≡ banded (limited most leaves m) tolerance (now (outline .entry)) (length (now (records .entry))) ⌝ }
     ensures { λ r. ⌜ now (records .exit)
-        ≡ written (limited most m) tolerance (now (outline .entry)) (now (records .entry)) ⌝ }
+        ≡ written (limited most leaves m) tolerance (now (outline .entry)) (now (records .entry)) ⌝ }
 {
     if !pieces_fine(m) {
         return Banded::Refused(Refusal::Pieces);
@@ -59,6 +70,7 @@ pub fn band_most(
             tolerance as i64,
             m as usize,
             curves,
+            leaves,
             records,
         ),
     }

@@ -1,7 +1,7 @@
-// The band of an outline without faults: checks 7 and 8, and the records.
+// The band of an outline without faults: checks 7, 19 and 8, and the records.
 ghost use mathlib.Core.Path.{_≡_};
 ghost use lib.ListN.{length};
-ghost use Rattle.setting.specs.Setting.{lists, HasRows};
+ghost use Rattle.setting.specs.Setting.{lists, limited, HasRows};
 ghost use Rattle.bound_node.specs.Inside.{Ready};
 ghost use Rattle.band_records.specs.Records.{allRecords};
 ghost use Rattle.band.specs.Banding.{bandCurves, writtenBy};
@@ -13,19 +13,21 @@ use band_passes::passes::Counted;
 use bound_node::pieces::Pieces;
 use refusals::Refusal;
 
-// Checks 7 and 8, and the records, of an outline without faults that has this many curves. The rows lent are those of
-// the number of pieces.
+// Checks 7, 19 and 8, and the records, of an outline without faults that has this many curves and may have
+// `most` leaves. The rows lent are those of the number of pieces.
 fn band_by(
     rows: &[i64],
     pieces: Pieces,
     ns: &[i32],
     t: i64,
     curves: usize,
+    most: usize,
     records: &mut [i32],
 ) -> Banded
     requires { ⌜ (Ready pieces (now rows)) × (Readable (now ns) curves) ⌝ }
     ensures { λ r. ⌜ r
-        ≡ bandCurves (lists (pieces .m)) t (curvesIn (now (ns .entry)) curves) (length (now (records .entry))) ⌝ }
+        ≡ bandCurves (limited curves most (pieces .m)) t (curvesIn (now (ns .entry)) curves)
+        (length (now (records .entry))) ⌝ }
     ensures { λ r. ⌜ now (records .exit)
         ≡ writtenBy r (allRecords (lists (pieces .m)) t 0 (curvesIn (now (ns .entry)) curves))
         (now (records .entry)) ⌝ }
@@ -33,6 +35,9 @@ fn band_by(
     match count(rows, pieces, ns, t, curves) {
         Counted::Stopped(refusal) => Banded::Refused(refusal),
         Counted::Total(leaves) => {
+            if most < leaves {
+                return Banded::Refused(Refusal::TooManyLeaves(leaves));
+            }
             let m = pieces.m;
             let record_length = 6 + 4 * m;
             if records.len() < record_length * leaves {
@@ -51,14 +56,22 @@ fn band_by(
 
 // The same for m pieces: their rows are copied out of the table, once. The list that they are put into is filled with m
 // first; for zeros the compiler would call the C library.
-pub fn band_curves(ns: &[i32], t: i64, m: usize, curves: usize, records: &mut [i32]) -> Banded
+pub fn band_curves(
+    ns: &[i32],
+    t: i64,
+    m: usize,
+    curves: usize,
+    most: usize,
+    records: &mut [i32],
+) -> Banded
     requires { ⌜ (HasRows m) × (Readable (now ns) curves) ⌝ }
-    ensures { λ r. ⌜ r ≡ bandCurves (lists m) t (curvesIn (now (ns .entry)) curves) (length (now (records .entry))) ⌝ }
+    ensures { λ r. ⌜ r
+        ≡ bandCurves (limited curves most m) t (curvesIn (now (ns .entry)) curves) (length (now (records .entry))) ⌝ }
     ensures { λ r. ⌜ now (records .exit)
         ≡ writtenBy r (allRecords (lists m) t 0 (curvesIn (now (ns .entry)) curves)) (now (records .entry)) ⌝ }
 {
     let mut rows = [m as i64; 108];
     bound_rows::put_rows(&mut rows, m);
     let pieces = bound_node::pieces::pieces_of(&rows, m);
-    band_by(&rows, pieces, ns, t, curves, records)
+    band_by(&rows, pieces, ns, t, curves, most, records)
 }

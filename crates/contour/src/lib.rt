@@ -1,7 +1,7 @@
 // The C interface: what a program in another language calls. include/contour_band.h says the same for C.
 ghost use mathlib.Core.Path.{_≡_};
 ghost use lib.ListN.{length};
-ghost use Rattle.setting.specs.Setting.{lists};
+ghost use Rattle.setting.specs.Setting.{lists, station};
 ghost use Rattle.band.specs.Banding.{banded, written};
 ghost use Rattle.draw.specs.Drawing.{drawn, drawnInto};
 ghost use Rattle.contour.specs.Numbers.{bandAnswerOf};
@@ -35,6 +35,23 @@ pub extern "C" fn contour_band(
         ≡ written (lists m) tolerance (now (outline .entry)) (now (records .entry)) ⌝ }
 {
     let banded = band::band(outline, tolerance, m, records);
+    in_numbers(banded)
+}
+
+// The same for the bench station, which takes 64 curves and 128 leaves.
+#[no_mangle]
+pub extern "C" fn contour_station_band(
+    outline: &[i32],
+    tolerance: i32,
+    m: u32,
+    records: &mut [i32],
+) -> Answer
+    ensures { λ r. ⌜ r
+        ≡ bandAnswerOf (banded (station m) tolerance (now (outline .entry)) (length (now (records .entry)))) ⌝ }
+    ensures { λ r. ⌜ now (records .exit)
+        ≡ written (station m) tolerance (now (outline .entry)) (now (records .entry)) ⌝ }
+{
+    let banded = band::station_band(outline, tolerance, m, records);
     in_numbers(banded)
 }
 

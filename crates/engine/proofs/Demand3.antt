@@ -6,6 +6,7 @@ use mathlib.Core.Option.{none}
 use Prim.Native.Nat.{ℕ, suc, _+_, _*_, _^_, _≤_, _<_}
 use native.Mathlib.Nat.{le-of-eq, mul-zero}
 use native.Mathlib.Omega.{arith}
+use lib.Dec.{lit≤}
 use lib.ListN.{length, take}
 use lib.IntN.{ℤ, pos}
 use Rattle.integers.specs.Entry.{entry}
@@ -14,7 +15,7 @@ use Rattle.curve_halves.specs.Sizes.{Each}
 use Rattle.curve_nodes.specs.Bounds.{Sized}
 use Rattle.curve_nodes.specs.Points.{Equals}
 use Rattle.curve_nodes.proofs.Sizes.{each-wider}
-use Rattle.setting.specs.Setting.{Setting, HasRows, covers, recordLength, deepest}
+use Rattle.setting.specs.Setting.{Setting, lists, station, HasRows, covers, recordLength, deepest}
 use Rattle.outline.proofs.Accepted.{outlined-from, accepted-most, accepted-some, accepted-all}
 use Rattle.walk_curve.specs.Walked.{nodeMeets}
 use Rattle.walk_tree.proofs.Leaves.{end-facts}
@@ -28,6 +29,7 @@ use Rattle.band.specs.Outcomes.{Flat}
 use Rattle.band_records.proofs.Sound.{record-curve, record-node}
 use Rattle.band_records.proofs.Standing.{Found, every-end-stands, every-record-stands}
 use Rattle.band.proofs.Theorems.{done-exactly, faultless-rows, records-written, leaves-exactly, every-parameter}
+use Rattle.band.proofs.Station.{done-listed, written-listed}
 use Rattle.band.proofs.Sound.{curves-leaves, curves-sound}
 use Rattle.band.proofs.Depths.{end-depth}
 use Rattle.judge_cover.specs.Covers.{Holds, CoverHolds}
@@ -177,3 +179,18 @@ demand-3 σ T ns old a b c done x y answer judged =
           (accepted-some (σ .most) ns cs o) (accepted-most (σ .most) ns cs o) (accepted-all (σ .most) ns 0 cs (outlined-from (σ .most) ns cs o))
           (h .2 .meet) x y answer said);
     }
+
+-- ---- the same where fewer curves may stand than in lists: the leaves are judged as every leaf list is
+pub demand-3-listed : (σ : Setting) → σ .most ≤ lists (σ .pieces) .most → (T : ℤ) (ns old : List ℤ) (a b c : ℕ)
+    → banded σ T ns (length old) ≡ Done a b c
+    → (x y : ℤ) (answer : Judgement) → Judged (lists (σ .pieces)) (take (recordLength σ * b) (written σ T ns old)) x y answer
+    → OutlineDemand3 (lists (σ .pieces)) T ns (take (recordLength σ * b) (written σ T ns old)) x y answer
+demand-3-listed σ few T ns old a b c done x y answer judged =
+    let same = written-listed σ few T ns old done in
+    rw same (demand-3 (lists (σ .pieces)) T ns old a b c (done-listed σ few T ns (length old) done) x y answer (rw same at judged))
+
+-- so of the bands of the bench station
+pub station-demand-3 : (m : ℕ) (T : ℤ) (ns old : List ℤ) (a b c : ℕ) → banded (station m) T ns (length old) ≡ Done a b c
+    → (x y : ℤ) (answer : Judgement) → Judged (lists m) (take (recordLength (station m) * b) (written (station m) T ns old)) x y answer
+    → OutlineDemand3 (lists m) T ns (take (recordLength (station m) * b) (written (station m) T ns old)) x y answer
+station-demand-3 m = demand-3-listed (station m) (lit≤ tt)

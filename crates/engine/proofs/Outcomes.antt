@@ -12,7 +12,7 @@ use lib.ListN.{length, take}
 use lib.IntN.{ℤ}
 use Rattle.integers.proofs.Clash.{clash}
 use Rattle.refusals.specs.declared.Refusal.{Refusal}
-use Rattle.refusals.specs.declared.Refusal.the-variants.{Tolerance, TooFewRecords, PointX, PointY, Pieces}
+use Rattle.refusals.specs.declared.Refusal.the-variants.{Tolerance, TooFewRecords, PointX, PointY, Pieces, TooManyLeaves}
 use Rattle.curve_nodes.specs.declared.Curve.{Curve}
 use Rattle.boxes.specs.Ranges.{inRange}
 use Rattle.setting.specs.Setting.{Setting, lists, piecesFine, recordLength}
@@ -21,7 +21,7 @@ use Rattle.outline.specs.Checks.{toleranceFine, Outlined, curves, faulty, outli
 use Rattle.band_passes.specs.Leaves.{firstTooWide, leavesOf, nodesOf}
 use Rattle.band.specs.declared.banding.Banded.{Banded}
 use Rattle.band.specs.declared.banding.Banded.the-variants.{Done, Refused as NotBanded}
-use Rattle.band.specs.Banding.{bandCurves, bandOutlined, banded, written}
+use Rattle.band.specs.Banding.{answerFor, bandCurves, bandOutlined, banded, written}
 use Rattle.band.proofs.Theorems.{few-exactly, done-exactly, faultless-rows, written-some, written-sound}
 use Rattle.judge.specs.declared.judging.Judgement.{Judgement}
 use Rattle.judge.specs.Judging.{pointFault, judgingFault, Verdict, Judged}
@@ -52,8 +52,8 @@ module _ (σ : Setting) (T : ℤ) (ns : List ℤ) (room : ℕ) (point : Refusal)
         f .0,
         f .1,
         record {
-          meet =
-              f .2 .meet;
+          meet = f .2 .meet;
+          taken = f .2 .taken;
           short = omega (arith, h, ap (λ n. recordLength σ * n) (f .2 .leaves));
           leaves = f .2 .leaves;
         },
@@ -68,6 +68,7 @@ module _ (σ : Setting) (T : ℤ) (ns : List ℤ) (room : ℕ) (point : Refusal)
         f .1,
         record {
           meet = f .2 .meet;
+          taken = f .2 .taken;
           enough = omega (arith, h, ap (λ n. recordLength σ * n) (f .2 .leaves));
           curves = refl;
           leaves = f .2 .leaves;
@@ -80,25 +81,26 @@ module _ (σ : Setting) (T : ℤ) (ns : List ℤ) (room : ℕ) (point : Refusal)
     refused-is : {q : Refusal} → NotBanded q ≡ NotBanded r → q ≡ r
     refused-is e = cc
 
+    answer-again : (o : Option Refusal) (n l k : ℕ) → answerFor σ 0 o n l k ≡ NotBanded r → answerFor σ room o n l k ≡ NotBanded r
+    answer-again (some q) n l k e = e
+    answer-again none n l k e = go (ltb (σ .leaves) l) (ltb 0 (recordLength σ * l)) (ltb room (recordLength σ * l)) e
+      where
+        -- 19, and then 8 or the report
+        answer : (many short : Bool) → Banded
+        answer many short =
+            elim many [
+              | true ↦ NotBanded (TooManyLeaves l)
+              | false ↦ elim short [ true ↦ NotBanded (TooFewRecords l) | false ↦ Done n l k ]
+            ]
+
+        go : (many none-lent short : Bool) → answer many none-lent ≡ NotBanded r → answer many short ≡ NotBanded r
+        go true none-lent short e = e
+        go false true short e = absurd (other l (refused-is e))
+        go false false short e = clash (cc)
+
     curves-again : (cs : List Curve) → bandCurves σ T cs 0 ≡ NotBanded r → bandCurves σ T cs room ≡ NotBanded r
     unfolding bandCurves
-    curves-again cs = go (firstTooWide σ T 0 cs) (ltb 0 (recordLength σ * leavesOf σ T cs)) (ltb room (recordLength σ * leavesOf σ T cs))
-      where
-        go : (o : Option Refusal) (none-lent short : Bool)
-            → elim o [
-              | some q ↦ NotBanded q
-              | none ↦ elim none-lent [
-                | true ↦ NotBanded (TooFewRecords (leavesOf σ T cs))
-                | false ↦ Done (length cs) (leavesOf σ T cs) (nodesOf σ T cs)
-              ]
-            ] ≡ NotBanded r
-            → elim o [
-              | some q ↦ NotBanded q
-              | none ↦ elim short [ true ↦ NotBanded (TooFewRecords (leavesOf σ T cs)) | false ↦ Done (length cs) (leavesOf σ T cs) (nodesOf σ T cs) ]
-            ] ≡ NotBanded r
-        go (some q) none-lent short e = e
-        go none true short e = absurd (other (leavesOf σ T cs) (refused-is e))
-        go none false short e = clash (cc)
+    curves-again cs = answer-again (firstTooWide σ T 0 cs) (length cs) (leavesOf σ T cs) (nodesOf σ T cs)
 
     pub other-again : banded σ T ns 0 ≡ NotBanded r → r ≡ refusalOr point (banded σ T ns room)
     unfolding banded

@@ -1,7 +1,7 @@
 // Callers of the functions that `contour` exports to programs in other languages.
 ghost use mathlib.Core.Path.{_≡_};
 ghost use lib.ListN.{length};
-ghost use Rattle.setting.specs.Setting.{lists};
+ghost use Rattle.setting.specs.Setting.{lists, station};
 ghost use Rattle.band.specs.Banding.{banded, written};
 ghost use Rattle.draw.specs.Drawing.{drawn, drawnInto};
 ghost use Rattle.contour.specs.Numbers.{bandAnswerOf};
@@ -21,6 +21,15 @@ pub fn contour_band(outline: &[i32], tolerance: i32, m: u32, records: &mut [i32]
         ≡ written (lists m) tolerance (now (outline .entry)) (now (records .entry)) ⌝ }
 {
     contour::contour_band(outline, tolerance, m, records)
+}
+
+pub fn contour_station_band(outline: &[i32], tolerance: i32, m: u32, records: &mut [i32]) -> Answer
+    ensures { λ r. ⌜ r
+        ≡ bandAnswerOf (banded (station m) tolerance (now (outline .entry)) (length (now (records .entry)))) ⌝ }
+    ensures { λ r. ⌜ now (records .exit)
+        ≡ written (station m) tolerance (now (outline .entry)) (now (records .entry)) ⌝ }
+{
+    contour::contour_station_band(outline, tolerance, m, records)
 }
 
 pub fn contour_judge(leaves: &[i32], m: u32, x: i32, y: i32) -> JudgingAnswer

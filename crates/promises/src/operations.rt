@@ -1,7 +1,7 @@
 // Callers of banding, judging and drawing.
 ghost use mathlib.Core.Path.{_≡_};
 ghost use lib.ListN.{length};
-ghost use Rattle.setting.specs.Setting.{lists};
+ghost use Rattle.setting.specs.Setting.{lists, station};
 ghost use Rattle.band.specs.Banding.{banded, written};
 ghost use Rattle.judge.specs.Judging.{Judged};
 ghost use Rattle.draw.specs.Drawing.{drawn, drawnInto};
@@ -16,6 +16,14 @@ pub fn band(outline: &[i32], tolerance: i32, m: u32, records: &mut [i32]) -> Ban
         ≡ written (lists m) tolerance (now (outline .entry)) (now (records .entry)) ⌝ }
 {
     band::band(outline, tolerance, m, records)
+}
+
+pub fn station_band(outline: &[i32], tolerance: i32, m: u32, records: &mut [i32]) -> Banded
+    ensures { λ r. ⌜ r ≡ banded (station m) tolerance (now (outline .entry)) (length (now (records .entry))) ⌝ }
+    ensures { λ r. ⌜ now (records .exit)
+        ≡ written (station m) tolerance (now (outline .entry)) (now (records .entry)) ⌝ }
+{
+    band::station_band(outline, tolerance, m, records)
 }
 
 pub fn judge(leaves: &[i32], m: u32, x: i32, y: i32) -> Judgement

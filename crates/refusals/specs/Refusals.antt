@@ -1,4 +1,5 @@
--- The number and the spot of each refusal (document 01, "Place of each check"; 17 is request 03's, 18 request 05's).
+-- The number and the spot of each refusal (document 01, "Place of each check"; 17 is request 03's, 18
+-- request 05's, 19 request 07's).
 use Prim.Native.Nat.{ℕ, _+_, _*_}
 use Rattle.refusals.specs.declared.Refusal.{Refusal}
 use Rattle.refusals.specs.declared.Refusal.the-variants.{
@@ -21,6 +22,7 @@ use Rattle.refusals.specs.declared.Refusal.the-variants.{
   TextTooLong,
   Gap,
   Pieces,
+  TooManyLeaves,
 }
 
 abbrev pub numberOf : Refusal → ℕ
@@ -43,6 +45,7 @@ numberOf (OutOfOrder line) = 15
 numberOf (TextTooLong first) = 16
 numberOf (Gap index) = 17
 numberOf Pieces = 18
+numberOf (TooManyLeaves leaves) = 19
 
 -- a curve and a node of it as one number
 abbrev pub nodeSpot : ℕ → ℕ → ℕ
@@ -68,3 +71,4 @@ spotOf (OutOfOrder line) = line
 spotOf (TextTooLong first) = first
 spotOf (Gap index) = index
 spotOf Pieces = 0
+spotOf (TooManyLeaves leaves) = leaves

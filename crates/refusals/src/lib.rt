@@ -41,6 +41,8 @@ pub enum Refusal {
     Gap(usize),
     // 18: the number of pieces is outside its range.
     Pieces,
+    // 19: the leaves are more than the caller takes; how many there are.
+    TooManyLeaves(usize),
 }
 
 impl Refusal {
@@ -68,6 +70,7 @@ impl Refusal {
             Refusal::TextTooLong(_) => 16,
             Refusal::Gap(_) => 17,
             Refusal::Pieces => 18,
+            Refusal::TooManyLeaves(_) => 19,
         }
     }
 
@@ -95,6 +98,7 @@ impl Refusal {
             Refusal::TextTooLong(first) => first,
             Refusal::Gap(index) => index,
             Refusal::Pieces => 0,
+            Refusal::TooManyLeaves(leaves) => leaves,
         }
     }
 }

@@ -7,24 +7,31 @@ use lib.Dec.{leb}
 pub record Setting : Type 0 where
   -- the most curves that an outline may have
   pub most : ℕ
+  -- the most leaves that its curves may have
+  pub leaves : ℕ
   -- how many pieces a leaf has, so that its break points are 0 to this number
   pub pieces : ℕ
 
--- at most so many curves, and m pieces
-abbrev pub limited : (most m : ℕ) → Setting
-limited most m = record { most = most; pieces = m }
+-- at most so many curves and leaves, and m pieces
+abbrev pub limited : (most leaves m : ℕ) → Setting
+limited most leaves m = record { most = most; leaves = leaves; pieces = m }
 
--- that of a caller who gives lists and the number of pieces, m (requests 05 and 06); every leaf list is judged in it
+-- that of a caller who gives lists and the number of pieces, m (requests 05 and 06); every leaf list is judged in it.
+-- No curve has more than 256 leaves, so their limit is never passed.
 abbrev pub lists : ℕ → Setting
-lists m = limited 4096 m
+lists m = limited 4096 1048576 m
+
+-- that of the bench station (request 07)
+abbrev pub station : ℕ → Setting
+station m = limited 64 128 m
 
 -- that of a caller of lists with document 01's number of pieces, which texts keep
 abbrev pub standard : Setting
 standard = lists 3
 
--- that of texts, which stop at their 65th curve
+-- that of texts, which stop at their 65th curve; their limit of leaves is never passed either
 abbrev pub texts : Setting
-texts = limited 64 3
+texts = limited 64 16384 3
 
 -- 18: the number of pieces is 1 to 8
 abbrev pub piecesFine : ℕ → Bool

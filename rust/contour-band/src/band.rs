@@ -57,7 +57,50 @@ pub struct Report {
 /// `records` is then unaltered. An empty list therefore asks how many leaves there are: the answer
 /// is [`Refusal::TooFewRecords`] for any outline that is otherwise accepted.
 pub fn band(outline: &[i32], tolerance: i32, m: u32, records: &mut [i32]) -> Result<Report, Refusal> {
-    let answer = library::band(outline, tolerance, m, records);
+    report(library::band(outline, tolerance, m, records))
+}
+
+/// How many curves the bench station takes.
+pub const STATION_CURVES: usize = 64;
+
+/// How many leaves the bench station takes. So a list of `STATION_LEAVES` × `record_length(m)` numbers is
+/// always long enough for [`station_band`].
+pub const STATION_LEAVES: usize = 128;
+
+/// Puts a band round an outline for the bench station, which has little memory: it takes
+/// [`STATION_CURVES`] curves and [`STATION_LEAVES`] leaves. What it accepts, [`band`] accepts with the same
+/// report and the same records; and what [`band`] accepts with no more curves and leaves than these, it
+/// accepts. All else is as in [`band`].
+///
+/// ```
+/// use contour_band::{band, record_length, station_band, Refusal, STATION_LEAVES};
+///
+/// const M: u32 = 3;
+/// let mut records = [0; STATION_LEAVES * record_length(M)];
+///
+/// // A bow that ends where it begins and has four leaves.
+/// let bow = [2, 0, 0, 0, 800, 0, 0];
+/// let report = station_band(&bow.repeat(32), 100, M, &mut records)?;
+/// assert_eq!((report.curves, report.leaves), (32, 128));
+/// assert_eq!(
+///     station_band(&bow.repeat(33), 100, M, &mut records),
+///     Err(Refusal::TooManyLeaves { leaves: 132 })
+/// );
+/// let lines = [1, 0, 0, 0, 0].repeat(65);
+/// assert_eq!(station_band(&lines, 100, M, &mut records), Err(Refusal::TooManyCurves { index: 320 }));
+/// # Ok::<(), Refusal>(())
+/// ```
+///
+/// # Errors
+///
+/// A [`Refusal`], as in [`band`], where the first curve too many is the 65th. [`Refusal::TooManyLeaves`] comes
+/// after a stretch that is too wide and before a list that is too short; it has the number of all leaves.
+pub fn station_band(outline: &[i32], tolerance: i32, m: u32, records: &mut [i32]) -> Result<Report, Refusal> {
+    report(library::station_band(outline, tolerance, m, records))
+}
+
+/// An answer in numbers as a report or a refusal.
+fn report(answer: library::Answer) -> Result<Report, Refusal> {
     if answer.refusal != 0 {
         return Err(Refusal::new(answer.refusal, answer.spot));
     }

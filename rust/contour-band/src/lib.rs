@@ -3,8 +3,9 @@
 //! An outline is a list of numbers: for each curve its degree d (1, 2 or 3), then x and y of its
 //! d + 1 control points in stage units. [`band`] encloses it in boxes whose diagonals are at most a
 //! tolerance long, and writes them to a list that the caller lends: for each leaf, which is a stretch of a
-//! curve, m straight pieces with a box at each of their m + 1 ends. The caller chooses m, 1 to 8. [`leaves`]
-//! reads them. [`judge`] says of a measured point whether it lies on what the boxes cover, and
+//! curve, m straight pieces with a box at each of their m + 1 ends. The caller chooses m, 1 to 8.
+//! [`station_band`] does the same for the bench station, which takes less. [`leaves`] reads the records.
+//! [`judge`] says of a measured point whether it lies on what the boxes cover, and
 //! [`band_and_judge`] does both. [`draw`] draws the convex hull of two boxes.
 //!
 //! Two lines at the root of the repository build the archive that is linked, and run a program with it:
@@ -50,7 +51,7 @@ mod leaf;
 mod library;
 mod refusal;
 
-pub use band::{band, Report};
+pub use band::{band, station_band, Report, STATION_CURVES, STATION_LEAVES};
 pub use cover::{draw, VERTEX_ROOM};
 pub use judge::{band_and_judge, judge, Judgement, Outcome, FARTHEST};
 pub use leaf::{leaves, record_length, Bounds, BoxBounds, Leaf};

@@ -72,6 +72,15 @@ extern "C" {
         records_length: usize,
     ) -> Answer;
 
+    fn contour_station_band(
+        outline: *const i32,
+        outline_length: usize,
+        tolerance: i32,
+        m: u32,
+        records: *mut i32,
+        records_length: usize,
+    ) -> Answer;
+
     fn contour_judge(leaves: *const i32, leaves_length: usize, m: u32, x: i32, y: i32) -> Judgement;
 
     fn contour_band_and_judge(
@@ -94,6 +103,21 @@ pub fn band(outline: &[i32], tolerance: i32, m: u32, records: &mut [i32]) -> Ans
     // proved to stay inside them for all contents and lengths.
     unsafe {
         contour_band(outline.as_ptr(), outline.len(), tolerance, m, records.as_mut_ptr(), records.len())
+    }
+}
+
+/// The answer for an outline that is banded by the bench station. Writes to `records` as the header says.
+pub fn station_band(outline: &[i32], tolerance: i32, m: u32, records: &mut [i32]) -> Answer {
+    // Safety: as for `band`.
+    unsafe {
+        contour_station_band(
+            outline.as_ptr(),
+            outline.len(),
+            tolerance,
+            m,
+            records.as_mut_ptr(),
+            records.len(),
+        )
     }
 }
 
@@ -168,6 +192,20 @@ mod tests {
         assert_eq!(band(&line, 2, 3, &mut []), refused(8, 1));
         assert_eq!(band(&line, 2, 4, &mut records), refused(8, 1));
         assert_eq!(records, [0; 18]);
+    }
+
+    #[test]
+    fn the_station_answers_with_its_own_limits() {
+        let refused = |refusal, spot| Answer { refusal, spot, curves: 0, leaves: 0, nodes: 0 };
+        let still = [1, 0, 0, 0, 0];
+        let mut records = [0; 64 * 18];
+        let expected = Answer { refusal: 0, spot: 0, curves: 64, leaves: 64, nodes: 64 };
+        assert_eq!(station_band(&still.repeat(64), 2, 3, &mut records), expected);
+        assert_eq!(station_band(&still.repeat(65), 2, 3, &mut records), refused(5, 320));
+        // A bow that ends where it begins and has four leaves.
+        let bow = [2, 0, 0, 0, 800, 0, 0];
+        assert_eq!(station_band(&bow.repeat(32), 100, 3, &mut []), refused(8, 128));
+        assert_eq!(station_band(&bow.repeat(33), 100, 3, &mut []), refused(19, 132));
     }
 
     const FAR: i32 = 536_870_912;

@@ -31,9 +31,9 @@ pub enum Refusal {
         /// The index in the outline of the later curve's degree.
         index: usize,
     },
-    /// 5: the outline has more than 4,096 curves.
+    /// 5: the outline has more than 4,096 curves; for the bench station, more than 64.
     TooManyCurves {
-        /// The index in the outline of the 4,097th curve's degree.
+        /// The index in the outline of the degree of the first curve too many.
         index: usize,
     },
     /// 6: the outline has no curve.
@@ -48,6 +48,11 @@ pub enum Refusal {
     /// 8: the lent list has fewer numbers than the leaves need.
     TooFewRecords {
         /// How many leaves the outline has; each needs [`record_length`](crate::record_length) numbers.
+        leaves: usize,
+    },
+    /// 19: the outline has more leaves than the bench station takes, which is 128.
+    TooManyLeaves {
+        /// How many leaves the outline has.
         leaves: usize,
     },
     /// 9: the leaf list is empty, or its length is no multiple of [`record_length`](crate::record_length).
@@ -97,6 +102,7 @@ impl Refusal {
             Refusal::TooFewVertices { .. } => 13,
             Refusal::Gap { .. } => 17,
             Refusal::Pieces => 18,
+            Refusal::TooManyLeaves { .. } => 19,
         }
     }
 
@@ -112,7 +118,7 @@ impl Refusal {
             | Refusal::Gap { index } => index as u64,
             Refusal::CutShort { length } | Refusal::LeafListLength { length } => length as u64,
             Refusal::TooWide { curve, node } => 512 * curve as u64 + u64::from(node),
-            Refusal::TooFewRecords { leaves } => leaves as u64,
+            Refusal::TooFewRecords { leaves } | Refusal::TooManyLeaves { leaves } => leaves as u64,
             Refusal::BoxNumber { place } => place as u64,
             Refusal::TooFewVertices { length } => length as u64,
         }
@@ -142,6 +148,7 @@ impl Refusal {
             13 => Refusal::TooFewVertices { length: place },
             17 => Refusal::Gap { index: place },
             18 => Refusal::Pieces,
+            19 => Refusal::TooManyLeaves { leaves: place },
             _ => panic!("the library answered refusal {number} at {spot}, which does not exist"),
         }
     }
@@ -156,7 +163,7 @@ impl fmt::Display for Refusal {
             Refusal::Degree { .. } => write!(f, "a degree is not 1, 2 or 3"),
             Refusal::CutShort { .. } => write!(f, "the outline ends inside a curve"),
             Refusal::Coordinate { .. } => write!(f, "a coordinate is outside its range"),
-            Refusal::TooManyCurves { .. } => write!(f, "the outline has more than 4,096 curves"),
+            Refusal::TooManyCurves { .. } => write!(f, "the outline has more curves than are taken"),
             Refusal::Gap { .. } => write!(f, "a curve does not begin where the one before it ends"),
             Refusal::EmptyOutline => write!(f, "the outline is empty"),
             Refusal::TooWide { curve, node } => {
@@ -164,6 +171,9 @@ impl fmt::Display for Refusal {
             }
             Refusal::TooFewRecords { leaves } => {
                 write!(f, "the list has no room for {leaves} leaves")
+            }
+            Refusal::TooManyLeaves { leaves } => {
+                write!(f, "the outline has {leaves} leaves, more than are taken")
             }
             Refusal::LeafListLength { .. } => write!(f, "the leaf list is empty or ends inside a record"),
             Refusal::LeafListNumber { .. } => {
@@ -190,7 +200,7 @@ mod tests {
     #[test]
     fn number_and_spot_are_what_the_library_answered() {
         let places = [0, 1, 17, 575, 32_767];
-        for number in (2..=10).chain(12..=13).chain([17]) {
+        for number in (2..=10).chain(12..=13).chain([17, 19]) {
             for place in places {
                 // 6 has the spot 0 only.
                 let spot = if number == 6 { 0 } else { place };

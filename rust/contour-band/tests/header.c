@@ -52,6 +52,18 @@ static void draw(struct contour_band_box first, struct contour_band_box second, 
     printf("\n");
 }
 
+/* A bow that ends where it begins and has four leaves, so many times. */
+static void station(size_t bows) {
+    static int32_t outline[33 * 7], records[CONTOUR_BAND_STATION_ROOM(M)];
+    const int32_t bow[7] = {2, 0, 0, 0, 800, 0, 0};
+    for (size_t i = 0; i < 7 * bows; i++) {
+        outline[i] = bow[i % 7];
+    }
+    print(contour_station_band(outline, 7 * bows, 100, M, records, CONTOUR_BAND_STATION_ROOM(M)));
+    print(contour_station_band(outline, 7 * bows, 100, M, records, CONTOUR_BAND_STATION_ROOM(M) - 1));
+    print(contour_band(outline, 7 * bows, 100, M, records, CONTOUR_BAND_STATION_ROOM(M)));
+}
+
 int main(void) {
     const int32_t outline[9] = {3, 0, 0, 10, 30, 20, 30, 30, 0};
     int32_t records[2 * CONTOUR_BAND_RECORD(M)] = {0};
@@ -78,6 +90,15 @@ int main(void) {
         print(contour_band(outline, 9, 360, m, whole, CONTOUR_BAND_RECORD(m)));
         print_judgement(contour_judge(whole, CONTOUR_BAND_RECORD(m), m, 480, 0));
     }
+
+    station(CONTOUR_BAND_STATION_LEAVES_MAX / 4);
+    station(CONTOUR_BAND_STATION_LEAVES_MAX / 4 + 1);
+    int32_t lines[5 * (CONTOUR_BAND_STATION_CURVES_MAX + 1)] = {0};
+    for (int i = 0; i <= CONTOUR_BAND_STATION_CURVES_MAX; i++) {
+        lines[5 * i] = 1;
+    }
+    print(contour_station_band(lines, 5 * CONTOUR_BAND_STATION_CURVES_MAX, 2, M, records, 0));
+    print(contour_station_band(lines, 5 * CONTOUR_BAND_STATION_CURVES_MAX + 1, 2, M, records, 0));
 
     const struct contour_band_box near = {0, 1, 0, 1}, far = {3, 4, 3, 4};
     const struct contour_band_box beyond = {0, 0, 0, CONTOUR_BAND_FARTHEST + 1};

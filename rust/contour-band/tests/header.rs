@@ -50,6 +50,14 @@ const EXPECTED: &str = "\
 0 0 1 0 6
 0 0 1 1 1
 0 0 1 0 7
+0 0 32 128 224
+8 128 0 0 0
+0 0 32 128 224
+19 132 0 0 0
+19 132 0 0 0
+8 132 0 0 0
+8 64 0 0 0
+5 320 0 0 0
 0 0 6 0 0 1 0 4 3 4 4 3 4 0 1 0 0 0 0
 13 15 0 0 0 0 0 0 0 0 0 0 0 0 0 0 0 0 0
 12 7 0 0 0 0 0 0 0 0 0 0 0 0 0 0 0 0 0
@@ -65,6 +73,16 @@ fn printed(source: &Path, name: &str) -> String {
 #[test]
 fn a_c_program_gets_the_same_answers() {
     assert_eq!(printed(&c::root().join("rust/contour-band/tests/header.c"), "header"), EXPECTED);
+}
+
+/// What the header says of the station's stack. It is refused or it is banded, with the most leaves or few.
+#[test]
+fn the_station_takes_little_stack() {
+    let printed = printed(&c::root().join("rust/contour-band/tests/stack.c"), "stack");
+    let bytes: Vec<i32> = printed.lines().map(|line| line.parse().expect("a number is printed")).collect();
+    let (least, most) = (bytes.iter().min().expect("some are"), bytes.iter().max().expect("some are"));
+    println!("the station's stack: {least} to {most} bytes in {} calls", bytes.len());
+    assert!(*most <= 4_096, "{most} bytes of stack");
 }
 
 #[test]

@@ -30,9 +30,19 @@ pub enum Answer {
 
 use Answer::{Accepted, Refused};
 
+/// Who calls banding.
+#[derive(Debug, Clone, Copy, PartialEq, Eq)]
+pub enum Caller {
+    /// A caller who gives lists.
+    Lists,
+    /// The bench station.
+    Station,
+}
+
 /// Compares the engines on one input after the other, and counts.
 pub struct Comparison {
     name: &'static str,
+    caller: Caller,
     noise: Vec<i32>,
     proved: Vec<i32>,
     plain: Vec<i32>,
@@ -63,6 +73,11 @@ pub struct Tally {
 impl Comparison {
     /// A comparison that reports under a name. What stands in the lent lists follows from the seed.
     pub fn new(name: &'static str, seed: u64) -> Comparison {
+        Comparison::of(Caller::Lists, name, seed)
+    }
+
+    /// The same for any caller.
+    pub fn of(caller: Caller, name: &'static str, seed: u64) -> Comparison {
         let mut random = Random::new(seed ^ 0x5eed_0f11_5ea5_0000);
         let noise = (0..LONGEST + 2 * MARGIN)
             .map(|_| match random.below(16) {
@@ -71,7 +86,7 @@ impl Comparison {
             })
             .collect();
         let tally = Tally::default();
-        Comparison { name, noise, proved: Vec::new(), plain: Vec::new(), written: 0, random, tally }
+        Comparison { name, caller, noise, proved: Vec::new(), plain: Vec::new(), written: 0, random, tally }
     }
 
     /// Bands with both engines into lists of `length` numbers. Returns the answer that they share.
@@ -90,8 +105,8 @@ impl Comparison {
         }
         let lent = MARGIN..MARGIN + length;
         let given = outline.to_vec();
-        let proved = by_proved(&given, tolerance, m, &mut self.proved[lent.clone()]);
-        let plain = by_plain(outline, tolerance, m, &mut self.plain[lent]);
+        let proved = by_proved(self.caller, &given, tolerance, m, &mut self.proved[lent.clone()]);
+        let plain = by_plain(self.caller, outline, tolerance, m, &mut self.plain[lent]);
         self.written = match plain {
             Accepted { leaves, .. } => record_length(m) * leaves as usize,
             Refused(..) => 0,
@@ -174,15 +189,23 @@ impl Comparison {
     }
 }
 
-fn by_proved(outline: &[i32], tolerance: i32, m: u32, records: &mut [i32]) -> Answer {
-    match contour_band::band(outline, tolerance, m, records) {
+fn by_proved(caller: Caller, outline: &[i32], tolerance: i32, m: u32, records: &mut [i32]) -> Answer {
+    let band = match caller {
+        Caller::Lists => contour_band::band,
+        Caller::Station => contour_band::station_band,
+    };
+    match band(outline, tolerance, m, records) {
         Ok(contour_band::Report { curves, leaves, nodes }) => Accepted { curves, leaves, nodes },
         Err(refusal) => Refused(refusal.number(), refusal.spot()),
     }
 }
 
-fn by_plain(outline: &[i32], tolerance: i32, m: u32, records: &mut [i32]) -> Answer {
-    match plain::band(outline, tolerance, m, records) {
+fn by_plain(caller: Caller, outline: &[i32], tolerance: i32, m: u32, records: &mut [i32]) -> Answer {
+    let band = match caller {
+        Caller::Lists => plain::band,
+        Caller::Station => plain::station_band,
+    };
+    match band(outline, tolerance, m, records) {
         Ok(plain::Report { curves, leaves, nodes }) => Accepted { curves, leaves, nodes },
         Err(refusal) => Refused(refusal.number(), refusal.spot()),
     }

@@ -20,29 +20,50 @@ pub struct Report {
     pub nodes: u64,
 }
 
+/// What a caller takes of an outline.
+#[derive(Debug, Clone, Copy)]
+pub struct Most {
+    /// The most curves.
+    pub curves: usize,
+    /// The most leaves.
+    pub leaves: usize,
+}
+
+/// What a caller takes who gives lists: leaves as they come.
+const LISTS: Most = Most { curves: outline::MOST_CURVES, leaves: usize::MAX };
+
+/// What the bench station takes.
+const STATION: Most = Most { curves: 64, leaves: 128 };
+
 /// Writes the leaf records of an outline, at a tolerance in sixteenths and with m pieces to a leaf, to the
 /// front of `records`. Numbers past them stay as they were, and so do all where the answer is a refusal.
 pub fn band(outline: &[i32], tolerance: i32, m: u32, records: &mut [i32]) -> Result<Report, Refusal> {
-    band_most(outline, outline::MOST_CURVES, tolerance, m, records)
+    band_most(outline, LISTS, tolerance, m, records)
 }
 
-/// Bands an outline that may have `most` curves.
+/// The same for the bench station, which takes 64 curves and 128 leaves.
+pub fn station_band(outline: &[i32], tolerance: i32, m: u32, records: &mut [i32]) -> Result<Report, Refusal> {
+    band_most(outline, STATION, tolerance, m, records)
+}
+
+/// Bands an outline for a caller who takes so much of it.
 pub fn band_most(
     outline: &[i32],
-    most: usize,
+    most: Most,
     tolerance: i32,
     m: u32,
     records: &mut [i32],
 ) -> Result<Report, Refusal> {
     check_pieces(m)?;
     outline::check_tolerance(tolerance)?;
-    let curves = outline::curves(outline, most)?;
-    for_pieces!(m, band_curves)(&curves, tolerance, records)
+    let curves = outline::curves(outline, most.curves)?;
+    for_pieces!(m, band_curves)(&curves, most.leaves, tolerance, records)
 }
 
-/// Bands curves with B break points to a leaf. Checks 7 and 8.
+/// Bands curves that may have `most` leaves, with B break points to a leaf. Checks 7, 19 and 8.
 fn band_curves<const B: usize>(
     curves: &[Curve],
+    most: usize,
     tolerance: i32,
     records: &mut [i32],
 ) -> Result<Report, Refusal> {
@@ -51,6 +72,9 @@ fn band_curves<const B: usize>(
         walk.visit(number, curve, 1, 0)?;
     }
     let leaves = walk.leaves.len();
+    if leaves > most {
+        return Err(Refusal::TooManyLeaves { leaves });
+    }
     let length = record_length(B as u32 - 1);
     let room = records.get_mut(..length * leaves).ok_or(Refusal::TooFewRecords { leaves })?;
     for (record, leaf) in room.chunks_exact_mut(length).zip(&walk.leaves) {
@@ -103,5 +127,44 @@ impl<const B: usize> Leaf<B> {
         for (place, numbers) in rest.chunks_exact_mut(4).zip(&self.boxes) {
             place.copy_from_slice(numbers);
         }
+    }
+}
+
+#[cfg(test)]
+mod tests {
+    use super::*;
+
+    /// A line of no length, and a bow that ends where it begins and has four leaves at a tolerance of 100.
+    const STILL: [i32; 5] = [1, 0, 0, 0, 0];
+    const BOW: [i32; 7] = [2, 0, 0, 0, 800, 0, 0];
+
+    fn refusal(outline: &[i32], lent: usize) -> Refusal {
+        station_band(outline, 100, 3, &mut vec![0; lent]).expect_err("it is refused")
+    }
+
+    #[test]
+    fn the_station_takes_64_curves() {
+        assert_eq!(refusal(&STILL.repeat(64), 0), Refusal::TooFewRecords { leaves: 64 });
+        assert_eq!(refusal(&STILL.repeat(65), 0), Refusal::TooManyCurves { index: 320 });
+    }
+
+    #[test]
+    fn the_station_takes_128_leaves() {
+        let (most, more) = (BOW.repeat(32), [&BOW.repeat(32)[..], &STILL].concat());
+        assert_eq!(refusal(&most, 128 * 18 - 1), Refusal::TooFewRecords { leaves: 128 });
+        let report = Report { curves: 32, leaves: 128, nodes: 224 };
+        assert_eq!(station_band(&most, 100, 3, &mut [0; 128 * 18]), Ok(report));
+        // Before 8, with every leaf counted, and after 7.
+        assert_eq!(refusal(&more, 0), Refusal::TooManyLeaves { leaves: 129 });
+        assert_eq!(refusal(&BOW.repeat(64), 4_608), Refusal::TooManyLeaves { leaves: 256 });
+        let wide = [3, 0, 0, 0, 1_048_576, 0, 1_048_576, 0, 0];
+        let wide = station_band(&[&more[..], &wide].concat(), 3, 3, &mut []);
+        assert_eq!(wide, Err(Refusal::TooWide { curve: 33, node: 256 }));
+    }
+
+    #[test]
+    fn lists_take_leaves_as_they_come() {
+        let refusal = band(&BOW.repeat(4_096), 100, 3, &mut []).expect_err("nothing is lent");
+        assert_eq!(refusal, Refusal::TooFewRecords { leaves: 16_384 });
     }
 }

@@ -1,8 +1,9 @@
 //! A plain engine for contour bands, written from documents 01 and 02 alone. It shares nothing with the
 //! proved engine, and the two are compared with each other, number by number.
 //!
-//! [`band`] encloses an outline of Bézier curves in boxes, with m pieces to a leaf, [`judge`] says whether a
-//! point lies on what they cover, [`band_and_judge`] does both, and [`draw`] draws the hull of two boxes.
+//! [`band`] encloses an outline of Bézier curves in boxes, with m pieces to a leaf, and [`station_band`] a small
+//! one; [`judge`] says whether a point lies on what they cover, [`band_and_judge`] does both, and [`draw`] draws
+//! the hull of two boxes.
 //! [`text::answer`] is the text program. The modules follow the documents: the checks of an outline and of
 //! m, halving, the rows and the enclosure, the walk; the checks of a leaf list and a point, covers, judging;
 //! drawing; the lines of a text, its answer.
@@ -29,7 +30,7 @@ mod refusal;
 mod rows;
 pub mod text;
 
-pub use band::{band, Report};
+pub use band::{band, station_band, Report};
 pub use hull::draw;
 pub use judge::{band_and_judge, judge, Judgement};
 pub use pieces::record_length;

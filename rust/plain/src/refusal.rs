@@ -21,7 +21,7 @@ pub enum Refusal {
         /// Where the first such coordinate of its curve stands in the outline.
         index: usize,
     },
-    /// 5: a 65th curve begins.
+    /// 5: a curve begins that is one too many.
     TooManyCurves {
         /// Where its degree stands in the outline.
         index: usize,
@@ -86,6 +86,11 @@ pub enum Refusal {
     },
     /// 18: the number of pieces is not 1 to 8.
     Pieces,
+    /// 19: the outline has more leaves than the caller takes.
+    TooManyLeaves {
+        /// How many leaves the outline has.
+        leaves: usize,
+    },
 }
 
 impl Refusal {
@@ -110,6 +115,7 @@ impl Refusal {
             Refusal::TextTooLong { .. } => 16,
             Refusal::Gap { .. } => 17,
             Refusal::Pieces => 18,
+            Refusal::TooManyLeaves { .. } => 19,
         }
     }
 
@@ -125,7 +131,7 @@ impl Refusal {
             | Refusal::Gap { index } => index,
             Refusal::CutShort { length } | Refusal::LeafListLength { length } => length,
             Refusal::TooWide { curve, node } => 512 * curve + node,
-            Refusal::TooFewRecords { leaves } => leaves,
+            Refusal::TooFewRecords { leaves } | Refusal::TooManyLeaves { leaves } => leaves,
             Refusal::BoxNumber { place } => place,
             Refusal::TooFewVertices { length } => length,
             Refusal::NotAForm { line } | Refusal::OutOfOrder { line } => line,

@@ -1,6 +1,6 @@
 //! The text program: from the bytes that it reads to the bytes that it prints.
 
-use crate::band::{band_most, Report};
+use crate::band::{band_most, Most, Report};
 use crate::form::{form, Form};
 use crate::judge::{judge, Judgement};
 use crate::pieces::record_length;
@@ -10,8 +10,8 @@ use std::fmt::Write;
 /// How many bytes a text may have.
 const LONGEST: usize = 16_384;
 
-/// How many curves a text may have.
-const MOST_CURVES: usize = 64;
+/// What is taken of a text's outline: leaves as they come.
+const MOST: Most = Most { curves: 64, leaves: usize::MAX };
 
 /// How many numbers are lent to banding.
 const LENT: usize = 16_380;
@@ -66,7 +66,7 @@ fn read(text: &[u8]) -> Result<Job, Refusal> {
 /// The leaves and the counts of banding, then a line for each point.
 fn carry_out(job: Job) -> Result<String, Refusal> {
     let mut records = vec![0; LENT];
-    let report = band_most(&job.outline, MOST_CURVES, job.tolerance, M, &mut records)?;
+    let report = band_most(&job.outline, MOST, job.tolerance, M, &mut records)?;
     records.truncate(RECORD * report.leaves as usize);
     let mut lines: String = records.chunks_exact(RECORD).map(leaf).collect();
     lines += &done(report);

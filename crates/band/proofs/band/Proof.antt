@@ -1,4 +1,4 @@
--- Banding of lists: that of at most 4,096 curves.
+-- Banding of lists: that of at most 4,096 curves and as many leaves as these can have.
 use borrow.Author.Needs.{needs}
 use mir.Facts.{toZ-ofZ}
 use Rattle.band.proofs.band.Statement.{statement}

@@ -16,9 +16,9 @@ returns : tie.Need-returns
 returns c =
     let s = c .before .before in
     let a = s .args in
-    let e = banded-pieces (limited (a .most) (a .m)) (a .outline .now) (a .tolerance) _
+    let e = banded-pieces (limited (a .most) (a .leaves) (a .m)) (a .outline .now) (a .tolerance) _
     (sym (c .before .pieces-fine .ensures) ∙ not-true (c .before .pieces-fine .result) (c .if1 .taken)) in
-    (e, written-refused (limited (a .most) (a .m)) (a .outline .now) (a .tolerance) (a .records .now) e)
+    (e, written-refused (limited (a .most) (a .leaves) (a .m)) (a .outline .now) (a .tolerance) (a .records .now) e)
 
 -- past check 18
 rows : (c : tie.Else1) → piecesFine (c .before .before .args .m) ≡ true
@@ -29,10 +29,10 @@ returns-2 c =
     let r = c .before .before in
     let s = r .before .before in
     let a = s .args in
-    let e = banded-tolerance (limited (a .most) (a .m)) (a .outline .now) (a .tolerance) _ (rows r)
+    let e = banded-tolerance (limited (a .most) (a .leaves) (a .m)) (a .outline .now) (a .tolerance) _ (rows r)
     (rw (toZ-ofZ (s .fits .tolerance)) at (sym (c .before .tolerance-fine .ensures)
     ∙ not-true (c .before .tolerance-fine .result) (c .if2 .taken))) in
-    (e, written-refused (limited (a .most) (a .m)) (a .outline .now) (a .tolerance) (a .records .now) e)
+    (e, written-refused (limited (a .most) (a .leaves) (a .m)) (a .outline .now) (a .tolerance) (a .records .now) e)
 
 -- past check 1
 fine : (c : tie.Else2) → toleranceFine (c .before .before .before .before .args .tolerance) ≡ true
@@ -52,7 +52,7 @@ band-curves-requires c κs =
     let r = k .before .before .before in
     let a = r .before .before .args in (
       fine-has-rows (a .m) (rows r),
-      readable (limited (a .most) (a .m)) (a .outline .now) (sym (c .before .before .curves .given .1) ∙ k .check-outline .ensures)
+      readable (limited (a .most) (a .leaves) (a .m)) (a .outline .now) (sym (c .before .before .curves .given .1) ∙ k .check-outline .ensures)
           (r .before .before .pre),
     )
 
@@ -61,9 +61,9 @@ returns-3 c =
     let k = c .before .before .before in
     let r = k .before .before .before in
     let a = r .before .before .args in
-    let e = banded-faulty (limited (a .most) (a .m)) (a .outline .now) (a .tolerance) _ (rows r) (fine (k .before))
+    let e = banded-faulty (limited (a .most) (a .leaves) (a .m)) (a .outline .now) (a .tolerance) _ (rows r) (fine (k .before))
     (sym (c .before .refusal .given .1) ∙ k .check-outline .ensures) in
-    (e, written-refused (limited (a .most) (a .m)) (a .outline .now) (a .tolerance) (a .records .now) e)
+    (e, written-refused (limited (a .most) (a .leaves) (a .m)) (a .outline .now) (a .tolerance) (a .records .now) e)
 
 returns-4 : tie.Need-returns-4
 returns-4 c =
@@ -73,8 +73,8 @@ returns-4 c =
     let a = s .args in
     let e = sym (c .before .before .before .before .curves .given .1) ∙ k .check-outline .ensures in
     let v = rw (toZ-ofZ (s .fits .tolerance), toZ-ofZ (sfits-widen {w′ = w64} tt (s .fits .tolerance))) at (c .before .band-curves .ensures) in
-    let b = v .0 ∙ banded-read (limited (a .most) (a .m)) (a .outline .now) e (a .tolerance) _ (rows r) (fine (k .before)) in
-    (b, written-curves (limited (a .most) (a .m)) (a .outline .now) e (a .tolerance) (a .records .now) _ b (v .1))
+    let b = v .0 ∙ banded-read (limited (a .most) (a .leaves) (a .m)) (a .outline .now) e (a .tolerance) _ (rows r) (fine (k .before)) in
+    (b, written-curves (limited (a .most) (a .leaves) (a .m)) (a .outline .now) e (a .tolerance) (a .records .now) _ b (v .1))
 
 pub band-most-spec : {M : Type 1} → statement M
 band-most-spec =

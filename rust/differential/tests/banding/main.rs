@@ -8,3 +8,4 @@ mod meeting;
 mod most_curves;
 mod random;
 mod short_lists;
+mod station;

@@ -1,17 +1,17 @@
--- Checks 7 and 8 and the records, from the two passes.
+-- Checks 7, 19 and 8 and the records, from the two passes.
 use mathlib.Core.Path.{_≡_, sym, _∙_}
 use Prim.Native.Nat.{_*_, _≤_}
 use native.Mathlib.Omega.{arith}
 use lib.ListN.{length}
 use borrow.Author.Needs.{needs}
 use mir.Facts.{toZ-ofZ}
-use Rattle.setting.specs.Setting.{lists, recordLength}
+use Rattle.setting.specs.Setting.{limited, lists, recordLength}
 use Rattle.setting.proofs.Pieces.{record-length-is}
 use Rattle.band_passes.specs.declared.passes.Counted.the-variants.{Total}
 use Rattle.band_passes.specs.Leaves.{curvesOf}
 use Rattle.band_passes.specs.Inside.{countedOf}
 use Rattle.outline.specs.Checks.{outlineFrom}
-use Rattle.band.proofs.Answers.{answer-too-wide, answer-few, answer-nodes, answer-too-few, answer-list, numbers-few}
+use Rattle.band.proofs.Answers.{answer-too-wide, answer-few, answer-nodes, answer-too-many, answer-too-few, answer-list, numbers-few}
 use Rattle.band.proofs.Answers.{read-count, fillable, report-done}
 use Rattle.band.proofs.outline_band.band_by.Statement.{statement}
 use Rattle.band.proofs.outline_band.band_by.Tie as tie
@@ -25,39 +25,55 @@ counted c =
     let s = c .before .before .before .before in
     rw (toZ-ofZ (s .fits .t)) at (sym (c .before .leaves .given .1) ∙ c .before .before .before .count .ensures)
 
-mul-record-length : tie.Need-mul-record-length
-mul-record-length c = omega (arith, c .before .before .before .before .pre .0 .has .most)
-
-add-record-length : tie.Need-add-record-length
-add-record-length c = omega (arith, c .before .before .before .before .pre .0 .has .most)
-
-mul-if1 : tie.Need-mul-if1
-mul-if1 c =
-    let s = c .before .before .before .before in
-    let r = s .pre .1 in
-    let few = answer-few (lists (s .args .pieces .m)) (s .args .t) (curvesOf (outlineFrom (s .args .curves) (s .args .ns .now) 0)) (counted c)
-    (omega (arith, read-count r, r .few)) in
-    omega (arith, numbers-few (s .pre .0 .has .most) few)
-
--- the test of the room, in the numbers of a record
 returns : tie.Need-returns
 returns c =
     let k = c .before in
     let s = k .before .before .before .before in
-    let m = s .args .pieces .m in (
-      answer-too-few (lists m) (s .args .t) (curvesOf (outlineFrom (s .args .curves) (s .args .ns .now) 0)) (counted k)
-          (rw (record-length-is m) at (c .if1 .taken)),
+    let a = s .args in (
+      answer-too-many (limited (a .curves) (a .most) (a .pieces .m)) (a .t) (curvesOf (outlineFrom (a .curves) (a .ns .now) 0)) (counted k) _
+          (c .if1 .taken),
       search needs,
     )
 
-enough : (c : tie.Else1) → let k = c .before in
+-- past check 19
+taken : (c : tie.Else1) → let k = c .before in k .before .leaves .given .0 .0 ≤ k .before .before .before .before .args .most
+taken c = c .if1 .left
+
+mul-record-length : tie.Need-mul-record-length
+mul-record-length c = omega (arith, c .before .before .before .before .before .pre .0 .has .most)
+
+add-record-length : tie.Need-add-record-length
+add-record-length c = omega (arith, c .before .before .before .before .before .pre .0 .has .most)
+
+mul-if2 : tie.Need-mul-if2
+mul-if2 c =
+    let k = c .before in
+    let s = k .before .before .before .before in
+    let r = s .pre .1 in
+    let few = answer-few (lists (s .args .pieces .m)) (s .args .t) (curvesOf (outlineFrom (s .args .curves) (s .args .ns .now) 0)) (counted k)
+    (omega (arith, read-count r, r .few)) in
+    omega (arith, numbers-few (s .pre .0 .has .most) few)
+
+-- the test of the room, in the numbers of a record
+returns-2 : tie.Need-returns-2
+returns-2 c =
+    let k = c .before .before in
+    let s = k .before .before .before .before in
+    let a = s .args in
+    let m = a .pieces .m in (
+      answer-too-few (limited (a .curves) (a .most) m) (a .t) (curvesOf (outlineFrom (a .curves) (a .ns .now) 0)) (counted k) (taken (c .before))
+          (rw (record-length-is m) at (c .if2 .taken)),
+      search needs,
+    )
+
+enough : (c : tie.Else2) → let k = c .before .before in
     recordLength (lists (k .before .before .before .before .args .pieces .m)) * k .before .leaves .given .0 .0
     ≤ length (k .before .before .before .before .args .records .now)
-enough c = rw (record-length-is (c .before .before .before .before .before .args .pieces .m)) at (c .if1 .left)
+enough c = rw (record-length-is (c .before .before .before .before .before .before .args .pieces .m)) at (c .if2 .left)
 
 write-all-requires : tie.Need-write-all-requires
 write-all-requires c κs =
-    let k = c .before .before in
+    let k = c .before .before .before in
     let s = k .before .before .before .before in (
       s .pre .0,
       rw (toZ-ofZ (s .fits .t)) (fillable (s .pre .1) (lists (s .args .pieces .m)) (s .args .t) (counted k) (enough (c .before))),
@@ -65,33 +81,35 @@ write-all-requires c κs =
 
 sub-nodes : tie.Need-sub-nodes
 sub-nodes c =
-    let k = c .before .before .before .before in
+    let k = c .before .before .before .before .before in
     let s = k .before .before .before .before in
     let cs = curvesOf (outlineFrom (s .args .curves) (s .args .ns .now) 0) in
     omega (arith, answer-nodes (lists (s .args .pieces .m)) (s .args .t) cs (counted k), read-count (s .pre .1))
 
-returns-2 : tie.Need-returns-2
-returns-2 c =
-    let s = c .before .before .before .before in (
-      answer-too-wide (lists (s .args .pieces .m)) (s .args .t) (curvesOf (outlineFrom (s .args .curves) (s .args .ns .now) 0)) _
+returns-3 : tie.Need-returns-3
+returns-3 c =
+    let s = c .before .before .before .before in
+    let a = s .args in (
+      answer-too-wide (limited (a .curves) (a .most) (a .pieces .m)) (a .t) (curvesOf (outlineFrom (a .curves) (a .ns .now) 0)) _
           (rw (toZ-ofZ (s .fits .t)) at (sym (c .before .refusal .given .1) ∙ c .before .before .before .count .ensures)),
       search needs,
     )
 
-returns-3 : tie.Need-returns-3
-returns-3 c =
-    let k = c .before .before .before .before in
+returns-4 : tie.Need-returns-4
+returns-4 c =
+    let k = c .before .before .before .before .before in
     let s = k .before .before .before .before in
-    let m = s .args .pieces .m in
+    let a = s .args in
+    let m = a .pieces .m in
     let e = counted k in
     let h = enough (c .before .before .before) in (
-      report-done (s .pre .1) (lists m) (s .args .t) e h,
+      report-done (s .pre .1) (limited (a .curves) (a .most) m) (a .t) e (taken (c .before .before .before .before)) h,
       (rw (toZ-ofZ (s .fits .t)) at (c .before .write-all .ensures))
-          ∙ answer-list (lists m) (s .args .t) (curvesOf (outlineFrom (s .args .curves) (s .args .ns .now) 0)) e (s .args .records .now) h,
+          ∙ answer-list (lists m) (a .t) (curvesOf (outlineFrom (a .curves) (a .ns .now) 0)) e (a .records .now) h,
     )
 
 pub band-by-spec : {M : Type 1} → statement M
 band-by-spec =
     tie.close
-    (tie.spec (λ c κs. search needs) (λ c. search needs) (λ c. search needs) mul-record-length add-record-length mul-if1 returns
-    write-all-requires (λ c. search needs) sub-nodes returns-2 (λ c. search needs) returns-3)
+    (tie.spec (λ c κs. search needs) (λ c. search needs) (λ c. search needs) returns mul-record-length add-record-length mul-if2 returns-2
+    write-all-requires (λ c. search needs) sub-nodes returns-3 (λ c. search needs) returns-4)
