@@ -52,7 +52,9 @@ extern "C" {
 #define CONTOUR_BAND_RECORD(m) (6 + 4 * (m))
 
 /* The ranges of documents 01 and 02. A tolerance is in sixteenths of a stage unit, a coordinate in stage units, m a number of
- * pieces. */
+ * pieces. A curve of degree 4 or 5 takes 3 to 8 pieces, any other 1 to 8. */
+#define CONTOUR_BAND_DEGREE_MIN 1
+#define CONTOUR_BAND_DEGREE_MAX 5
 #define CONTOUR_BAND_PIECES_MIN 1
 #define CONTOUR_BAND_PIECES_MAX 8
 #define CONTOUR_BAND_TOLERANCE_MIN 2
@@ -67,7 +69,7 @@ extern "C" {
 #define CONTOUR_BAND_STATION_CURVES_MAX 64
 #define CONTOUR_BAND_STATION_LEAVES_MAX 128
 #define CONTOUR_BAND_STATION_ROOM(m) (CONTOUR_BAND_STATION_LEAVES_MAX * CONTOUR_BAND_RECORD(m))
-#define CONTOUR_BAND_STATION_STACK 4096
+#define CONTOUR_BAND_STATION_STACK 5120
 
 /* The largest number of a box and of a point, in sixteenths of a stage unit; its negative is the least. */
 #define CONTOUR_BAND_FARTHEST 536870912
@@ -76,19 +78,21 @@ extern "C" {
 #define CONTOUR_BAND_VERTEX_ROOM 16
 
 /* The refusals, each with its condition and its spot. They stand in the order in which an operation tries them: banding 18, 1
- * to 8 and 17 (5, 2, 3, 4 and 17 curve by curve), and 19 for the bench station alone; judging 18 and 9 to 11, banding and
- * judging together those of banding and then 11, drawing 12 and 13. A refusal leaves every lent list as it was. */
+ * to 8, 17 and 20 (5, 2, 20, 3, 4 and 17 curve by curve), and 19 for the bench station alone; judging 18 and 9 to 11,
+ * banding and judging together those of banding and then 11, drawing 12 and 13. A refusal leaves every lent list as it was. */
 enum contour_band_refusal {
     CONTOUR_BAND_ACCEPTED = 0,         /* nothing is refused; 0 */
     CONTOUR_BAND_PIECES = 18,          /* m is not 1 to 8; 0 */
     CONTOUR_BAND_TOLERANCE = 1,        /* the tolerance is outside its range; 0 */
     CONTOUR_BAND_EMPTY_OUTLINE = 6,    /* the outline has no number; 0 */
     CONTOUR_BAND_TOO_MANY_CURVES = 5,  /* a 4,097th curve begins, for the bench station a 65th; the index of its degree */
-    CONTOUR_BAND_DEGREE = 2,           /* a degree is not 1, 2 or 3; its index */
+    CONTOUR_BAND_DEGREE = 2,           /* a degree is not 1 to 5; its index */
+    CONTOUR_BAND_TOO_FEW_PIECES = 20,  /* a degree is 4 or 5, and m is below 3; its index */
     CONTOUR_BAND_CUT_SHORT = 3,        /* the outline ends inside a curve; the outline's length */
     CONTOUR_BAND_COORDINATE = 4,       /* a coordinate is outside its range; the index of the curve's first such */
     CONTOUR_BAND_GAP = 17,             /* a curve does not begin where the one before it ends; the index of its degree */
-    CONTOUR_BAND_TOO_WIDE = 7,         /* a box at depth 8 has a longer diagonal than the tolerance; 512 * curve + node, for the first */
+    CONTOUR_BAND_TOO_WIDE = 7,         /* a box at the last depth, 8, or 4 for degrees 4 and 5, has a longer diagonal than the
+                                        * tolerance; 512 * curve + node, for the first */
     CONTOUR_BAND_TOO_MANY_LEAVES = 19, /* the bench station's outline has more than 128 leaves; the number of leaves */
     CONTOUR_BAND_TOO_FEW_RECORDS = 8,  /* records_length is less than (6 + 4 * m) * leaves; the number of leaves */
     CONTOUR_BAND_LEAVES_LENGTH = 9,    /* leaves_length is 0 or no multiple of 6 + 4 * m; leaves_length */
@@ -109,15 +113,16 @@ struct contour_band_answer {
 
 /* Puts a band round an outline.
  *
- * outline: for each curve its degree d, which is 1, 2 or 3, then x and y of its d + 1 control points, in stage units.
- *     There are 1 to 4,096 curves, numbered from 0. Each begins where the one before it ends; the outline may stay open at its
- *     ends.
+ * outline: for each curve its degree d, which is 1 to 5, then x and y of its d + 1 control points, in stage units: 3 + 2 * d
+ *     numbers, at most 13. There are 1 to 4,096 curves, numbered from 0. Each begins where the one before it ends; the outline
+ *     may stay open at its ends.
  * tolerance: the greatest diagonal of a box, in sixteenths of a stage unit.
- * m: how many straight pieces a leaf has, 1 to 8. The more it has, the fewer leaves there are as a rule, and the longer is a
- *     record. A negative number becomes a large one, and is refused.
+ * m: how many straight pieces a leaf has, 1 to 8, and 3 to 8 where a curve has degree 4 or 5. The more it has, the fewer
+ *     leaves there are as a rule, and the longer is a record. A negative number becomes a large one, and is refused.
  * records: where the leaves are written. A record is 6 + 4 * m numbers: the curve, the node (1 to 511), then for each of the
  *     break points 0 to m, the m-ths of its stretch, x low, x high, y low, y high, in sixteenths of a stage unit. Records
- *     stand by curve, then by parameter. CONTOUR_BAND_RECORD(m) * 256 numbers for each curve are always enough.
+ *     stand by curve, then by parameter. CONTOUR_BAND_RECORD(m) * 256 numbers for each curve are always enough; for a curve
+ *     of degree 4 or 5, which is halved four times at most, CONTOUR_BAND_RECORD(m) * 16 are.
  *
  * Accepted: the first CONTOUR_BAND_RECORD(m) * leaves numbers of the records are written, and the numbers past them stay as
  * they were.

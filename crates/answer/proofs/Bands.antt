@@ -31,17 +31,19 @@ use Rattle.text_outline.proofs.Kept.{outline-kept, kept-few}
 use Rattle.answer.specs.Bands.{bandOf, recordsAfter}
 
 -- ---- `band_text`: banding looks at an outline through its checks alone
-banded-same : (σ : Setting) (T : ℤ) (ns ms : List ℤ) (room : ℕ) → outlined (σ .most) ns ≡ outlined (σ .most) ms → banded σ T ns room ≡ banded σ T ms room
+banded-same : (σ : Setting) (T : ℤ) (ns ms : List ℤ) (room : ℕ) → outlined (σ .most) (σ .pieces) ns ≡ outlined (σ .most) (σ .pieces) ms
+    → banded σ T ns room ≡ banded σ T ms room
 unfolding banded
 banded-same σ T ns ms room e = ap (λ (o : Outlined). elim (piecesFine (σ .pieces)) [
   | false ↦ Refused Pieces
   | true ↦ elim (toleranceFine T) [ false ↦ Refused WrongTolerance | true ↦ bandOutlined σ T o room ]
 ]) e
 
-written-same : (σ : Setting) (T : ℤ) (ns ms old : List ℤ) → outlined (σ .most) ns ≡ outlined (σ .most) ms → written σ T ns old ≡ written σ T ms old
+written-same : (σ : Setting) (T : ℤ) (ns ms old : List ℤ) → outlined (σ .most) (σ .pieces) ns ≡ outlined (σ .most) (σ .pieces) ms
+    → written σ T ns old ≡ written σ T ms old
 unfolding written
 written-same σ T ns ms old e =
-    ap (λ (b : Banded). writtenBy b (allRecords σ T 0 (curvesOf (outlined (σ .most) ns))) old) (banded-same σ T ns ms (length old) e)
+    ap (λ (b : Banded). writtenBy b (allRecords σ T 0 (curvesOf (outlined (σ .most) (σ .pieces) ns))) old) (banded-same σ T ns ms (length old) e)
     ∙ ap (λ (o : Outlined). writtenBy (banded σ T ms (length old)) (allRecords σ T 0 (curvesOf o)) old) e
 
 -- what the checks of a text say of its meaning
@@ -86,8 +88,8 @@ module _ (s : List ℕ) (c : TextCheck) (e : c ≡ textCheckOf (meaning s)) (old
     text-means : Means (meaning s) T
     text-means = means-by (meaning s) T (sym f ∙ e)
 
-    checks-same : outlined 64 (take n o) ≡ outlined 64 (text-means .outline)
-    checks-same = ap (outlined 64) (lent s d o n a z) ∙ outline-kept 64 s T (text-means .outline) (text-means .points) (text-means .is)
+    checks-same : outlined 64 3 (take n o) ≡ outlined 64 3 (text-means .outline)
+    checks-same = ap (outlined 64 3) (lent s d o n a z) ∙ outline-kept 64 3 s T (text-means .outline) (text-means .points) (text-means .is)
 
     pub text-band : (b : Banded) → b ≡ banded texts (stored w32 T) (take n o) (length old) → b ≡ bandOf (meaning s) (length old)
     text-band b p =

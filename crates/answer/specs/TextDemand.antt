@@ -59,7 +59,7 @@ module _ (s : List ℕ) (T : ℤ) (outline : List ℤ) (a b c : ℕ) where
   pub record TextDemand3 (points : List (ℤ × ℤ)) : Type 0 where
     -- the outline has no fault, and these are its curves
     pub all : List Curve
-    pub are : outlined (texts .most) outline ≡ curves all
+    pub are : outlined (texts .most) (texts .pieces) outline ≡ curves all
     -- the answer is the lines of the band, then one line for each point, in order
     pub all-lines : answerOf s ≡ bandLines a b c (textRecords T outline) ++ pointAnswers (textLeaves T outline b) points
     pub each-point : (before : List (ℤ × ℤ)) (x y : ℤ) (after : List (ℤ × ℤ)) → points ≡ before ++ (x, y) ∷ after

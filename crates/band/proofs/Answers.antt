@@ -115,42 +115,42 @@ module _ (σ : Setting) (T : ℤ) (cs : List Curve) where
         front-written l (allRecords σ T 0 cs) (omega (arith, all-records-length σ T 0 cs, ap (λ n. recordLength σ * n) (leaves-counted e .1)))
 
 -- ---- an outline without faults
-module _ {ns : List ℤ} {n : ℕ} (r : Readable ns n) where
-  pub read-count : length (curvesOf (outlineFrom n ns 0)) ≡ n
+module _ (σ : Setting) {ns : List ℤ} {n : ℕ} (r : Readable (σ .pieces) ns n) where
+  pub read-count : length (curvesOf (outlineFrom n (σ .pieces) ns 0)) ≡ n
   read-count = ap (λ o. length (curvesOf o)) (r .is) ∙ r .count
 
-  pub fillable : (σ : Setting) (T : ℤ) {m room : ℕ} → Total m ≡ countedOf (listed σ) T (curvesOf (outlineFrom n ns 0)) → recordLength σ * m ≤ room
+  pub fillable : (T : ℤ) {m room : ℕ} → Total m ≡ countedOf (listed σ) T (curvesOf (outlineFrom n (σ .pieces) ns 0)) → recordLength σ * m ≤ room
       → Fillable σ T ns n room
-  fillable σ T e h =
+  fillable T e h =
       let w = leaves-counted σ T (r .all) (e ∙ ap (λ o. countedOf (listed σ) T (curvesOf o)) (r .is)) in
       record { readable = r; passing = w .0; enough = omega (arith, h, ap (λ n. recordLength σ * n) (w .1)) }
 
-  pub report-done : (σ : Setting) (T : ℤ) {m room : ℕ} → Total m ≡ countedOf (listed σ) T (curvesOf (outlineFrom n ns 0)) → m ≤ σ .leaves
-      → recordLength σ * m ≤ room → Done n m (2 * m - n) ≡ bandCurves σ T (curvesOf (outlineFrom n ns 0)) room
-  report-done σ T {m} {room} e taken h =
-      let cs = curvesOf (outlineFrom n ns 0) in
+  pub report-done : (T : ℤ) {m room : ℕ} → Total m ≡ countedOf (listed σ) T (curvesOf (outlineFrom n (σ .pieces) ns 0)) → m ≤ σ .leaves
+      → recordLength σ * m ≤ room → Done n m (2 * m - n) ≡ bandCurves σ T (curvesOf (outlineFrom n (σ .pieces) ns 0)) room
+  report-done T {m} {room} e taken h =
+      let cs = curvesOf (outlineFrom n (σ .pieces) ns 0) in
       subst (λ k. Done k m (2 * m - k) ≡ bandCurves σ T cs room) read-count (answer-done σ T cs e taken h)
 
 module _ (σ : Setting) (ns : List ℤ) where
-  module _ {n : ℕ} (e : Curves n ≡ checkedOf (outlined (σ .most) ns)) where
-    found : Accepted (outlined (σ .most) ns) n
-    found = checked-curves (outlined (σ .most) ns) n (sym e)
+  module _ {n : ℕ} (e : Curves n ≡ checkedOf (outlined (σ .most) (σ .pieces) ns)) where
+    found : Accepted (outlined (σ .most) (σ .pieces) ns) n
+    found = checked-curves (outlined (σ .most) (σ .pieces) ns) n (sym e)
 
-    read : outlineFrom n ns 0 ≡ curves (found .cs)
-    read = let a = found in accepted-within (σ .most) n ns 0 (a .cs) (outlined-from (σ .most) ns (a .cs) (a .is)) (le-of-eq (a .count))
+    read : outlineFrom n (σ .pieces) ns 0 ≡ curves (found .cs)
+    read = let a = found in accepted-within (σ .most) n (σ .pieces) ns 0 (a .cs) (outlined-from (σ .most) (σ .pieces) ns (a .cs) (a .is)) (le-of-eq (a .count))
 
-    pub readable : σ .most ≤ 65536 → Readable ns n
+    pub readable : σ .most ≤ 65536 → Readable (σ .pieces) ns n
     readable h = let a = found in
-        record { all = a .cs; is = read; count = a .count; few = omega (arith, h, accepted-most (σ .most) ns (a .cs) (a .is), a .count) }
+        record { all = a .cs; is = read; count = a .count; few = omega (arith, h, accepted-most (σ .most) (σ .pieces) ns (a .cs) (a .is), a .count) }
 
     -- banding of the curves does not know how many more there might have been
     pub banded-read : (T : ℤ) (room : ℕ) → piecesFine (σ .pieces) ≡ true → toleranceFine T ≡ true
-        → bandCurves (limited n (σ .leaves) (σ .pieces)) T (curvesOf (outlineFrom n ns 0)) room ≡ banded σ T ns room
+        → bandCurves (limited n (σ .leaves) (σ .pieces)) T (curvesOf (outlineFrom n (σ .pieces) ns 0)) room ≡ banded σ T ns room
     unfolding banded
     banded-read T room rows f = rw (banded, rows, f, read, found .is) (sym (band-curves-same σ n T (found .cs) room))
 
     pub written-curves : (T : ℤ) (l : List ℤ) {l′ : List ℤ} (b : Banded) → b ≡ banded σ T ns (length l)
-        → l′ ≡ writtenBy b (allRecords (listed σ) T 0 (curvesOf (outlineFrom n ns 0))) l → l′ ≡ written σ T ns l
+        → l′ ≡ writtenBy b (allRecords (listed σ) T 0 (curvesOf (outlineFrom n (σ .pieces) ns 0))) l → l′ ≡ written σ T ns l
     unfolding written
     written-curves T l b f g =
         g ∙ rw (f, read, found .is, all-records-same σ (listed σ .most) (listed σ .leaves) T 0 (found .cs))
@@ -165,9 +165,9 @@ module _ (σ : Setting) (ns : List ℤ) where
     banded-tolerance room rows f = rw (banded, rows, f)
 
     pub banded-faulty : {r : Refusal} (room : ℕ) → piecesFine (σ .pieces) ≡ true → toleranceFine T ≡ true
-        → Faulty r ≡ checkedOf (outlined (σ .most) ns) → Refused r ≡ banded σ T ns room
+        → Faulty r ≡ checkedOf (outlined (σ .most) (σ .pieces) ns) → Refused r ≡ banded σ T ns room
     unfolding banded
-    banded-faulty {r} room rows f e = rw (banded, rows, f, checked-refused (outlined (σ .most) ns) r (sym e))
+    banded-faulty {r} room rows f e = rw (banded, rows, f, checked-refused (outlined (σ .most) (σ .pieces) ns) r (sym e))
 
     -- a refusal alters nothing
     pub written-refused : {r : Refusal} (l : List ℤ) → Refused r ≡ banded σ T ns (length l) → l ≡ written σ T ns l

@@ -23,7 +23,7 @@ use Rattle.band_passes.specs.Leaves.{firstTooWide, leavesOf, nodesOf}
 use Rattle.band.specs.Banding.{bandCurves, banded, written}
 
 -- the curves of an outline
-unfoldable pub reading : ℕ → List ℤ → Outlined
+unfoldable pub reading : ℕ → ℕ → List ℤ → Outlined
 unfolding outlined outlineFrom faultAt firstBad curveAt
 reading = outlined
 

@@ -11,7 +11,7 @@ use native.Mathlib.Nat.{le-refl}
 use native.Mathlib.Omega.{arith}
 use lib.IntN.{ℤ}
 use Rattle.integers.proofs.Order.{lt-or-ge}
-use Rattle.setting.specs.Setting.{Setting, HasRows, deepest}
+use Rattle.setting.specs.Setting.{Setting, HasRows, degreePieces, deepest}
 use Rattle.curve_nodes.specs.declared.Curve.{Curve}
 use Rattle.curve_nodes.specs.Bounds.{Sized}
 use Rattle.curve_nodes.specs.Differences.{largest}
@@ -56,11 +56,12 @@ module _ (test : ℕ → Bool) (j : ℕ) (all : (a : ℕ) → 0 < a → depth a 
   leaves-within n l = end-facts test j n (all-leaves test j n (ends-passing j (le-refl j)) .1 l) .within
 
 -- ---- the test of a setting
-module _ (σ : Setting) (rows : HasRows (σ .pieces)) (T : ℤ) (c : Curve) (s : Sized 0 c) (j : ℕ) (premise : Flat σ T c j) where
+module _ (σ : Setting) (rows : HasRows (σ .pieces)) (T : ℤ) (c : Curve) (s : Sized 0 c) (takes : degreePieces (c .degree) (σ .pieces) ≡ true) (j : ℕ)
+    (premise : Flat σ T c j) where
   pub all-meet : (n : ℕ) → 0 < n → depth n ≡ j → nodeMeets σ T c n ≡ true
   all-meet n hn e =
       let d = node-degree c n hn in
-      width-meets σ rows T (depth n) (largest c) (nodeCurve c n) (rw d (s .least)) (rw d (s .most))
+      width-meets σ rows T (depth n) (largest c) (nodeCurve c n) (rw d (s .least)) (rw d (s .most)) (rw d takes)
       (rw d (quarter-x c (s .least) (s .most) n hn)) (rw d (quarter-y c (s .least) (s .most) n hn)) (rw (d, e) premise)
 
   pub end-depth : (n : ℕ) → List·Memᴰ n (endsOf σ T c) → depth n ≤ j

@@ -1,15 +1,16 @@
 -- The records of an accepted outline are sound: they pass checks 9 and 10.
 use mathlib.Core.Path.{_≡_, refl}
+use mathlib.Core.Bool.{true}
 use mathlib.Core.List.{List, [], _∷_, List·Memᴰ, List·Memᴰ·head, List·Memᴰ·tail}
 use Prim.Native.Nat.{ℕ, suc, _+_, _≤_, _<_}
 use native.Mathlib.Omega.{arith}
 use lib.ListN.{length}
 use lib.IntN.{ℤ}
-use Rattle.setting.specs.Setting.{Setting, HasRows, deepest}
+use Rattle.setting.specs.Setting.{Setting, HasRows, degreePieces, deepest}
 use Rattle.curve_nodes.specs.declared.Curve.{Curve}
 use Rattle.curve_nodes.specs.Bounds.{Sized}
 use Rattle.outline.specs.Checks.{curves, outlined}
-use Rattle.outline.proofs.Accepted.{outlined-from, accepted-most, accepted-some, accepted-all}
+use Rattle.outline.proofs.Accepted.{outlined-from, accepted-most, accepted-some, accepted-all, accepted-pieces}
 use Rattle.walk_curve.specs.Walked.{nodeMeets, endsOf}
 use Rattle.walk_tree.proofs.Counting.{some-end}
 use Rattle.band_records.specs.Records.{allRecords}
@@ -20,12 +21,13 @@ use Rattle.band_passes.specs.Leaves.{leavesOf}
 -- ---- all curves
 module _ (σ : Setting) (rows : HasRows (σ .pieces)) where
   pub curves-sound : (T : ℤ) (k : ℕ) (cs : List Curve) → k + length cs ≤ σ .most → ((c : Curve) → List·Memᴰ c cs → Sized 0 c)
-      → SoundList σ (leavesOf σ T cs) (allRecords σ T k cs)
+      → ((c : Curve) → List·Memᴰ c cs → degreePieces (c .degree) (σ .pieces) ≡ true) → SoundList σ (leavesOf σ T cs) (allRecords σ T k cs)
   unfolding leavesOf allRecords
-  curves-sound T k [] few sized = list-nil
-  curves-sound T k (c ∷ cs) few sized = list-append
-      (list-records k c (endsOf σ T c) (λ n i. leaf-sound σ rows T k c n (omega arith) (sized c (List·Memᴰ·head refl)) i))
-      (curves-sound T (suc k) cs (omega arith) (λ d i. sized d (List·Memᴰ·tail i)))
+  curves-sound T k [] few sized takes = list-nil
+  curves-sound T k (c ∷ cs) few sized takes = list-append
+      (list-records k c (endsOf σ T c)
+      (λ n i. leaf-sound σ rows T k c n (omega arith) (sized c (List·Memᴰ·head refl)) (takes c (List·Memᴰ·head refl)) i))
+      (curves-sound T (suc k) cs (omega arith) (λ d i. sized d (List·Memᴰ·tail i)) (λ d i. takes d (List·Memᴰ·tail i)))
 
 -- ---- an accepted outline
 pub curves-leaves : (σ : Setting) (T : ℤ) (cs : List Curve) → 0 < length cs → 0 < leavesOf σ T cs
@@ -33,10 +35,12 @@ unfolding leavesOf
 curves-leaves σ T [] h = absurd (omega arith)
 curves-leaves σ T (c ∷ cs) h = omega (arith, some-end (nodeMeets σ T c) (deepest (c .degree)) 1)
 
-module _ (σ : Setting) (T : ℤ) (ns : List ℤ) (cs : List Curve) (o : outlined (σ .most) ns ≡ curves cs) where
+module _ (σ : Setting) (T : ℤ) (ns : List ℤ) (cs : List Curve) (o : outlined (σ .most) (σ .pieces) ns ≡ curves cs) where
   pub some-leaves : 0 < leavesOf σ T cs
-  some-leaves = curves-leaves σ T cs (accepted-some (σ .most) ns cs o)
+  some-leaves = curves-leaves σ T cs (accepted-some (σ .most) (σ .pieces) ns cs o)
 
   pub records-sound : HasRows (σ .pieces) → SoundList σ (leavesOf σ T cs) (allRecords σ T 0 cs)
-  records-sound rows = curves-sound σ rows T 0 cs (omega (arith, accepted-most (σ .most) ns cs o))
-      (accepted-all (σ .most) ns 0 cs (outlined-from (σ .most) ns cs o))
+  records-sound rows =
+      let from = outlined-from (σ .most) (σ .pieces) ns cs o in
+      curves-sound σ rows T 0 cs (omega (arith, accepted-most (σ .most) (σ .pieces) ns cs o)) (accepted-all (σ .most) (σ .pieces) ns 0 cs from)
+      (accepted-pieces (σ .most) (σ .pieces) ns 0 cs from)

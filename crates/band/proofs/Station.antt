@@ -29,7 +29,7 @@ module _ (σ : Setting) (most leaves : ℕ) (T : ℤ) (ns : List ℤ) where
   other = limited most leaves (σ .pieces)
 
   pub faultless-again : {cs : List Curve} → Faultless σ T ns cs → length cs ≤ most → Faultless other T ns cs
-  faultless-again {cs} f h = record { pieces = f .pieces; tolerance = f .tolerance; outline = outlined-within (σ .most) most ns cs (f .outline) h }
+  faultless-again {cs} f h = record { pieces = f .pieces; tolerance = f .tolerance; outline = outlined-within (σ .most) most (σ .pieces) ns cs (f .outline) h }
 
   meet-again : {cs : List Curve} → AllMeet σ T cs → AllMeet other T cs
   meet-again {cs} h = none-wide other T 0 cs .0 (sym (wide-same σ most leaves T 0 cs) ∙ none-wide σ T 0 cs .1 h)
@@ -71,7 +71,7 @@ module _ (σ : Setting) (most leaves : ℕ) (T : ℤ) (ns : List ℤ) where
 module _ (σ : Setting) (few : σ .most ≤ listed σ .most) (T : ℤ) (ns : List ℤ) where
   pub faultless-listed : {cs : List Curve} → Faultless σ T ns cs → Faultless (listed σ) T ns cs
   faultless-listed {cs} f =
-      faultless-again σ (listed σ .most) (listed σ .leaves) T ns f (omega (arith, few, accepted-most (σ .most) ns cs (f .outline)))
+      faultless-again σ (listed σ .most) (listed σ .leaves) T ns f (omega (arith, few, accepted-most (σ .most) (σ .pieces) ns cs (f .outline)))
 
   pub done-listed : (room : ℕ) {a b c : ℕ} → banded σ T ns room ≡ Done a b c → banded (listed σ) T ns room ≡ Done a b c
   done-listed room {a} {b} {c} e =
@@ -101,7 +101,7 @@ module _ (m : ℕ) (T : ℤ) (ns : List ℤ) (room l : ℕ) where
   many-listed e =
       let h = many-exactly (station m) T ns room l .0 e in
       let cs = h .0 in
-      let few = accepted-most 64 ns cs (h .1 .outline) in
+      let few = accepted-most 64 m ns cs (h .1 .outline) in
       let taken : l ≤ lists m .leaves = omega (arith, h .2 .leaves, few-leaves (station m) T cs) in
       let r = report-again (station m) (lists m .most) (lists m .leaves) T ns cs (h .2 .meet) (h .2 .leaves) taken (le-refl room-for) in (
         length cs,

@@ -1,6 +1,7 @@
 -- What banding promises of an outline, gathered: its answer, case by case; what it leaves in the lent list; and, of an outline that it accepts, the
 -- leaves, their order, number and depth. The enclosure's own theorems stand with the enclosure.
 use mathlib.Core.Path.{_≡_, sym, _∙_, ap, subst}
+use mathlib.Core.Bool.{true}
 use mathlib.Core.Logic.{⊎-elim, _↔_}
 use mathlib.Core.List.{List, _∷_, _++_, List·Memᴰ}
 use Prim.Native.Nat.{ℕ, _+_, _*_, _^_, _≤_, _<_}
@@ -14,13 +15,13 @@ use Rattle.refusals.specs.Refusals.{numberOf}
 use Rattle.curve_nodes.specs.declared.Curve.{Curve}
 use Rattle.curve_nodes.specs.Bounds.{Sized}
 use Rattle.curve_nodes.specs.Nodes.{depth, start}
-use Rattle.outline.proofs.Accepted.{outlined-from, accepted-most, accepted-all}
+use Rattle.outline.proofs.Accepted.{outlined-from, accepted-most, accepted-all, accepted-pieces}
 use Rattle.band.specs.declared.banding.Banded.{Banded}
 use Rattle.band.specs.declared.banding.Banded.the-variants.{Done, Refused}
 use Rattle.walk_tree.specs.Leaves.{Leaf, Spans, EndToEnd}
 use Rattle.walk_curve.specs.Walked.{nodeMeets, endsOf}
 use Rattle.band_records.specs.Records.{allRecords}
-use Rattle.setting.specs.Setting.{Setting, HasRows, recordLength, deepest}
+use Rattle.setting.specs.Setting.{Setting, HasRows, recordLength, degreePieces, deepest}
 use Rattle.setting.proofs.Pieces.{fine-has-rows}
 use Rattle.band.specs.Banding.{bandCurves, banded, written}
 use Rattle.band_records.specs.Ranges.{SoundList}
@@ -68,7 +69,7 @@ module _ (σ : Setting) (T : ℤ) (ns : List ℤ) (room : ℕ) where
   pub never-many : 256 * σ .most ≤ σ .leaves → (l : ℕ) → banded σ T ns room ≡ Refused (TooManyLeaves l) → ⊥
   never-many all l e =
       let h = many-exactly l .0 e in
-      omega (arith, h .2 .more, few-leaves σ T (h .0), accepted-most (σ .most) ns (h .0) (h .1 .outline))
+      omega (arith, h .2 .more, few-leaves σ T (h .0), accepted-most (σ .most) (σ .pieces) ns (h .0) (h .1 .outline))
 
   pub few-exactly : (l : ℕ) → (banded σ T ns room ≡ Refused (TooFewRecords l)) ↔ ((cs : List Curve) × Faultless σ T ns cs × Few σ T cs room l)
   few-exactly l = (
@@ -87,7 +88,7 @@ module _ (σ : Setting) (T : ℤ) (ns : List ℤ) (room : ℕ) where
   done-limits a b c e =
       let h = done-exactly a b c .0 e in
       let r = h .2 in (
-        omega (arith, r .curves, accepted-most (σ .most) ns (h .0) (h .1 .outline)),
+        omega (arith, r .curves, accepted-most (σ .most) (σ .pieces) ns (h .0) (h .1 .outline)),
         omega (arith, r .leaves, r .taken),
         omega (arith, r .curves, r .leaves, few-leaves σ T (h .0)),
       )
@@ -162,15 +163,18 @@ module _ (σ : Setting) (T : ℤ) (c : Curve) where
 -- ---- the depth claim of demand 3
 module _ (σ : Setting) (T : ℤ) (ns : List ℤ) (cs : List Curve) (f : Faultless σ T ns cs) where
   sized : (c : Curve) → List·Memᴰ c cs → Sized 0 c
-  sized = accepted-all (σ .most) ns 0 cs (outlined-from (σ .most) ns cs (f .outline))
+  sized = accepted-all (σ .most) (σ .pieces) ns 0 cs (outlined-from (σ .most) (σ .pieces) ns cs (f .outline))
+
+  takes : (c : Curve) → List·Memᴰ c cs → degreePieces (c .degree) (σ .pieces) ≡ true
+  takes = accepted-pieces (σ .most) (σ .pieces) ns 0 cs (outlined-from (σ .most) (σ .pieces) ns cs (f .outline))
 
   pub leaf-at-most : (c : Curve) → List·Memᴰ c cs → (j : ℕ) → Flat σ T c j → (n : ℕ) → List·Memᴰ n (endsOf σ T c) → depth n ≤ j
-  leaf-at-most c i j premise = end-depth σ (faultless-rows f) T c (sized c i) j premise
+  leaf-at-most c i j premise = end-depth σ (faultless-rows f) T c (sized c i) (takes c i) j premise
 
   -- check 7 passes where each curve has such a j within the walk's reach
   pub flat-meets : ((c : Curve) → List·Memᴰ c cs → (j : ℕ) × (j ≤ deepest (c .degree)) × Flat σ T c j) → AllMeet σ T cs
   flat-meets h = record {
     each = λ c i.
         let p = h c i in
-        none-passing (nodeMeets σ T c) (endsOf σ T c) (none-too-wide σ (faultless-rows f) T c (sized c i) (p .0) (p .2) (p .1));
+        none-passing (nodeMeets σ T c) (endsOf σ T c) (none-too-wide σ (faultless-rows f) T c (sized c i) (takes c i) (p .0) (p .2) (p .1));
   }

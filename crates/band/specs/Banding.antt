@@ -44,7 +44,7 @@ banded σ T ns room =
       | true ↦
           elim (toleranceFine T) [
             | false ↦ Refused Tolerance
-            | true ↦ bandOutlined σ T (outlined (σ .most) ns) room
+            | true ↦ bandOutlined σ T (outlined (σ .most) (σ .pieces) ns) room
           ]
     ]
 
@@ -55,4 +55,4 @@ writtenBy (Done a b c) records old = records ++ drop (length records) old
 
 unfoldable pub written : Setting → ℤ → List ℤ → List ℤ → List ℤ
 written σ T ns old =
-    writtenBy (banded σ T ns (length old)) (allRecords σ T 0 (curvesOf (outlined (σ .most) ns))) old
+    writtenBy (banded σ T ns (length old)) (allRecords σ T 0 (curvesOf (outlined (σ .most) (σ .pieces) ns))) old

@@ -17,11 +17,11 @@ use Rattle.band_passes.specs.Leaves.{leavesOf, nodesOf}
 use Rattle.band_passes.specs.Meeting.{AllMeet}
 
 -- ---- outlines
--- the checks before the walk, 18, 1 to 6 and 17, find no fault, and the outline's curves are cs
+-- the checks before the walk, 18, 1 to 6, 20 and 17, find no fault, and the outline's curves are cs
 pub record Faultless (σ : Setting) (T : ℤ) (ns : List ℤ) (cs : List Curve) : Type 0 where
   pub pieces : piecesFine (σ .pieces) ≡ true
   pub tolerance : toleranceFine T ≡ true
-  pub outline : outlined (σ .most) ns ≡ curves cs
+  pub outline : outlined (σ .most) (σ .pieces) ns ≡ curves cs
 
 -- check 19: nothing is too wide, but there are l leaves, more than the setting takes
 pub record Many (σ : Setting) (T : ℤ) (cs : List Curve) (l : ℕ) : Type 0 where

@@ -63,7 +63,7 @@ pub fn band_most(
     if !outline_checks::tolerance_fine(tolerance) {
         return Banded::Refused(Refusal::Tolerance);
     }
-    match outline_checks::check_outline(outline, most) {
+    match outline_checks::check_outline(outline, most, m) {
         Checked::Faulty(refusal) => Banded::Refused(refusal),
         Checked::Curves(curves) => band_curves(
             outline,

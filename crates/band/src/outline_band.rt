@@ -24,12 +24,12 @@ fn band_by(
     most: usize,
     records: &mut [i32],
 ) -> Banded
-    requires { ⌜ (Ready pieces (now rows)) × (Readable (now ns) curves) ⌝ }
+    requires { ⌜ (Ready pieces (now rows)) × (Readable (pieces .m) (now ns) curves) ⌝ }
     ensures { λ r. ⌜ r
-        ≡ bandCurves (limited curves most (pieces .m)) t (curvesIn (now (ns .entry)) curves)
+        ≡ bandCurves (limited curves most (pieces .m)) t (curvesIn (pieces .m) (now (ns .entry)) curves)
         (length (now (records .entry))) ⌝ }
     ensures { λ r. ⌜ now (records .exit)
-        ≡ writtenBy r (allRecords (lists (pieces .m)) t 0 (curvesIn (now (ns .entry)) curves))
+        ≡ writtenBy r (allRecords (lists (pieces .m)) t 0 (curvesIn (pieces .m) (now (ns .entry)) curves))
         (now (records .entry)) ⌝ }
 {
     match count(rows, pieces, ns, t, curves) {
@@ -64,13 +64,13 @@ pub fn band_curves(
     most: usize,
     records: &mut [i32],
 ) -> Banded
-    requires { ⌜ (HasRows m) × (Readable (now ns) curves) ⌝ }
+    requires { ⌜ (HasRows m) × (Readable m (now ns) curves) ⌝ }
     ensures { λ r. ⌜ r
-        ≡ bandCurves (limited curves most m) t (curvesIn (now (ns .entry)) curves) (length (now (records .entry))) ⌝ }
+        ≡ bandCurves (limited curves most m) t (curvesIn m (now (ns .entry)) curves) (length (now (records .entry))) ⌝ }
     ensures { λ r. ⌜ now (records .exit)
-        ≡ writtenBy r (allRecords (lists m) t 0 (curvesIn (now (ns .entry)) curves)) (now (records .entry)) ⌝ }
+        ≡ writtenBy r (allRecords (lists m) t 0 (curvesIn m (now (ns .entry)) curves)) (now (records .entry)) ⌝ }
 {
-    let mut rows = [m as i64; 108];
+    let mut rows = [m as i64; 297];
     bound_rows::put_rows(&mut rows, m);
     let pieces = bound_node::pieces::pieces_of(&rows, m);
     band_by(&rows, pieces, ns, t, curves, most, records)

@@ -9,6 +9,7 @@ use native.Mathlib.Omega.{arith}
 use lib.ListN.{length}
 use lib.IntN.{ℤ}
 use Rattle.setting.specs.Setting.{Setting, deepest}
+use Rattle.setting.proofs.Depths.{deepest-few}
 use Rattle.refusals.specs.declared.Refusal.the-variants.{TooWide}
 use Rattle.curve_nodes.specs.declared.Curve.{Curve}
 use Rattle.outline.specs.Curves.{nextAt, curveAt}
@@ -66,17 +67,17 @@ few-leaves : (σ : Setting) (T : ℤ) (c : Curve) (m : ℕ) → Leaves m ≡ wal
 unfolding walkedOf
 few-leaves σ T c m e =
     let w = walked-leaves (firstFailing (nodeMeets σ T c) (endsOf σ T c)) (length (endsOf σ T c)) m e in
-    omega (arith, w .1, few-ends (nodeMeets σ T c) (deepest (c .degree)) 1)
+    omega (arith, w .1, few-ends (nodeMeets σ T c) (deepest (c .degree)) 1, deepest-few (c .degree))
 
 -- ---- the loop: k of n curves are done and have so many leaves
 pub record Passed (σ : Setting) (T : ℤ) (ns : List ℤ) (n k at leaves : ℕ) : Type 0 where
   pub rest : List Curve
-  pub ahead : Rest ns n k at rest
-  pub is : countedOf σ T (curvesOf (outlineFrom n ns 0)) ≡ countedFrom σ leaves T k rest
+  pub ahead : Rest (σ .pieces) ns n k at rest
+  pub is : countedOf σ T (curvesOf (outlineFrom n (σ .pieces) ns 0)) ≡ countedFrom σ leaves T k rest
   pub few : leaves ≤ 256 * k
 
 module _ {σ : Setting} {T : ℤ} {ns : List ℤ} {n : ℕ} where
-  pub passed-start : Readable ns n → Passed σ T ns n 0 0 0
+  pub passed-start : Readable (σ .pieces) ns n → Passed σ T ns n 0 0 0
   passed-start r = record {
     rest = r .all;
     ahead = rest-start r;
@@ -85,11 +86,11 @@ module _ {σ : Setting} {T : ℤ} {ns : List ℤ} {n : ℕ} where
   }
 
   module _ {k at leaves : ℕ} (p : Passed σ T ns n k at leaves) where
-    pub passed-done : n ≤ k → Total leaves ≡ countedOf σ T (curvesOf (outlineFrom n ns 0))
+    pub passed-done : n ≤ k → Total leaves ≡ countedOf σ T (curvesOf (outlineFrom n (σ .pieces) ns 0))
     passed-done h = sym (p .is ∙ ap (countedFrom σ leaves T k) (rest-done (p .rest) (p .ahead) h) ∙ counted-none σ leaves T k)
 
     module _ (h : k < n) where
-      pub passed-wide : (m : ℕ) → WideNode m ≡ walkedOf σ T (curveAt ns at) → Stopped (TooWide k m) ≡ countedOf σ T (curvesOf (outlineFrom n ns 0))
+      pub passed-wide : (m : ℕ) → WideNode m ≡ walkedOf σ T (curveAt ns at) → Stopped (TooWide k m) ≡ countedOf σ T (curvesOf (outlineFrom n (σ .pieces) ns 0))
       passed-wide m e =
           let x = rest-next (p .rest) (p .ahead) h in
           sym (p .is ∙ ap (countedFrom σ leaves T k) (x .is) ∙ counted-wide σ T k (curveAt ns at) (x .more) leaves m e)

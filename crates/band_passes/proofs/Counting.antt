@@ -6,6 +6,7 @@ use native.Mathlib.Omega.{arith}
 use lib.ListN.{length}
 use lib.IntN.{ℤ}
 use Rattle.setting.specs.Setting.{Setting, deepest}
+use Rattle.setting.proofs.Depths.{deepest-few}
 use Rattle.curve_nodes.specs.declared.Curve.{Curve}
 use Rattle.walk_curve.specs.Walked.{nodeMeets}
 use Rattle.band_passes.specs.Leaves.{leavesOf, nodesOf}
@@ -20,4 +21,4 @@ nodes-of-curves σ T (c ∷ cs) = omega (arith, nodes-met (nodeMeets σ T c) (de
 pub few-leaves : (σ : Setting) (T : ℤ) (cs : List Curve) → leavesOf σ T cs ≤ 256 * length cs
 unfolding leavesOf
 few-leaves σ T [] = omega arith
-few-leaves σ T (c ∷ cs) = omega (arith, few-ends (nodeMeets σ T c) (deepest (c .degree)) 1, few-leaves σ T cs)
+few-leaves σ T (c ∷ cs) = omega (arith, few-ends (nodeMeets σ T c) (deepest (c .degree)) 1, deepest-few (c .degree), few-leaves σ T cs)

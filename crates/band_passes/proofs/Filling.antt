@@ -39,11 +39,11 @@ no-records σ T k = refl
 -- ---- the loop: the list was l, k of n curves are done, and the first `place` numbers are theirs
 pub record Filled (σ : Setting) (T : ℤ) (ns : List ℤ) (n : ℕ) (l : List ℤ) (k at place : ℕ) (l′ : List ℤ) : Type 0 where
   pub rest : List Curve
-  pub ahead : Rest ns n k at rest
+  pub ahead : Rest (σ .pieces) ns n k at rest
   pub done : List ℤ
   pub here : place ≡ length done
   pub list : l′ ≡ sets l 0 done
-  pub split : allRecords σ T 0 (curvesOf (outlineFrom n ns 0)) ≡ done ++ allRecords σ T k rest
+  pub split : allRecords σ T 0 (curvesOf (outlineFrom n (σ .pieces) ns 0)) ≡ done ++ allRecords σ T k rest
   pub passing : AllMeet σ T rest
   pub room : place + recordLength σ * leavesOf σ T rest ≤ length l
 
@@ -64,7 +64,7 @@ module _ {σ : Setting} {T : ℤ} {ns : List ℤ} {n : ℕ} {l : List ℤ} where
     pub filled-length : length l′ ≡ length l
     filled-length = ap length (f .list) ∙ length-sets l 0 (f .done)
 
-    pub filled-done : n ≤ k → l′ ≡ sets l 0 (allRecords σ T 0 (curvesOf (outlineFrom n ns 0)))
+    pub filled-done : n ≤ k → l′ ≡ sets l 0 (allRecords σ T 0 (curvesOf (outlineFrom n (σ .pieces) ns 0)))
     filled-done h = f .list ∙ ap (sets l 0)
         (sym (f .split ∙ ap (λ cs. f .done ++ allRecords σ T k cs) (rest-done (f .rest) (f .ahead) h) ∙ ap (λ xs. f .done ++ xs) (no-records σ T k)
         ∙ append-nil (f .done)))
@@ -80,6 +80,7 @@ module _ {σ : Setting} {T : ℤ} {ns : List ℤ} {n : ℕ} {l : List ℤ} where
       pub filled-ready : EndsMeet σ T (curveAt ns at)
       filled-ready = record {
         sized = rest-next (f .rest) (f .ahead) h .sized;
+        takes = rest-next (f .rest) (f .ahead) h .takes;
         passing = passing-none (nodeMeets σ T (curveAt ns at)) (endsOf σ T (curveAt ns at)) (meet-head σ T passing-here);
       }
 

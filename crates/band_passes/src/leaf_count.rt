@@ -13,8 +13,8 @@ use walk_curve::walk;
 
 // The leaves of an outline without faults that has this many curves. The rows lent are those of the number of pieces.
 pub fn count(rows: &[i64], pieces: Pieces, ns: &[i32], t: i64, curves: usize) -> Counted
-    requires { ⌜ (Ready pieces (now rows)) × (Readable (now ns) curves) ⌝ }
-    ensures { λ r. ⌜ r ≡ countedOf (lists (pieces .m)) t (curvesIn (now (ns .entry)) curves) ⌝ }
+    requires { ⌜ (Ready pieces (now rows)) × (Readable (pieces .m) (now ns) curves) ⌝ }
+    ensures { λ r. ⌜ r ≡ countedOf (lists (pieces .m)) t (curvesIn (pieces .m) (now (ns .entry)) curves) ⌝ }
 {
     let mut leaves: usize = 0;
     let mut at: usize = 0;

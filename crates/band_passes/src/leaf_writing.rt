@@ -40,7 +40,12 @@ pub fn write_curve(
     loop {
         let node = part.node;
         let own = part.curve;
-        if bound_node::tolerance::meets(rows, pieces, own, curve_nodes::depth(node), t) {
+        let met = if own.degree < 4 {
+            bound_node::tolerance::meets(rows, pieces, own, curve_nodes::depth(node), t)
+        } else {
+            bound_node::higher::meets(rows, pieces, own.same(), curve_nodes::depth(node), t)
+        };
+        if met {
             put_record(records, place, number, node, rows, m, own);
             place += record_length;
             part = part.after();
@@ -65,7 +70,7 @@ pub fn write_all(
     requires { ⌜ (Ready pieces (now rows))
         × (Fillable (lists (pieces .m)) t (now ns) curves (length (now records))) ⌝ }
     ensures { λ _. ⌜ now (records .exit) ≡ sets (now (records .entry)) 0
-        (allRecords (lists (pieces .m)) t 0 (curvesIn (now (ns .entry)) curves)) ⌝ }
+        (allRecords (lists (pieces .m)) t 0 (curvesIn (pieces .m) (now (ns .entry)) curves)) ⌝ }
 {
     let mut at: usize = 0;
     let mut place: usize = 0;

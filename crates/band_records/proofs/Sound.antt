@@ -1,5 +1,6 @@
 -- The record of a leaf is sound, and so is a list of them: they pass checks 9 and 10.
 use mathlib.Core.Path.{_≡_, refl, sym, _∙_, ap, subst, subst₂}
+use mathlib.Core.Bool.{true}
 use mathlib.Core.Logic.{⊎-elim}
 use mathlib.Core.List.{List, [], _∷_, _++_, List·Memᴰ, List·Memᴰ·head, List·Memᴰ·tail}
 use Prim.Native.Nat.{ℕ, zero, suc, _+_, _-_, _*_, _/_, _%_, _^_, _≤_, _<_}
@@ -16,12 +17,14 @@ use Rattle.integers.proofs.Size.{abs-low, abs-high}
 use Rattle.curve_nodes.specs.declared.Curve.{Curve}
 use Rattle.curve_nodes.specs.Bounds.{Sized}
 use Rattle.curve_nodes.specs.Nodes.{depth, nodeCurve}
+use Rattle.curve_nodes.proofs.Coordinates.{node-degree}
 use Rattle.curve_nodes.proofs.Sizes.{node-sized}
 use Rattle.bound_node.specs.Boxes.{boxAt}
 use Rattle.bound_node.proofs.Sound.{Sound, node-box}
 use Rattle.walk_curve.specs.Walked.{nodeMeets, endsOf}
 use Rattle.band_records.specs.Records.{boxNumbers, boxesTo, recordOf, recordsOf}
-use Rattle.setting.specs.Setting.{Setting, HasRows, breakPoints, recordLength, deepest}
+use Rattle.setting.specs.Setting.{Setting, HasRows, breakPoints, recordLength, degreePieces, deepest}
+use Rattle.setting.proofs.Depths.{deepest-few}
 use Rattle.boxes.specs.Ranges.{farthest, Interval}
 use Rattle.band_records.specs.Ranges.{SoundRecord, SoundList}
 use Rattle.walk_tree.proofs.Leaves.{end-facts}
@@ -64,17 +67,17 @@ interval {l} {h} e f s = rw (e, f) (record {
   to = abs-high {B = farthest} h (le-trans (s .high-size) (lit≤ tt));
 })
 
-pub leaf-sound : (σ : Setting) → HasRows (σ .pieces) → (T : ℤ) (k : ℕ) (c : Curve) (n : ℕ) → k < σ .most → Sized 0 c → List·Memᴰ n (endsOf σ T c)
-    → SoundRecord σ (entry (recordOf σ k c n))
+pub leaf-sound : (σ : Setting) → HasRows (σ .pieces) → (T : ℤ) (k : ℕ) (c : Curve) (n : ℕ) → k < σ .most → Sized 0 c
+    → degreePieces (c .degree) (σ .pieces) ≡ true → List·Memᴰ n (endsOf σ T c) → SoundRecord σ (entry (recordOf σ k c n))
 unfolding recordOf
-leaf-sound σ rows T k c n hk s i =
+leaf-sound σ rows T k c n hk s takes i =
     let f = end-facts (nodeMeets σ T c) (deepest (c .degree)) n i in
-    let b = node-box σ rows (depth n) (nodeCurve c n) (node-sized s n (f .node)) in
+    let b = node-box σ rows (depth n) (nodeCurve c n) (node-sized s n (f .node)) (rw (node-degree c n (f .node)) takes) in
     record {
       curve-from = pos-le (omega arith);
       curve-below = pos-lt hk;
       node-from = pos-le (f .node);
-      node-to = pos-le (omega (arith, f .below));
+      node-to = pos-le (omega (arith, f .below, deepest-few (c .degree)));
       x = λ i h. interval (record-box σ k c n i 0 h (omega arith)) (record-box σ k c n i 1 h (omega arith)) (b i h .x);
       y = λ i h. interval (record-box σ k c n i 2 h (omega arith)) (record-box σ k c n i 3 h (omega arith)) (b i h .y);
     }

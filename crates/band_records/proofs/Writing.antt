@@ -1,24 +1,32 @@
 -- What a run of stores leaves in a list, `sets` of lib.Seq, a list that is filled from the front, and that the boxes of the terms are the curve's.
 use mathlib.Core.Path.{_≡_, refl, sym, _∙_, ap, ap₂}
 use mathlib.Core.List.{List, [], _∷_, _++_}
-use Prim.Native.Nat.{ℕ, zero, suc, _+_, _*_, _≤_}
-use native.Mathlib.Nat.{le-of-suc-le-suc}
+use mathlib.Core.Bool.{true}
+use Prim.Native.Nat.{ℕ, zero, suc, _+_, _*_, _≤_, _<_}
+use native.Mathlib.Nat.{le-refl, le-of-suc-le-suc}
 use native.Mathlib.Omega.{arith}
 use native.Mathlib.Numerals.{add-one, add-two, add-three}
 use lib.ListN.{length, set, length-append}
-use lib.Seq.{sets}
+use lib.Seq.{sets, length-sets}
 use lib.IntN.{ℤ, pos}
-use Rattle.setting.specs.Setting.{Setting, HasRows, breakPoints}
+use Rattle.setting.specs.Setting.{Setting, HasRows, breakPoints, degreePieces}
+use Rattle.setting.proofs.Pieces.{degree-takes}
 use Rattle.integers.proofs.Stores.{sets-append}
 use Rattle.curve_nodes.specs.declared.Curve.{Curve}
 use Rattle.curve_nodes.specs.Bounds.{Sized}
 use Rattle.bound_rows.specs.Inside.{Copied}
 use Rattle.bound_coordinate.specs.declared.terms.Terms.{Terms}
 use Rattle.bound_coordinate.specs.Terms.{termsOf}
-use Rattle.bound_coordinate.proofs.LowHigh.{low-is, high-is}
+use Rattle.bound_coordinate.specs.declared.higher.Higher.{Higher}
+use Rattle.bound_coordinate.specs.Higher.{higherOf}
+use Rattle.bound_coordinate.proofs.LowHigh.{low-is, high-is, higher-low-is, higher-high-is}
 use Rattle.bound_node.specs.Boxes.{boxAt}
 use Rattle.band_records.specs.Records.{boxNumbers, boxesTo, nodeNumbers}
-use Rattle.band_records.specs.Inside.{boxBy}
+use Rattle.band_records.specs.Inside.{boxFrom, boxBy, higherBoxBy}
+
+-- stores keep the length
+pub kept : (l : List ℤ) (at : ℕ) (vs : List ℤ) {l′ : List ℤ} → l′ ≡ sets l at vs → length l′ ≡ length l
+kept l at vs e = ap length e ∙ length-sets l at vs
 
 -- four stores, one after the other
 pub four-sets : (l : List ℤ) (at : ℕ) {a b c d a′ b′ c′ d′ : ℤ} → a′ ≡ a → b′ ≡ b → c′ ≡ c → d′ ≡ d
@@ -55,30 +63,57 @@ module _ (f : ℕ → List ℤ) (four : (i : ℕ) → length (f i) ≡ 4) where
       four-more n = omega arith
 
   -- one more
-  pub joined-more : (l l′ : List ℤ) (at i : ℕ) → l′ ≡ sets (sets l at (joinedTo i f)) (at + 4 * i) (f i) → l′ ≡ sets l at (joinedTo (i + 1) f)
-  joined-more l l′ at i e =
-      e ∙ ap (λ j. sets (sets l at (joinedTo i f)) (at + j) (f i)) (sym (joined-length i))
+  pub joined-more : (l : List ℤ) (at i : ℕ) {u l′ : List ℤ} → u ≡ sets l at (joinedTo i f) → l′ ≡ sets u (at + 4 * i) (f i)
+      → l′ ≡ sets l at (joinedTo (i + 1) f)
+  joined-more l at i e g =
+      g ∙ ap (λ u. sets u (at + 4 * i) (f i)) e
+      ∙ ap (λ j. sets (sets l at (joinedTo i f)) (at + j) (f i)) (sym (joined-length i))
       ∙ sym (sets-append l at (joinedTo i f) (f i))
       ∙ ap (λ n. sets l at (joinedTo n f)) (sym (add-one i))
 
 -- ---- from the terms to the curve
-pub box-four : (m s : ℕ) (rows : List ℤ) (x y : Terms) (i : ℕ) → length (boxBy m s rows x y i) ≡ 4
-unfolding boxBy
-box-four m s rows x y i = refl
+pub box-four : (a b c d : ℕ → ℤ) (i : ℕ) → length (boxFrom a b c d i) ≡ 4
+unfolding boxFrom
+box-four a b c d i = refl
 
-module _ (σ : Setting) (has : HasRows (σ .pieces)) (k : ℕ) (c : Curve) (sized : Sized k c) {rows : List ℤ} (copied : Copied (σ .pieces) rows) where
-  abbrev boxes : ℕ → List ℤ
-  boxes = boxBy (σ .pieces) (c .degree * k) rows (termsOf (σ .pieces) (c .degree) (c .x)) (termsOf (σ .pieces) (c .degree) (c .y))
-
-  box-is : (i : ℕ) → i ≤ σ .pieces → boxes i ≡ boxNumbers (boxAt σ k c i)
-  unfolding boxBy boxAt
-  box-is i hi = λ j.
-      low-is σ has (sized .least) (sized .most) (c .x) hi k copied j
-      ∷ high-is σ has (sized .least) (sized .most) (c .x) hi k copied j
-      ∷ low-is σ has (sized .least) (sized .most) (c .y) hi k copied j
-      ∷ high-is σ has (sized .least) (sized .most) (c .y) hi k copied j
-      ∷ []
-
-  pub boxes-are : (n : ℕ) → n ≤ breakPoints σ → joinedTo n boxes ≡ boxesTo σ n k c
+module _ (σ : Setting) (k : ℕ) (c : Curve) {f : ℕ → List ℤ} (box-is : (i : ℕ) → i ≤ σ .pieces → f i ≡ boxNumbers (boxAt σ k c i)) where
+  boxes-are : (n : ℕ) → n ≤ breakPoints σ → joinedTo n f ≡ boxesTo σ n k c
   boxes-are zero h = refl
   boxes-are (suc n) h = ap₂ _++_ (boxes-are n (omega arith)) (box-is n (le-of-suc-le-suc h))
+
+  -- at the end of the loop
+  pub all-written : (l : List ℤ) (at : ℕ) {l′ : List ℤ} {n : ℕ} → n ≡ breakPoints σ → l′ ≡ sets l at (joinedTo n f)
+      → l′ ≡ sets l at (boxesTo σ (breakPoints σ) k c)
+  all-written l at e w =
+      w ∙ ap (λ n. sets l at (joinedTo n f)) e ∙ ap (sets l at) (boxes-are (breakPoints σ) (le-refl (breakPoints σ)))
+
+module _ (σ : Setting) (has : HasRows (σ .pieces)) (k : ℕ) (c : Curve) (sized : Sized k c) {rows : List ℤ} (copied : Copied (σ .pieces) rows) where
+  -- degrees 1 to 3
+  module _ (few : c .degree ≤ 3) where
+    takes : degreePieces (c .degree) (σ .pieces) ≡ true
+    takes = degree-takes (c .degree) (σ .pieces) .1 (λ h. absurd (omega arith))
+
+    pub box-is : {x y : Terms} → x ≡ termsOf (σ .pieces) (c .degree) (c .x) → y ≡ termsOf (σ .pieces) (c .degree) (c .y)
+        → (i : ℕ) → i ≤ σ .pieces → boxBy (σ .pieces) (c .degree * k) rows x y i ≡ boxNumbers (boxAt σ k c i)
+    unfolding boxFrom boxAt
+    box-is ex ey i hi = rw (ex, ey) (λ j.
+        low-is σ has (sized .most) takes (c .x) hi k copied few j
+        ∷ high-is σ has (sized .most) takes (c .x) hi k copied few j
+        ∷ low-is σ has (sized .most) takes (c .y) hi k copied few j
+        ∷ high-is σ has (sized .most) takes (c .y) hi k copied few j
+        ∷ [])
+
+  -- degrees 4 and 5
+  module _ (many : 3 < c .degree) (three : 3 ≤ σ .pieces) where
+    higher-takes : degreePieces (c .degree) (σ .pieces) ≡ true
+    higher-takes = degree-takes (c .degree) (σ .pieces) .1 (λ h. three)
+
+    pub higher-box-is : {x y : Higher} → x ≡ higherOf (σ .pieces) (c .degree) (c .x) → y ≡ higherOf (σ .pieces) (c .degree) (c .y)
+        → (i : ℕ) → i ≤ σ .pieces → higherBoxBy (σ .pieces) (c .degree * k) rows x y i ≡ boxNumbers (boxAt σ k c i)
+    unfolding boxFrom boxAt
+    higher-box-is ex ey i hi = rw (ex, ey) (λ j.
+        higher-low-is σ has (sized .most) higher-takes (c .x) hi k copied many j
+        ∷ higher-high-is σ has (sized .most) higher-takes (c .x) hi k copied many j
+        ∷ higher-low-is σ has (sized .most) higher-takes (c .y) hi k copied many j
+        ∷ higher-high-is σ has (sized .most) higher-takes (c .y) hi k copied many j
+        ∷ [])

@@ -1,9 +1,10 @@
 // Leaf records: what they are, and one written to a list.
 ghost use mathlib.Core.Path.{_≡_};
+ghost use mathlib.Core.Bool.{true};
 ghost use Prim.Native.Nat.{suc, _+_, _*_, _≤_, _<_, _^_};
 ghost use lib.ListN.{length};
 ghost use lib.Seq.{sets};
-ghost use Rattle.setting.specs.Setting.{HasRows, lists, breakPoints, recordLength, greatestNode};
+ghost use Rattle.setting.specs.Setting.{HasRows, lists, breakPoints, recordLength, degreePieces, deepest};
 ghost use Rattle.curve_nodes.specs.Bounds.{Sized};
 ghost use Rattle.curve_nodes.specs.Nodes.{depth};
 ghost use Rattle.bound_rows.specs.Inside.{Copied};
@@ -12,6 +13,8 @@ ghost use Rattle.band_records.specs.Records.{boxesTo, nodeNumbers};
 ghost use Rattle.band_records.specs.Inside.{boxBy};
 use bound_coordinate::terms::Terms;
 use curve_nodes::Curve;
+
+pub mod higher;
 
 // The four numbers of the box at break point i, from place `at` on.
 fn put_box(
@@ -40,10 +43,11 @@ fn put_box(
     records[at + 3] = y_high as i32;
 }
 
-// The boxes at the break points of a curve at a depth, from place `at` on; `rows` are those of m pieces.
+// The boxes at the break points of a curve of degree 1 to 3 at a depth, from place `at` on; `rows` are those of m
+// pieces.
 fn put_boxes(records: &mut [i32], at: usize, rows: &[i64], curve: Curve, depth: u32, m: usize)
     requires { ⌜ (at + 4 * breakPoints (lists m) ≤ length (now records)) × (HasRows m) × (Copied m (now rows))
-        × (Sized depth curve) × (depth ≤ 8) ⌝ }
+        × (Sized depth curve) × (curve .degree ≤ 3) × (depth ≤ 8) ⌝ }
     ensures { λ _. ⌜ now (records .exit)
         ≡ sets (now (records .entry)) at (boxesTo (lists m) (breakPoints (lists m)) depth curve) ⌝ }
 {
@@ -73,12 +77,18 @@ pub fn put_record(
     curve: Curve,
 )
     requires { ⌜ (at + recordLength (lists m) ≤ length (now records)) × (number < 2 ^ 31)
-        × (node < suc greatestNode) × (0 < node) × (HasRows m) × (Copied m (now rows)) × (Sized (depth node) curve) ⌝ }
+        × (node < 2 ^ suc (deepest (curve .degree))) × (0 < node) × (HasRows m) × (Copied m (now rows))
+        × (Sized (depth node) curve) × (degreePieces (curve .degree) m ≡ true) ⌝ }
     ensures { λ _. ⌜ now (records .exit)
         ≡ sets (now (records .entry)) at
         (nodeNumbers number node (boxesTo (lists m) (breakPoints (lists m)) (depth node) curve)) ⌝ }
 {
     records[at] = number as i32;
     records[at + 1] = node as i32;
-    put_boxes(records, at + 2, rows, curve, curve_nodes::depth(node), m);
+    let depth = curve_nodes::depth(node);
+    if 3 < curve.degree {
+        crate::higher::put_boxes(records, at + 2, rows, curve, depth, m);
+    } else {
+        put_boxes(records, at + 2, rows, curve, depth, m);
+    }
 }

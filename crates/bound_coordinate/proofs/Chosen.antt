@@ -2,8 +2,8 @@
 use mathlib.Core.Path.{_≡_, refl, sym, _∙_, ap, ap₂, subst}
 use mathlib.Core.Bool.{Bool, true, false, cond}
 use mathlib.Core.List.{List, [], _∷_}
-use Prim.Native.Nat.{ℕ, _+_, _*_, _-_, _^_, _≤_}
-use native.Mathlib.Nat.{le-trans, le-refl, le-of-eq, add-mul}
+use Prim.Native.Nat.{ℕ, _+_, _*_, _-_, _^_, _≤_, _<_}
+use native.Mathlib.Nat.{le-trans, le-refl, le-of-eq, add-mul, mul-le-mul}
 use native.Mathlib.Omega.{arith}
 use lib.Dec.{ltb}
 use lib.IntN.{ℤ, pos, natAbs, _+ℤ_, _-ℤ_, _*ℤ_}
@@ -16,9 +16,12 @@ use Rattle.curve_halves.specs.Sizes.{Each}
 use Rattle.curve_nodes.specs.Differences.{difference}
 use Rattle.curve_nodes.proofs.Sizes.{difference-under}
 use Rattle.bound_rows.specs.Inside.{placeOf, Copied}
+use Rattle.bound_rows.proofs.Copying.{low-place}
 use Rattle.bound_coordinate.specs.Inside.{Computed}
 use Rattle.bound_coordinate.specs.declared.terms.Terms.{Terms}
+use Rattle.bound_coordinate.specs.declared.higher.Higher.{Higher}
 use Rattle.bound_coordinate.specs.Terms.{chosen, termsOf, Within, Computable}
+use Rattle.bound_coordinate.specs.Higher.{higherOf, HigherWithin, HigherComputable}
 use Rattle.bound_coordinate.proofs.Coordinates.{shift-small}
 
 -- ---- put together
@@ -41,19 +44,53 @@ module _ (m d : ℕ) (cs : List ℤ) {start step δ ε : ℤ} {p q : ℕ}
     row1 = (f ∙ ap₂ (λ x y. chosen x y) eε eq) j;
   }
 
--- ---- sizes
-pub place-under : (d k : ℕ) → k ≤ 1 → placeOf d k ≤ 81
-place-under d k l = cases (ltb (k + 1) d) (ltb d 3)
-  where
-    cases : (a b : Bool) → cond a (cond b 54 (27 * k)) 81 ≤ 81
-    cases true true = omega arith
-    cases true false = omega arith
-    cases false b = omega arith
+-- those of degrees 4 and 5
+module _ (m d : ℕ) (cs : List ℤ) {start step δ ε ζ η : ℤ}
+    (es : start ≡ pos 10000 *ℤ (pos m *ℤ entry cs 0)) (et : step ≡ pos 10000 *ℤ (entry cs d -ℤ entry cs 0))
+    (eδ : δ ≡ difference cs 0) (eε : ε ≡ difference cs 1) (eζ : ζ ≡ difference cs 2) (eη : η ≡ difference cs 3) where
+  pub higher-terms-are : {p q r s : ℕ}
+      → p ≡ chosen δ (placeOf d 0) → q ≡ chosen ε (placeOf d 1) → r ≡ chosen ζ (placeOf d 2) → s ≡ chosen η (placeOf d 3)
+      → _≡_ {A = Higher} (record {
+        start = start;
+        step = step;
+        difference0 = δ;
+        difference1 = ε;
+        difference2 = ζ;
+        difference3 = η;
+        row0 = p;
+        row1 = q;
+        row2 = r;
+        row3 = s;
+      }) (higherOf m d cs)
+  unfolding higherOf
+  higher-terms-are e f g h = λ j. record {
+    start = es j;
+    step = et j;
+    difference0 = eδ j;
+    difference1 = eε j;
+    difference2 = eζ j;
+    difference3 = eη j;
+    row0 = (e ∙ ap (λ z. chosen z (placeOf d 0)) eδ) j;
+    row1 = (f ∙ ap (λ z. chosen z (placeOf d 1)) eε) j;
+    row2 = (g ∙ ap (λ z. chosen z (placeOf d 2)) eζ) j;
+    row3 = (h ∙ ap (λ z. chosen z (placeOf d 3)) eη) j;
+  }
 
-chosen-under : (δ : ℤ) {p : ℕ} → p ≤ 81 → chosen δ p ≤ 82
-chosen-under δ {p} h = cases (ltZ δ (pos 0))
+-- ---- sizes
+pub place-under : (d k : ℕ) → k < 4 → placeOf d k ≤ 270
+place-under d k l = cases (ltb (k + 1) d) (ltb d 3) (ltb d 4) (ltb d 5)
   where
-    cases : (t : Bool) → cond t (p + 1) p ≤ 82
+    cases : (a b c e : Bool) → cond a (cond b 54 (cond c 0 (cond e 108 189)) + 27 * k) 81 ≤ 270
+    cases true true c e = omega arith
+    cases true false true e = omega arith
+    cases true false false true = omega arith
+    cases true false false false = omega arith
+    cases false b c e = omega arith
+
+chosen-under : (δ : ℤ) {p n : ℕ} → p ≤ n → chosen δ p ≤ n + 1
+chosen-under δ {p} {n} h = cases (ltZ δ (pos 0))
+  where
+    cases : (t : Bool) → cond t (p + 1) p ≤ n + 1
     cases true = omega arith
     cases false = omega arith
 
@@ -86,16 +123,32 @@ module _ {B : ℕ} (f l : ℤ) (hf : natAbs f ≤ B) (hl : natAbs l ≤ B) where
   chord-size {m} {i} h = let e : m - i + i ≡ m = omega arith in
       subst (λ (k : ℕ). natAbs (pos 10000 *ℤ (pos k *ℤ f) +ℤ pos i *ℤ (pos 10000 *ℤ (l -ℤ f))) ≤ 10000 * (k * B)) e (mixed-size (m - i) i)
 
-pub terms-within : (m d s : ℕ) {cs : List ℤ} → Each (2 ^ 20 * 2 ^ s) cs → Within m s (termsOf m d cs)
+pub terms-within : (m d s : ℕ) {cs : List ℤ} → d ≤ 3 → Each (2 ^ 20 * 2 ^ s) cs → Within m s (termsOf m d cs)
 unfolding termsOf
-terms-within m d s {cs} h = record {
+terms-within m d s {cs} most h = record {
   start = start-size (entry cs 0) (entry cs d) (h .under 0) (h .under d) m;
   step = step-size (entry cs 0) (entry cs d) (h .under 0) (h .under d);
   chord = λ i hi. chord-size (entry cs 0) (entry cs d) (h .under 0) (h .under d) hi;
   difference0 = difference-under h 0;
   difference1 = difference-under h 1;
+  row0 = chosen-under (difference cs 0) (low-place d 0 most (omega arith));
+  row1 = chosen-under (difference cs 1) (low-place d 1 most (omega arith));
+}
+
+pub higher-within : (m d s : ℕ) {cs : List ℤ} → Each (2 ^ 20 * 2 ^ s) cs → HigherWithin m s (higherOf m d cs)
+unfolding higherOf
+higher-within m d s {cs} h = record {
+  start = start-size (entry cs 0) (entry cs d) (h .under 0) (h .under d) m;
+  step = step-size (entry cs 0) (entry cs d) (h .under 0) (h .under d);
+  chord = λ i hi. chord-size (entry cs 0) (entry cs d) (h .under 0) (h .under d) hi;
+  difference0 = difference-under h 0;
+  difference1 = difference-under h 1;
+  difference2 = difference-under h 2;
+  difference3 = difference-under h 3;
   row0 = chosen-under (difference cs 0) (place-under d 0 (omega arith));
   row1 = chosen-under (difference cs 1) (place-under d 1 (omega arith));
+  row2 = chosen-under (difference cs 2) (place-under d 2 (omega arith));
+  row3 = chosen-under (difference cs 3) (place-under d 3 (omega arith));
 }
 
 -- bounds can be computed: of degree d at depth k
@@ -104,8 +157,19 @@ pub computable : {m d k c : ℕ} {rows cs : List ℤ} → HasRows m → Copied m
 computable {m} {d} {k} h rows most shallow each scaled = record {
   small = rows .small;
   whole = rows .whole;
-  within = terms-within m d (d * k) each;
+  within = terms-within m d (d * k) most each;
   shallow = shift-small most shallow;
+  scaled = scaled;
+  most = h .most;
+}
+
+pub higher-computable : {m d k c : ℕ} {rows cs : List ℤ} → HasRows m → Copied m rows → 4 ≤ d → d ≤ 5 → k ≤ 4 → Each (2 ^ 20 * 2 ^ (d * k)) cs
+    → c * m ≡ 840 → HigherComputable m (d * k) c rows (higherOf m d cs)
+higher-computable {m} {d} {k} h rows least most shallow each scaled = record {
+  each = rows .each;
+  whole = rows .whole;
+  within = higher-within m d (d * k) each;
+  shallow = mul-le-mul most shallow;
   scaled = scaled;
   most = h .most;
 }

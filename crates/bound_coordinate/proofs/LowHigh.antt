@@ -5,12 +5,12 @@ use mathlib.Core.List.{List, [], _∷_}
 use mathlib.Core.Logic.{⊎-elim}
 use Prim.Native.Nat.{ℕ, zero, suc, _+_, _*_, _≤_, _<_}
 use native.Mathlib.Omega.{arith}
-use lib.Dec.{ltb, eqb}
+use lib.Dec.{eqb}
 use lib.ListN.{length}
-use lib.IntN.{ℤ, pos, _+ℤ_, _*ℤ_, *ℤ-zero, zero-*ℤ}
+use lib.IntN.{ℤ, pos, _+ℤ_, _-ℤ_, _*ℤ_, *ℤ-zero, zero-*ℤ}
 use lib.Signed.{ltZ}
 use borrow.Author.Tests.{le-ltb}
-use Rattle.setting.specs.Setting.{Setting, HasRows}
+use Rattle.setting.specs.Setting.{Setting, HasRows, mostDegree, degreePieces}
 use Rattle.integers.specs.Entry.{entry}
 use Rattle.integers.specs.Rounding.{floor, ceiling}
 use Rattle.integers.proofs.Ring.{ring, sides}
@@ -18,15 +18,16 @@ use Rattle.integers.proofs.Order.{lt-or-ge}
 use Rattle.curve_nodes.specs.Differences.{difference}
 use Rattle.bound_rows.specs.Rows.{Row, rowAt}
 use Rattle.bound_rows.specs.Table.{rowsOf}
-use Rattle.bound_rows.specs.Inside.{placeOf, tripleAt, Copied}
+use Rattle.bound_rows.specs.Inside.{blocksOf, placeOf, tripleAt, Copied}
 use Rattle.bound_rows.proofs.Rule.{rows-count}
 use Rattle.bound_enclosure.specs.Bounds.{exchanged, chord, rowSum}
 use Rattle.bound_enclosure.specs.AtDepth.{lowOf, highOf}
 use Rattle.bound_enclosure.proofs.Reduced.{low-reduced, high-reduced}
 use Rattle.bound_coordinate.specs.Terms.{chosen, termsOf, chordAt, denominatorOf, lowBy, highBy}
+use Rattle.bound_coordinate.specs.Higher.{higherOf, higherLow, higherHigh}
 use Rattle.bound_coordinate.proofs.Coordinates.{over-positive}
 
--- ---- the sum of row × difference, for at most two differences
+-- ---- the sum of row × difference, for at most two differences, and for three and four
 -- the entry by which a difference is multiplied: it chooses its row by its own sign
 abbrev factor : List Row → ℕ → ℕ → ℤ → ℤ
 factor ρs i k δ = cond (ltZ δ (pos 0)) (entry (rowAt ρs k .low) i) (entry (rowAt ρs k .high) i)
@@ -55,6 +56,19 @@ module _ (cs : List ℤ) (i : ℕ) where
   sum-two (ρ ∷ σ ∷ []) l = let ρs : List Row = ρ ∷ σ ∷ [] in ring (term ρs 0 ∷ term ρs 1 ∷ []) (search sides depth 20) refl
   sum-two (ρ ∷ σ ∷ τ ∷ ρs) l = absurd (omega arith)
 
+  sum-four : (ρs : List Row) → 3 ≤ length ρs → length ρs ≤ 4 → rowSum ρs i 0 cs ≡ term ρs 0 +ℤ term ρs 1 +ℤ (term ρs 2 +ℤ term ρs 3)
+  unfolding rowSum
+  sum-four [] h l = absurd (omega arith)
+  sum-four (ρ ∷ []) h l = absurd (omega arith)
+  sum-four (ρ ∷ σ ∷ []) h l = absurd (omega arith)
+  sum-four (ρ ∷ σ ∷ τ ∷ []) h l =
+      let ρs : List Row = ρ ∷ σ ∷ τ ∷ [] in
+      ring (term ρs 0 ∷ term ρs 1 ∷ term ρs 2 ∷ []) {b = term ρs 0 +ℤ term ρs 1 +ℤ (term ρs 2 +ℤ pos 0)} (search sides depth 20) refl
+      ∙ ap (λ z. term ρs 0 +ℤ term ρs 1 +ℤ (term ρs 2 +ℤ z)) (sym (no-term 3))
+  sum-four (ρ ∷ σ ∷ τ ∷ υ ∷ []) h l =
+      let ρs : List Row = ρ ∷ σ ∷ τ ∷ υ ∷ [] in ring (term ρs 0 ∷ term ρs 1 ∷ term ρs 2 ∷ term ρs 3 ∷ []) (search sides depth 20) refl
+  sum-four (ρ ∷ σ ∷ τ ∷ υ ∷ φ ∷ ρs) h l = absurd (omega arith)
+
 -- rows exchanged
 exchanged-length : (ρs : List Row) → length (exchanged ρs) ≡ length ρs
 exchanged-length [] = refl
@@ -65,7 +79,8 @@ exchanged-at [] k = refl
 exchanged-at (ρ ∷ ρs) zero = refl
 exchanged-at (ρ ∷ ρs) (suc k) = exchanged-at ρs k
 
-module _ (σ : Setting) (has : HasRows (σ .pieces)) {d : ℕ} (least : 1 ≤ d) (most : d ≤ 3) (cs : List ℤ) {i : ℕ} (hi : i ≤ σ .pieces) where
+module _ (σ : Setting) (has : HasRows (σ .pieces)) {d : ℕ} (most : d ≤ mostDegree) (takes : degreePieces d (σ .pieces) ≡ true)
+    (cs : List ℤ) {i : ℕ} (hi : i ≤ σ .pieces) where
   abbrev m : ℕ
   m = σ .pieces
 
@@ -75,15 +90,19 @@ module _ (σ : Setting) (has : HasRows (σ .pieces)) {d : ℕ} (least : 1 ≤ d)
   abbrev δ : ℕ → ℤ
   δ = difference cs
 
-  -- ---- the number that is divided, from the factors of the two differences
-  abbrev dividend : (a b : ℤ) → ℤ
-  dividend a b = chordAt (termsOf m d cs) i +ℤ (a *ℤ δ 0 +ℤ b *ℤ δ 1)
+  -- ---- the number that is divided: the chord, and m times the sum
+  abbrev dividend : ℤ → ℤ
+  dividend sum = chordAt (pos 10000 *ℤ (pos m *ℤ entry cs 0)) (pos 10000 *ℤ (entry cs d -ℤ entry cs 0)) i +ℤ sum
 
-  dividend-is : (a b sum : ℤ) → sum ≡ a *ℤ δ 0 +ℤ b *ℤ δ 1 → chord m d i cs +ℤ pos m *ℤ sum ≡ dividend (pos m *ℤ a) (pos m *ℤ b)
-  unfolding termsOf
-  dividend-is a b sum e =
-      ap (λ z. chord m d i cs +ℤ pos m *ℤ z) e
-      ∙ ring (pos m ∷ pos i ∷ entry cs 0 ∷ entry cs d ∷ a ∷ b ∷ δ 0 ∷ δ 1 ∷ []) (search sides depth 20) refl
+  chord-is : chord m d i cs ≡ chordAt (pos 10000 *ℤ (pos m *ℤ entry cs 0)) (pos 10000 *ℤ (entry cs d -ℤ entry cs 0)) i
+  chord-is = ring (pos m ∷ pos i ∷ entry cs 0 ∷ entry cs d ∷ []) (search sides depth 20) refl
+
+  two-fold : (a b : ℤ) → pos m *ℤ (a *ℤ δ 0 +ℤ b *ℤ δ 1) ≡ pos m *ℤ a *ℤ δ 0 +ℤ pos m *ℤ b *ℤ δ 1
+  two-fold a b = ring (pos m ∷ a ∷ b ∷ δ 0 ∷ δ 1 ∷ []) (search sides depth 20) refl
+
+  four-fold : (a b c e : ℤ) → pos m *ℤ (a *ℤ δ 0 +ℤ b *ℤ δ 1 +ℤ (c *ℤ δ 2 +ℤ e *ℤ δ 3))
+      ≡ pos m *ℤ a *ℤ δ 0 +ℤ pos m *ℤ b *ℤ δ 1 +ℤ (pos m *ℤ c *ℤ δ 2 +ℤ pos m *ℤ e *ℤ δ 3)
+  four-fold a b c e = ring (pos m ∷ a ∷ b ∷ c ∷ e ∷ δ 0 ∷ δ 1 ∷ δ 2 ∷ δ 3 ∷ []) (search sides depth 20) refl
 
   module _ (k : ℕ) where
     abbrev lowFactor : ℕ → ℤ
@@ -92,17 +111,11 @@ module _ (σ : Setting) (has : HasRows (σ .pieces)) {d : ℕ} (least : 1 ≤ d)
     abbrev highFactor : ℕ → ℤ
     highFactor j = factor ρs i j (δ j)
 
-    low-divided : lowOf σ d k cs i ≡ floor (dividend (pos m *ℤ lowFactor 0) (pos m *ℤ lowFactor 1)) (denominatorOf m (d * k))
-    low-divided =
-        low-reduced (has .least) (over-positive d k) ρs d cs i
-        ∙ ap (λ n. floor n (denominatorOf m (d * k))) (dividend-is (lowFactor 0) (lowFactor 1) (rowSum (exchanged ρs) i 0 cs)
-        (sum-two cs i (exchanged ρs) (omega (arith, exchanged-length ρs, rows-count m d))))
+    low-divided : {sum : ℤ} → pos m *ℤ rowSum (exchanged ρs) i 0 cs ≡ sum → lowOf σ d k cs i ≡ floor (dividend sum) (denominatorOf m (d * k))
+    low-divided e = low-reduced (has .least) (over-positive d k) ρs d cs i ∙ ap (λ n. floor n (denominatorOf m (d * k))) (ap₂ _+ℤ_ chord-is e)
 
-    high-divided : highOf σ d k cs i ≡ ceiling (dividend (pos m *ℤ highFactor 0) (pos m *ℤ highFactor 1)) (denominatorOf m (d * k))
-    high-divided =
-        high-reduced (has .least) (over-positive d k) ρs d cs i
-        ∙ ap (λ n. ceiling n (denominatorOf m (d * k))) (dividend-is (highFactor 0) (highFactor 1) (rowSum ρs i 0 cs)
-        (sum-two cs i ρs (omega (arith, rows-count m d))))
+    high-divided : {sum : ℤ} → pos m *ℤ rowSum ρs i 0 cs ≡ sum → highOf σ d k cs i ≡ ceiling (dividend sum) (denominatorOf m (d * k))
+    high-divided e = high-reduced (has .least) (over-positive d k) ρs d cs i ∙ ap (λ n. ceiling n (denominatorOf m (d * k))) (ap₂ _+ℤ_ chord-is e)
 
     -- ---- the rows that the terms choose
     module _ {rows : List ℤ} (h : Copied m rows) where
@@ -111,36 +124,56 @@ module _ (σ : Setting) (has : HasRows (σ .pieces)) {d : ℕ} (least : 1 ≤ d)
 
       -- the numbers of a difference that the degree does not have are zeros
       row-read : (j t : ℕ) → t < 3 → Read (placeOf d j) j t
-      row-read j t ht = ⊎-elim (λ l. h .row d j i t most (omega arith) hi ht) none (lt-or-ge (j + 1) d)
+      row-read j t ht = ⊎-elim (λ l. h .row d j i t most takes (omega arith) hi ht) none (lt-or-ge (j + 1) d)
         where
           none : d ≤ j + 1 → Read (placeOf d j) j t
           none l =
-              ap (λ (b : Bool). entry rows (cond b (cond (ltb d 3) 54 (27 * j)) 81 + (3 * i + t))) (le-ltb (j + 1) d l)
+              ap (λ (b : Bool). entry rows (cond b (blocksOf d + 27 * j) 81 + (3 * i + t))) (le-ltb (j + 1) d l)
               ∙ h .none (3 * i + t) (omega (arith, has .most))
               ∙ sym (ap (λ (ρ : Row). pos m *ℤ tripleAt ρ i t) (no-row ρs j (omega (arith, rows-count m d)))
               ∙ ap (λ z. pos m *ℤ z) (either (eqb t 1)) ∙ *ℤ-zero (pos m))
 
-      high-read : (j : ℕ) → entry rows (chosen (δ j) (placeOf d j) + 3 * i) ≡ pos m *ℤ highFactor j
-      high-read j = cases (ltZ (δ j) (pos 0))
+      high-read : (j : ℕ) → pos m *ℤ highFactor j ≡ entry rows (chosen (δ j) (placeOf d j) + 3 * i)
+      high-read j = sym (cases (ltZ (δ j) (pos 0)))
         where
           cases : (b : Bool) → entry rows (cond b (placeOf d j + 1) (placeOf d j) + 3 * i)
               ≡ pos m *ℤ cond b (entry (rowAt ρs j .low) i) (entry (rowAt ρs j .high) i)
           cases true = ap (entry rows) {y = placeOf d j + (3 * i + 1)} (omega arith) ∙ row-read j 1 (omega arith)
           cases false = ap (entry rows) {y = placeOf d j + (3 * i + 0)} (omega arith) ∙ row-read j 0 (omega arith)
 
-      low-read : (j : ℕ) → entry rows (chosen (δ j) (placeOf d j) + (3 * i + 1)) ≡ pos m *ℤ lowFactor j
-      low-read j = cases (ltZ (δ j) (pos 0))
-          ∙ ap (λ (ρ : Row). pos m *ℤ cond (ltZ (δ j) (pos 0)) (entry (ρ .low) i) (entry (ρ .high) i)) (sym (exchanged-at ρs j))
+      low-read : (j : ℕ) → pos m *ℤ lowFactor j ≡ entry rows (chosen (δ j) (placeOf d j) + (3 * i + 1))
+      low-read j = sym (cases (ltZ (δ j) (pos 0))
+          ∙ ap (λ (ρ : Row). pos m *ℤ cond (ltZ (δ j) (pos 0)) (entry (ρ .low) i) (entry (ρ .high) i)) (sym (exchanged-at ρs j)))
         where
           cases : (b : Bool) → entry rows (cond b (placeOf d j + 1) (placeOf d j) + (3 * i + 1))
               ≡ pos m *ℤ cond b (entry (rowAt ρs j .high) i) (entry (rowAt ρs j .low) i)
           cases true = ap (entry rows) {y = placeOf d j + (3 * i + 2)} (omega arith) ∙ row-read j 2 (omega arith)
           cases false = row-read j 1 (omega arith)
 
-      pub low-is : lowBy m (d * k) rows (termsOf m d cs) i ≡ lowOf σ d k cs i
-      unfolding lowBy termsOf
-      low-is = ap (λ n. floor n (denominatorOf m (d * k))) (ap₂ dividend (low-read 0) (low-read 1)) ∙ sym low-divided
+      -- ---- degrees 1 to 3
+      module _ (few : d ≤ 3) where
+        pub low-is : lowBy m (d * k) rows (termsOf m d cs) i ≡ lowOf σ d k cs i
+        unfolding lowBy termsOf
+        low-is = sym (low-divided (ap (λ z. pos m *ℤ z) (sum-two cs i (exchanged ρs) (omega (arith, exchanged-length ρs, rows-count m d)))
+            ∙ two-fold (lowFactor 0) (lowFactor 1) ∙ ap₂ (λ a b. a *ℤ δ 0 +ℤ b *ℤ δ 1) (low-read 0) (low-read 1)))
 
-      pub high-is : highBy m (d * k) rows (termsOf m d cs) i ≡ highOf σ d k cs i
-      unfolding highBy termsOf
-      high-is = ap (λ n. ceiling n (denominatorOf m (d * k))) (ap₂ dividend (high-read 0) (high-read 1)) ∙ sym high-divided
+        pub high-is : highBy m (d * k) rows (termsOf m d cs) i ≡ highOf σ d k cs i
+        unfolding highBy termsOf
+        high-is = sym (high-divided (ap (λ z. pos m *ℤ z) (sum-two cs i ρs (omega (arith, rows-count m d)))
+            ∙ two-fold (highFactor 0) (highFactor 1) ∙ ap₂ (λ a b. a *ℤ δ 0 +ℤ b *ℤ δ 1) (high-read 0) (high-read 1)))
+
+      -- ---- degrees 4 and 5
+      module _ (many : 4 ≤ d) where
+        pub higher-low-is : higherLow m (d * k) rows (higherOf m d cs) i ≡ lowOf σ d k cs i
+        unfolding higherLow higherOf
+        higher-low-is = sym (low-divided (ap (λ z. pos m *ℤ z)
+            (sum-four cs i (exchanged ρs) (omega (arith, exchanged-length ρs, rows-count m d)) (omega (arith, exchanged-length ρs, rows-count m d)))
+            ∙ four-fold (lowFactor 0) (lowFactor 1) (lowFactor 2) (lowFactor 3)
+            ∙ (λ j. low-read 0 j *ℤ δ 0 +ℤ low-read 1 j *ℤ δ 1 +ℤ (low-read 2 j *ℤ δ 2 +ℤ low-read 3 j *ℤ δ 3))))
+
+        pub higher-high-is : higherHigh m (d * k) rows (higherOf m d cs) i ≡ highOf σ d k cs i
+        unfolding higherHigh higherOf
+        higher-high-is = sym (high-divided (ap (λ z. pos m *ℤ z)
+            (sum-four cs i ρs (omega (arith, rows-count m d)) (omega (arith, rows-count m d)))
+            ∙ four-fold (highFactor 0) (highFactor 1) (highFactor 2) (highFactor 3)
+            ∙ (λ j. high-read 0 j *ℤ δ 0 +ℤ high-read 1 j *ℤ δ 1 +ℤ (high-read 2 j *ℤ δ 2 +ℤ high-read 3 j *ℤ δ 3))))

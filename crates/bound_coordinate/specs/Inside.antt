@@ -11,6 +11,12 @@ pub record Boundable (cs : List ℤ) (d : ℕ) : Type 0 where
   pub most : d ≤ 3
   pub values : Each (2 ^ 44) cs
 
+-- one of degree 4 or 5
+pub record HigherBoundable (cs : List ℤ) (d : ℕ) : Type 0 where
+  pub least : 4 ≤ d
+  pub most : d ≤ 5
+  pub values : Each (2 ^ 44) cs
+
 -- z is at most B in size
 pub record Small (B : ℕ) (z : ℤ) : Type 0 where
   pub size : natAbs z ≤ B

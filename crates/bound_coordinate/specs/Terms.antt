@@ -1,15 +1,14 @@
--- The low and the high of a coordinate at a break point as the code computes them, from copied rows. Only the contracts
--- of functions inside cite what stands here; nothing of it is part of a public promise.
+-- The low and the high of a coordinate of degree 1 to 3 at a break point as the code computes them, from copied rows.
+-- Only the contracts of functions inside cite what stands here; nothing of it is part of a public promise.
 use mathlib.Core.Path.{_≡_}
 use mathlib.Core.Bool.{cond}
 use mathlib.Core.List.{List}
-use Prim.Native.Nat.{ℕ, _+_, _*_, _^_, _≤_}
+use Prim.Native.Nat.{ℕ, _+_, _*_, _^_, _≤_, _<_}
 use lib.ListN.{length}
 use lib.IntN.{ℤ, pos, natAbs, _+ℤ_, _-ℤ_, _*ℤ_}
 use lib.Signed.{ltZ}
 use Rattle.integers.specs.Entry.{entry}
 use Rattle.integers.specs.Rounding.{floor, ceiling}
-use Rattle.curve_halves.specs.Sizes.{Each}
 use Rattle.curve_nodes.specs.Differences.{difference}
 use Rattle.bound_rows.specs.Inside.{placeOf}
 use Rattle.bound_coordinate.specs.declared.terms.Terms.{Terms}
@@ -30,14 +29,14 @@ termsOf m d cs = record {
 }
 
 -- 10000 m times the chord's value at break point i
-abbrev pub chordAt : Terms → ℕ → ℤ
-chordAt t i = t .start +ℤ pos i *ℤ t .step
+abbrev pub chordAt : (start step : ℤ) → ℕ → ℤ
+chordAt start step i = start +ℤ pos i *ℤ step
 
 -- the terms of m pieces, over 2^s, of a coordinate within 2^20
 pub record Within (m s : ℕ) (t : Terms) : Type 0 where
   pub start : natAbs (t .start) ≤ 10000 * (m * (2 ^ 20 * 2 ^ s))
   pub step : natAbs (t .step) ≤ 20000 * (2 ^ 20 * 2 ^ s)
-  pub chord : (i : ℕ) → i ≤ m → natAbs (chordAt t i) ≤ 10000 * (m * (2 ^ 20 * 2 ^ s))
+  pub chord : (i : ℕ) → i ≤ m → natAbs (chordAt (t .start) (t .step) i) ≤ 10000 * (m * (2 ^ 20 * 2 ^ s))
   pub difference0 : natAbs (t .difference0) ≤ 4 * (2 ^ 20 * 2 ^ s)
   pub difference1 : natAbs (t .difference1) ≤ 4 * (2 ^ 20 * 2 ^ s)
   pub row0 : t .row0 ≤ 82
@@ -45,8 +44,8 @@ pub record Within (m s : ℕ) (t : Terms) : Type 0 where
 
 -- the bounds of m pieces over 2^s can be computed from these rows and terms; c is 840 / m
 pub record Computable (m s c : ℕ) (rows : List ℤ) (t : Terms) : Type 0 where
-  pub small : Each (5000 * m) rows
-  pub whole : length rows ≡ 108
+  pub small : (p : ℕ) → p < 108 → natAbs (entry rows p) ≤ 5000 * m
+  pub whole : length rows ≡ 297
   pub within : Within m s t
   pub shallow : s ≤ 24
   pub scaled : c * m ≡ 840
@@ -60,10 +59,13 @@ pub record ComputableAt (i : ℕ) (rows : List ℤ) (t : Terms) : Type 0 where
   pub computable : Computable m s c rows t
   pub point : i ≤ m
 
--- the number that is divided at break point i: the chord and the sum of row × difference, for rows read from places
--- p and q
+-- the sum of row × difference for two differences, whose rows are read from places p and q
+abbrev pub pairOf : List ℤ → (p q : ℕ) (δ ε : ℤ) → ℤ
+pairOf rows p q δ ε = entry rows p *ℤ δ +ℤ entry rows q *ℤ ε
+
+-- the number that is divided at break point i: the chord and that sum
 abbrev pub numeratorOf : List ℤ → Terms → (p q i : ℕ) → ℤ
-numeratorOf rows t p q i = chordAt t i +ℤ (entry rows p *ℤ t .difference0 +ℤ entry rows q *ℤ t .difference1)
+numeratorOf rows t p q i = chordAt (t .start) (t .step) i +ℤ pairOf rows p q (t .difference0) (t .difference1)
 
 abbrev pub denominatorOf : (m s : ℕ) → ℤ
 denominatorOf m s = pos 625 *ℤ pos m *ℤ pos (2 ^ s)

@@ -1,8 +1,8 @@
-// The low and the high of one coordinate at a break point, from its terms and the copied rows, in 64 bits.
+// The low and the high of one coordinate of degree 1 to 3 at a break point, from its terms and the copied rows, in 64
+// bits.
 ghost use mathlib.Core.Path.{_≡_};
 ghost use Prim.Native.Nat.{_<_, _≤_, _*_, _^_};
 ghost use lib.IntN.{natAbs};
-ghost use lib.ListN.{length};
 ghost use Rattle.setting.specs.Setting.{HasRows};
 ghost use Rattle.integers.specs.Rounding.{floor};
 ghost use Rattle.bound_coordinate.specs.Inside.{Computed};
@@ -17,7 +17,7 @@ const LARGEST: i64 = 268435456;
 
 // The number that is divided at break point i, for rows read from places p and q.
 fn numerator(rows: &[i64], t: Terms, p: usize, q: usize, i: usize) -> i64
-    requires { ⌜ (ComputableAt i (now rows) t) × (p < length (now rows)) × (q < length (now rows)) ⌝ }
+    requires { ⌜ (ComputableAt i (now rows) t) × (p < 108) × (q < 108) ⌝ }
     ensures { λ r. ⌜ r ≡ numeratorOf (now (rows .entry)) t p q i ⌝ }
 {
     let start = t.start;
@@ -38,7 +38,7 @@ pub fn scale_of(m: usize) -> usize
 
 // n over 625 m 2^shift, rounded down. Raised by a multiple of 525000 the dividend is not negative, and the machine's
 // quotient is rounded down.
-fn rounded_down(n: i64, shift: u32, scale: usize, m: usize) -> i64
+pub fn rounded_down(n: i64, shift: u32, scale: usize, m: usize) -> i64
     requires { ⌜ (natAbs n ≤ 625 * 2 ^ 28 * (m * 2 ^ shift)) × (shift ≤ 24) × (scale * m ≡ 840) × (m ≤ 8) ⌝ }
     ensures { λ r. ⌜ Computed (2 ^ 28) (floor n (denominatorOf m shift)) r ⌝ }
 {

@@ -1,4 +1,4 @@
-// One coordinate as its bounds at all break points need it.
+// One coordinate of degree 1 to 3 as its bounds at all break points need it.
 ghost use mathlib.Core.Path.{_≡_};
 ghost use Prim.Native.Nat.{_<_, _≤_, _^_};
 ghost use Rattle.integers.specs.Entry.{entry};
@@ -19,15 +19,15 @@ pub struct Terms {
 }
 
 // The second difference of the control values from place k on.
-pub fn difference_at(c: [i64; 4], k: usize) -> i64
-    requires { ⌜ (Each (2 ^ 44) c) × (k < 2) ⌝ }
+pub fn difference_at(c: [i64; 6], k: usize) -> i64
+    requires { ⌜ (Each (2 ^ 44) c) × (k < 4) ⌝ }
     ensures { λ r. ⌜ Computed (2 ^ 46) (difference c k) r ⌝ }
 {
     c[k] - 2 * c[k + 1] + c[k + 2]
 }
 
 // The last control value.
-fn last_of(c: [i64; 4], degree: u32) -> i64
+fn last_of(c: [i64; 6], degree: u32) -> i64
     requires { ⌜ (1 ≤ degree) × (degree ≤ 3) ⌝ }
     ensures { λ r. ⌜ r ≡ entry c degree ⌝ }
 {
@@ -42,6 +42,7 @@ fn last_of(c: [i64; 4], degree: u32) -> i64
 
 // Where the rows of a degree's first and of its second difference begin among the copied rows.
 fn first_place(degree: u32) -> usize
+    requires { ⌜ degree ≤ 3 ⌝ }
     ensures { λ r. ⌜ r ≡ placeOf degree 0 ⌝ }
 {
     if degree < 2 {
@@ -54,6 +55,7 @@ fn first_place(degree: u32) -> usize
 }
 
 fn second_place(degree: u32) -> usize
+    requires { ⌜ degree ≤ 3 ⌝ }
     ensures { λ r. ⌜ r ≡ placeOf degree 1 ⌝ }
 {
     if degree < 3 { 81 } else { 27 }
@@ -61,15 +63,15 @@ fn second_place(degree: u32) -> usize
 
 // Where a difference begins to read rows that begin at p: a negative one, whose high is the low row's, one number
 // further on.
-fn row_for(difference: i64, p: usize) -> usize
-    requires { ⌜ p ≤ 81 ⌝ }
+pub fn row_for(difference: i64, p: usize) -> usize
+    requires { ⌜ p ≤ 270 ⌝ }
     ensures { λ r. ⌜ r ≡ chosen difference p ⌝ }
 {
     if difference < 0 { p + 1 } else { p }
 }
 
 // The terms of a coordinate for m pieces.
-pub fn terms_of(c: [i64; 4], degree: u32, m: usize) -> Terms
+pub fn terms_of(c: [i64; 6], degree: u32, m: usize) -> Terms
     requires { ⌜ (Boundable c degree) × (m ≤ 8) ⌝ }
     ensures { λ r. ⌜ r ≡ termsOf m degree c ⌝ }
 {

@@ -9,7 +9,7 @@ use lib.Dec.{T}
 use lib.ListN.{length}
 use lib.IntN.{ℤ, pos, negℤ, _+ℤ_, _-ℤ_, _*ℤ_, pow}
 use lib.Signed.{ltZ, _≤ℤ_, _<ℤ_, ltZ-yes, ltZ-no}
-use Rattle.setting.specs.Setting.{HasRows}
+use Rattle.setting.specs.Setting.{HasRows, mostDegree, degreePieces}
 use Rattle.integers.specs.Entry.{entry}
 use Rattle.integers.specs.Rounding.{ceiling}
 use Rattle.integers.proofs.Ring.{sides}
@@ -26,8 +26,8 @@ use Rattle.bound_rows.specs.Hats.{hat}
 use Rattle.bound_rows.specs.Joined.{Place, joined}
 use Rattle.bound_enclosure.specs.Enclosed.{Encloses}
 use Rattle.bound_rows.proofs.Negated.{negated, value-negated}
-use Rattle.bound_rows.proofs.Degrees.{degrees}
-use Rattle.bound_enclosure.proofs.SecondDifferences.{hatSum, Form, form-1, form-2, form-3}
+use Rattle.bound_rows.proofs.Degrees.{all-degrees}
+use Rattle.bound_enclosure.proofs.SecondDifferences.{hatSum, Form, form-1, form-2, form-3, form-4, form-5}
 use Rattle.bound_rows.proofs.Rows.{passes, tested, low-line, high-line}
 use Rattle.bound_rows.proofs.Rule.{rows-count, rows-tested}
 use Rattle.bound_enclosure.proofs.Negation.{low-is}
@@ -114,13 +114,13 @@ module _ {m d : ℕ} {ρs : List Row} (known : Enclosable m d ρs) {D : ℤ} (hD
   encloses cs = record { below = over-low cs; above = under-high cs }
 
 -- ---- the table's rows
-module _ (m d : ℕ) (rows : HasRows m) (least : 1 ≤ d) (most : d ≤ 3) where
+module _ (m d : ℕ) (rows : HasRows m) (least : 1 ≤ d) (most : d ≤ mostDegree) (takes : degreePieces d m ≡ true) where
   pub enclosable : Enclosable m d (rowsOf m d)
   enclosable = record {
     positive = least;
     count = rows-count m d;
-    pass = rows-tested m d rows most;
-    form = degrees Form form-1 form-2 form-3 d least most;
+    pass = rows-tested m d rows most takes;
+    form = all-degrees Form form-1 form-2 form-3 form-4 form-5 d least most;
   }
 
   module _ (D : ℤ) (hD : pos 0 <ℤ D) (cs : List ℤ) where

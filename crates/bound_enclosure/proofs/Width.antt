@@ -1,15 +1,16 @@
 -- The width law: how far apart a high and its low can be, from a bound on the second differences.
 use mathlib.Core.Path.{_≡_, refl, _∙_, ap, subst}
-use mathlib.Core.Bool.{Bool, cond, _&&_}
+use mathlib.Core.Bool.{Bool, true, cond, _&&_}
 use mathlib.Core.List.{List, [], _∷_}
 use Prim.Native.Nat.{ℕ, suc, _+_, _*_, _-_, _^_, _≤_, _<_, zero-le, suc-le-suc}
-use native.Mathlib.Nat.{one-le-pow, zero-lt-suc, one-mul}
+use native.Mathlib.Nat.{le-trans, one-le-pow, zero-lt-suc, one-mul}
 use native.Mathlib.Omega.{arith}
-use lib.Dec.{T}
+use lib.Dec.{T, lit≤}
 use lib.ListN.{length}
 use lib.IntN.{ℤ, pos, negsuc, negℤ, natAbs, _+ℤ_, _-ℤ_, _*ℤ_}
 use lib.Signed.{nonNeg, ltZ, leZ, _≤ℤ_, _<ℤ_, ltZ-yes, leZ-yes}
-use Rattle.setting.specs.Setting.{Setting, HasRows, standard}
+use Rattle.setting.specs.Setting.{Setting, HasRows, mostDegree, degreePieces, standard}
+use Rattle.setting.proofs.Pieces.{degree-takes}
 use Rattle.integers.specs.Entry.{entry}
 use Rattle.integers.specs.Rounding.{floor, ceiling}
 use Rattle.integers.proofs.Ring.{ring, sides}
@@ -81,11 +82,11 @@ module _ (m G d : ℕ) (ρs : List Row) (some : 0 < m) (t : T (gapsWithin m G ρ
       (search sides depth 40 fits 9999) refl)))
 
 -- ---- the rows of a setting: G is that of the degree and the number of pieces
-module _ (σ : Setting) (h : HasRows (σ .pieces)) (d depth z M : ℕ) (cs : List ℤ) (most : d ≤ 3)
-    (small : (k : ℕ) → k < d - 1 → z * natAbs (difference cs k) ≤ 2 ^ (d * depth) * M) where
+module _ (σ : Setting) (h : HasRows (σ .pieces)) (d depth z M : ℕ) (cs : List ℤ) (most : d ≤ mostDegree)
+    (takes : degreePieces d (σ .pieces) ≡ true) (small : (k : ℕ) → k < d - 1 → z * natAbs (difference cs k) ≤ 2 ^ (d * depth) * M) where
   pub width-gap : (i : ℕ) → i ≤ σ .pieces → (pos 10000 *ℤ pos z *ℤ (highOf σ d depth cs i -ℤ lowOf σ d depth cs i))
       ≤ℤ (pos 16 *ℤ pos (gapOf (σ .pieces) d) *ℤ pos M +ℤ pos 20000 *ℤ pos z)
-  width-gap = width-within (σ .pieces) (gapOf (σ .pieces) d) d (rowsOf (σ .pieces) d) (h .least) (rows-apart (σ .pieces) d h most)
+  width-gap = width-within (σ .pieces) (gapOf (σ .pieces) d) d (rowsOf (σ .pieces) d) (h .least) (rows-apart (σ .pieces) d h most takes)
       (2 ^ (d * depth)) z M (one-le-pow (d * depth) 2 (zero-lt-suc 1)) cs (λ k l. small k (subst (λ n. k < n) (rows-count (σ .pieces) d) l))
 
 -- ---- three pieces, where G is 890 at most: at a depth and at any node
@@ -95,7 +96,8 @@ module _ (d depth M : ℕ) (cs : List ℤ) (least : 1 ≤ d) (most : d ≤ 3) wh
   within z small i hi =
       let G = gapOf pieces d in
       *ℤ-cancel {k = pos 80} (ltZ-yes tt) (le-by (pos M ∷ pos z ∷ pos G ∷ highOf standard d depth cs i ∷ lowOf standard d depth cs i ∷ [])
-      (gap (width-gap standard pieces-have-rows d depth z M cs most small i hi) +₀ natural 16 ×₀ natural M ×₀ gap (pos-le (gap-thirds d least most)))
+      (gap (width-gap standard pieces-have-rows d depth z M cs (le-trans most (lit≤ tt)) (degree-takes d pieces .1 (λ l. lit≤ tt)) small i hi)
+      +₀ natural 16 ×₀ natural M ×₀ gap (pos-le (gap-thirds d least most)))
       (search sides depth 20) refl)
 
   pub width : ((k : ℕ) → k < d - 1 → 4 ^ depth * natAbs (difference cs k) ≤ 2 ^ (d * depth) * M)

@@ -10,7 +10,7 @@ use native.Mathlib.Omega.{arith}
 use lib.Dec.{T, leb, leb→le, lit≤}
 use lib.IntN.{ℤ, pos, negsuc, negℤ, natAbs, _+ℤ_, _-ℤ_, _*ℤ_}
 use lib.Signed.{nonNeg, ltZ, _≤ℤ_, _<ℤ_, ltZ-yes}
-use Rattle.setting.specs.Setting.{Setting, HasRows}
+use Rattle.setting.specs.Setting.{Setting, HasRows, mostDegree, degreePieces}
 use Rattle.integers.specs.Entry.{entry}
 use Rattle.integers.specs.Rounding.{floor, ceiling}
 use Rattle.integers.specs.Squares.{squared}
@@ -131,8 +131,8 @@ under-sum cs (g ∷ gs) (h ∷ hs) k t =
     (under-sum cs gs hs (suc k) (and-right (leb g h) (under gs hs) t))
 
 -- the spread of a number that is at most or at least the sum of gap × difference at a break point, and the width there; then their squares
-module _ (σ : Setting) (rows : HasRows (σ .pieces)) (d depth : ℕ) (cs : List ℤ) (least : 1 ≤ d) (most : d ≤ 3)
-    (B i : ℕ) (hi : i ≤ σ .pieces) where
+module _ (σ : Setting) (rows : HasRows (σ .pieces)) (d depth : ℕ) (cs : List ℤ) (least : 1 ≤ d) (most : d ≤ mostDegree)
+    (takes : degreePieces d (σ .pieces) ≡ true) (B i : ℕ) (hi : i ≤ σ .pieces) where
   abbrev ρs : List Row
   ρs = rowsOf (σ .pieces) d
 
@@ -144,11 +144,11 @@ module _ (σ : Setting) (rows : HasRows (σ .pieces)) (d depth : ℕ) (cs : List
 
   spread-least : B ≤ gapsSum (gapsAt ρs i) 0 cs → pos (spreadOf B (d * depth)) ≤ℤ width
   unfolding spreadOf
-  spread-least = sum-least (rows .least) some-D ρs d cs i (rows-ordered (σ .pieces) d rows most i hi) B
+  spread-least = sum-least (rows .least) some-D ρs d cs i (rows-ordered (σ .pieces) d rows most takes i hi) B
 
   spread-most : gapsSum (gapsAt ρs i) 0 cs ≤ B → width ≤ℤ (pos (spreadOf B (d * depth)) +ℤ pos 1)
   unfolding spreadOf
-  spread-most = sum-most (rows .least) some-D ρs d cs i (rows-ordered (σ .pieces) d rows most i hi) B
+  spread-most = sum-most (rows .least) some-D ρs d cs i (rows-ordered (σ .pieces) d rows most takes i hi) B
 
   pub square-least : B ≤ gapsSum (gapsAt (rowsOf (σ .pieces) d) i) 0 cs
       → squared (pos (spreadOf B (d * depth))) ≤ℤ squared (highOf σ d depth cs i -ℤ lowOf σ d depth cs i)
@@ -156,10 +156,11 @@ module _ (σ : Setting) (rows : HasRows (σ .pieces)) (d depth : ℕ) (cs : List
 
   pub square-most : gapsSum (gapsAt (rowsOf (σ .pieces) d) i) 0 cs ≤ B
       → squared (highOf σ d depth cs i -ℤ lowOf σ d depth cs i) ≤ℤ squared (pos (spreadOf B (d * depth)) +ℤ pos 1)
-  square-most h = square-mono (gap (low-high σ rows d depth cs least most i hi)) (spread-most h)
+  square-most h = square-mono (gap (low-high σ rows d depth cs least most takes i hi)) (spread-most h)
 
 -- ---- no node is too wide for a tolerance beyond 2^27, below zero or above
-module _ (σ : Setting) (rows : HasRows (σ .pieces)) (tolerance : ℤ) (depth : ℕ) (c : Curve) (s : Sized depth c) where
+module _ (σ : Setting) (rows : HasRows (σ .pieces)) (tolerance : ℤ) (depth : ℕ) (c : Curve) (s : Sized depth c)
+    (takes : degreePieces (c .degree) (σ .pieces) ≡ true) where
   beyond-meets : squared (pos (2 ^ 27)) ≤ℤ squared tolerance → meets σ tolerance depth c ≡ true
   beyond-meets h = narrow-meets σ tolerance depth c (record {
     each = λ i hi. ≤ℤ-trans (+ℤ-mono (small (c .x) (s .x) i hi) (small (c .y) (s .y) i hi))
@@ -168,8 +169,8 @@ module _ (σ : Setting) (rows : HasRows (σ .pieces)) (tolerance : ℤ) (depth :
     where
       small : (cs : List ℤ) → Each (2 ^ 20 * 2 ^ (c .degree * depth)) cs → (i : ℕ) → i ≤ σ .pieces
           → squared (highOf σ (c .degree) depth cs i -ℤ lowOf σ (c .degree) depth cs i) ≤ℤ pos (2 ^ 52)
-      small cs each i hi = square-mono (gap (low-high σ rows (c .degree) depth cs (s .least) (s .most) i hi))
-          (width-under σ rows (c .degree) depth cs (s .least) (s .most) each i hi)
+      small cs each i hi = square-mono (gap (low-high σ rows (c .degree) depth cs (s .least) (s .most) takes i hi))
+          (width-under σ rows (c .degree) depth cs (s .least) (s .most) takes each i hi)
 
   pub below-meets : tolerance <ℤ negℤ (pos (2 ^ 27)) → meets σ tolerance depth c ≡ true
   below-meets h = let g = gap< h +₀ natural 1 in beyond-meets (le-by (tolerance ∷ []) (natural (2 ^ 28) ×₀ g +₀ g ×₀ g) (search sides depth 40) refl)

@@ -11,7 +11,7 @@ use lib.Dec.{T, leb, leb→le}
 use lib.IntN.{ℤ, pos, natAbs, _+ℤ_, _-ℤ_}
 use lib.ListN.{getD}
 use lib.Signed.{ltZ, _≤ℤ_, clashℤ}
-use Rattle.setting.specs.Setting.{Setting, HasRows}
+use Rattle.setting.specs.Setting.{Setting, HasRows, degreePieces}
 use Rattle.integers.specs.Squares.{squared}
 use Rattle.integers.proofs.Ring.{sides}
 use Rattle.integers.proofs.Order.{natural, gap, le-by, lt-or-ge, pos-le, le-pos, ≤ℤ-trans, +ℤ-mono, _+₀_, _×₀_}
@@ -27,6 +27,7 @@ use Rattle.bound_enclosure.specs.AtDepth.{highOf, lowOf}
 use Rattle.bound_node.specs.Inside.{gapsAt, gapsSum, spreadOf, gapAt, widestAt, nearGap, farGap, cornerOf}
 use Rattle.bound_node.specs.Inside.{nearCorner, farCorner, sumsOf, exactOf}
 use Rattle.bound_node.specs.Boxes.{meets}
+use Rattle.bound_node.proofs.Boxes.{low-takes}
 use Rattle.bound_node.proofs.Narrow.{refuted, meets-narrow, narrow-meets}
 use Rattle.bound_node.proofs.Apart.{under, under-sum, square-least, square-most}
 
@@ -34,6 +35,13 @@ use Rattle.bound_node.proofs.Apart.{under, under-sum, square-least, squ
 pub pieces-tested : (f : ℕ → Bool) → T (every-below 8 (λ n. f (suc n))) → (m : ℕ) → HasRows m → T (f m)
 pieces-tested f t zero h = absurd (omega (arith, h .least))
 pieces-tested f t (suc n) h = below 8 (λ n. f (suc n)) t n (h .most)
+
+-- and of three to eight
+pub many-tested : (f : ℕ → Bool) → T (every-below 6 (λ n. f (suc (suc (suc n))))) → (m : ℕ) → HasRows m → 3 ≤ m → T (f m)
+many-tested f t zero h l = absurd (omega arith)
+many-tested f t (suc zero) h l = absurd (omega arith)
+many-tested f t (suc (suc zero)) h l = absurd (omega arith)
+many-tested f t (suc (suc (suc n))) h l = below 6 (λ n. f (suc (suc (suc n)))) t n (omega (arith, h .most))
 
 -- the gaps at break point i: each at most A, and both at most G; at degree 2 at most G
 abbrev gapsFine : (m i : ℕ) → Bool
@@ -117,8 +125,27 @@ squareOf n s = squared (pos (spreadOf n s))
 abbrev pub squareAbove : (n s : ℕ) → ℤ
 squareAbove n s = squared (pos (spreadOf n s) +ℤ pos 1)
 
-module _ (σ : Setting) (rows : HasRows (σ .pieces)) (tolerance : ℤ) {depth : ℕ} {c : Curve} (s : Sized depth c) {xs ys : List ℕ}
-    (ex : xs ≡ sumsOf (σ .pieces) (c .degree) (c .x)) (ey : ys ≡ sumsOf (σ .pieces) (c .degree) (c .y)) where
+-- sums that are at least those of every break point: where they are not too wide, the node meets the tolerance
+module _ (σ : Setting) (rows : HasRows (σ .pieces)) (tolerance : ℤ) {depth : ℕ} {c : Curve} (s : Sized depth c)
+    (takes : degreePieces (c .degree) (σ .pieces) ≡ true) where
+  abbrev Covers : List ℤ → ℕ → Type 0
+  Covers cs n = (i : ℕ) → i ≤ σ .pieces → gapsSum (gapsAt (rowsOf (σ .pieces) (c .degree)) i) 0 cs ≤ n
+
+  under-all : (cs : List ℤ) (n : ℕ) → Covers cs n → (i : ℕ) → i ≤ σ .pieces
+      → squared (highOf σ (c .degree) depth cs i -ℤ lowOf σ (c .degree) depth cs i) ≤ℤ squareAbove n (c .degree * depth)
+  under-all cs n h i hi = square-most σ rows (c .degree) depth cs (s .least) (s .most) takes n i hi (h i hi)
+
+  pub covered-meets : (w h : ℕ) → Covers (c .x) w → Covers (c .y) h
+      → ltZ (squared tolerance) (squareAbove w (c .degree * depth) +ℤ squareAbove h (c .degree * depth)) ≡ false → meets σ tolerance depth c ≡ true
+  covered-meets w h hx hy e = narrow-meets σ tolerance depth c (record {
+    each = λ i hi. ≤ℤ-trans (+ℤ-mono (under-all (c .x) w hx i hi) (under-all (c .y) h hy i hi)) (lt-no e);
+  })
+
+module _ (σ : Setting) (rows : HasRows (σ .pieces)) (tolerance : ℤ) {depth : ℕ} {c : Curve} (s : Sized depth c) (few : c .degree ≤ 3)
+    {xs ys : List ℕ} (ex : xs ≡ sumsOf (σ .pieces) (c .degree) (c .x)) (ey : ys ≡ sumsOf (σ .pieces) (c .degree) (c .y)) where
+  takes : degreePieces (c .degree) (σ .pieces) ≡ true
+  takes = low-takes (c .degree) (σ .pieces) few
+
   abbrev shift : ℕ
   shift = c .degree * depth
 
@@ -126,16 +153,13 @@ module _ (σ : Setting) (rows : HasRows (σ .pieces)) (tolerance : ℤ) {depth :
   width cs i = squared (highOf σ (c .degree) depth cs i -ℤ lowOf σ (c .degree) depth cs i)
 
   -- no break point is wider than both corners are
-  under-most : (cs : List ℤ) {ns : List ℕ} → ns ≡ sumsOf (σ .pieces) (c .degree) cs → {n : ℕ} → n ≡ max (getD ns 0 0) (getD ns 1 0)
-      → (i : ℕ) → i ≤ σ .pieces → width cs i ≤ℤ squareAbove n shift
-  under-most cs e {n} en i hi = square-most σ rows (c .degree) depth cs (s .least) (s .most) n i hi
-      (rw (en, e) (corner-sum (σ .pieces) rows cs i hi (c .degree) (s .least) (s .most)))
+  under-corners : (cs : List ℤ) {ns : List ℕ} → ns ≡ sumsOf (σ .pieces) (c .degree) cs → {n : ℕ} → n ≡ max (getD ns 0 0) (getD ns 1 0)
+      → (i : ℕ) → i ≤ σ .pieces → gapsSum (gapsAt (rowsOf (σ .pieces) (c .degree)) i) 0 cs ≤ n
+  under-corners cs e en i hi = rw (en, e) (corner-sum (σ .pieces) rows cs i hi (c .degree) (s .least) few)
 
   pub close-meets : {w h : ℕ} → w ≡ max (getD xs 0 0) (getD xs 1 0) → h ≡ max (getD ys 0 0) (getD ys 1 0)
       → ltZ (squared tolerance) (squareAbove w (c .degree * depth) +ℤ squareAbove h (c .degree * depth)) ≡ false → meets σ tolerance depth c ≡ true
-  close-meets ew eh e = narrow-meets σ tolerance depth c (record {
-    each = λ i hi. ≤ℤ-trans (+ℤ-mono (under-most (c .x) ex ew i hi) (under-most (c .y) ey eh i hi)) (lt-no e);
-  })
+  close-meets {w} {h} ew eh = covered-meets σ rows tolerance s takes w h (under-corners (c .x) ex ew) (under-corners (c .y) ey eh)
 
   -- gaps that are at most those of a break point: too wide by them, the node is too wide there
   gaps-fail : (gs : List ℕ) (i : ℕ) → i ≤ σ .pieces → T (under gs (gapsAt (rowsOf (σ .pieces) (c .degree)) i))
@@ -145,7 +169,7 @@ module _ (σ : Setting) (rows : HasRows (σ .pieces)) (tolerance : ℤ) {depth :
       refuted (λ e. clashℤ (lt-yes h) (≤ℤ-trans (+ℤ-mono (over (c .x)) (over (c .y))) (meets-narrow σ tolerance depth c e .each i hi)))
     where
       over : (cs : List ℤ) → squareOf (gapsSum gs 0 cs) shift ≤ℤ width cs i
-      over cs = square-least σ rows (c .degree) depth cs (s .least) (s .most) (gapsSum gs 0 cs) i hi
+      over cs = square-least σ rows (c .degree) depth cs (s .least) (s .most) takes (gapsSum gs 0 cs) i hi
           (under-sum cs gs (gapsAt (rowsOf (σ .pieces) (c .degree)) i) 0 t)
 
   -- where the corners are break points: the one where x is the wider
@@ -161,7 +185,7 @@ module _ (σ : Setting) (rows : HasRows (σ .pieces)) (tolerance : ℤ) {depth :
 
     passed : T (leb at (σ .pieces) && cond (exactOf (σ .pieces) (c .degree)) (one && other) true)
     passed = below 4 (exactFine (σ .pieces))
-        (pieces-tested (λ m. every-below 4 (exactFine m)) exact-tested (σ .pieces) rows) (c .degree) (suc-le-suc (s .most))
+        (pieces-tested (λ m. every-below 4 (exactFine m)) exact-tested (σ .pieces) rows) (c .degree) (suc-le-suc few)
 
     inside : at ≤ σ .pieces
     inside = leb→le at (σ .pieces) (and-left (leb at (σ .pieces)) (cond (exactOf (σ .pieces) (c .degree)) (one && other) true) passed)

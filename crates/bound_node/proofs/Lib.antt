@@ -8,3 +8,4 @@ pub mod Corners
 pub mod PiecesLaws
 pub mod SpreadLaws
 pub mod ToleranceLaws
+pub mod HigherLaws

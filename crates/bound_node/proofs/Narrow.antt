@@ -9,7 +9,7 @@ use native.Mathlib.Omega.{arith}
 use lib.Dec.{T}
 use lib.IntN.{ℤ, pos, natAbs, _+ℤ_, _-ℤ_, _*ℤ_}
 use lib.Signed.{ltZ, _≤ℤ_, _<ℤ_, leZ-yes}
-use Rattle.setting.specs.Setting.{Setting, HasRows, breakPoints, lists}
+use Rattle.setting.specs.Setting.{Setting, HasRows, breakPoints, lists, mostDegree, degreePieces}
 use Rattle.integers.specs.Squares.{squared}
 use Rattle.integers.proofs.Ring.{sides}
 use Rattle.integers.proofs.Order.{NonNeg, natural, nonneg, gap, le-by, lt-le, pos-lt, times-positive, *ℤ-cancel, _+₀_, _×₀_}
@@ -108,18 +108,19 @@ flat-narrow {Z} {X} {w} {h} t hZ hX hw hh a b premise = *ℤ-cancel {k = squared
     Z₀ = nonneg (lt-le hZ)
 
 -- a node meets T where M, the largest second difference of the curve, is small enough for its depth; G is that of its degree
-pub width-meets : (σ : Setting) → HasRows (σ .pieces) → (tolerance : ℤ) (depth M : ℕ) (c : Curve) → 1 ≤ c .degree → c .degree ≤ 3
+pub width-meets : (σ : Setting) → HasRows (σ .pieces) → (tolerance : ℤ) (depth M : ℕ) (c : Curve) → 1 ≤ c .degree → c .degree ≤ mostDegree
+    → degreePieces (c .degree) (σ .pieces) ≡ true
     → ((k : ℕ) → k < c .degree - 1 → 4 ^ depth * natAbs (difference (c .x) k) ≤ 2 ^ (c .degree * depth) * M)
     → ((k : ℕ) → k < c .degree - 1 → 4 ^ depth * natAbs (difference (c .y) k) ≤ 2 ^ (c .degree * depth) * M)
     → (pos 2 *ℤ squared (pos 16 *ℤ pos (gapOf (σ .pieces) (c .degree)) *ℤ pos M +ℤ pos 20000 *ℤ pos (4 ^ depth)))
     ≤ℤ squared (pos 10000 *ℤ tolerance *ℤ pos (4 ^ depth))
     → meets σ tolerance depth c ≡ true
-width-meets σ rows tolerance depth M c least most bx by premise = narrow-meets σ tolerance depth c (record {
+width-meets σ rows tolerance depth M c least most takes bx by premise = narrow-meets σ tolerance depth c (record {
   each = λ i hi. flat-narrow tolerance (pos-lt positive) (natural (16 * G * M + 20000 * 4 ^ depth))
-      (gap (low-high σ rows (c .degree) depth (c .x) least most i hi))
-      (gap (low-high σ rows (c .degree) depth (c .y) least most i hi))
-      (width-gap σ rows (c .degree) depth (4 ^ depth) M (c .x) most bx i hi)
-      (width-gap σ rows (c .degree) depth (4 ^ depth) M (c .y) most by i hi) turned;
+      (gap (low-high σ rows (c .degree) depth (c .x) least most takes i hi))
+      (gap (low-high σ rows (c .degree) depth (c .y) least most takes i hi))
+      (width-gap σ rows (c .degree) depth (4 ^ depth) M (c .x) most takes bx i hi)
+      (width-gap σ rows (c .degree) depth (4 ^ depth) M (c .y) most takes by i hi) turned;
 })
   where
     G : ℕ

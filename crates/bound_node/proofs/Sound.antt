@@ -1,6 +1,7 @@
 -- The boxes of a node, whether it meets a tolerance or not: from the enclosure at the break points and from the width, a low is not above its
 -- high, and both are of the curve's size.
 use mathlib.Core.Path.{_≡_, refl, _∙_, ap}
+use mathlib.Core.Bool.{true}
 use mathlib.Core.List.{List, [], _∷_}
 use Prim.Native.Nat.{ℕ, zero, suc, _+_, _*_, _-_, _^_, _≤_, _<_}
 use native.Mathlib.Nat.{one-le-pow, zero-lt-suc, le-trans}
@@ -8,7 +9,7 @@ use native.Mathlib.Omega.{arith}
 use lib.Dec.{lit≤}
 use lib.IntN.{ℤ, pos, negℤ, natAbs, _-ℤ_, _*ℤ_, pow}
 use lib.Signed.{_≤ℤ_, _<ℤ_, ltZ-yes}
-use Rattle.setting.specs.Setting.{Setting, HasRows}
+use Rattle.setting.specs.Setting.{Setting, HasRows, mostDegree, degreePieces}
 use Rattle.integers.proofs.Ring.{ring, sides}
 use Rattle.integers.proofs.Order.{pow-positive, times-positive, balance, natural, gap, le-by, pos-le, pos-lt, *ℤ-cancel, ≤ℤ-trans, _+₀_, _×₀_}
 use Rattle.integers.proofs.Size.{abs-within}
@@ -111,22 +112,22 @@ module _ {m d : ℕ} {ρs : List Row} (known : Enclosable m d ρs) (some : 0 < m
           }
 
 -- ---- the rows of a setting
-pub low-high : (σ : Setting) → HasRows (σ .pieces) → (d depth : ℕ) (cs : List ℤ) → 1 ≤ d → d ≤ 3 → (i : ℕ) → i ≤ σ .pieces
-    → lowOf σ d depth cs i ≤ℤ highOf σ d depth cs i
-low-high σ rows d depth cs least most =
-    order (enclosable (σ .pieces) d rows least most) (rows .least) (2 ^ (d * depth)) (one-le-pow (d * depth) 2 (zero-lt-suc 1)) cs
+pub low-high : (σ : Setting) → HasRows (σ .pieces) → (d depth : ℕ) (cs : List ℤ) → 1 ≤ d → d ≤ mostDegree
+    → degreePieces d (σ .pieces) ≡ true → (i : ℕ) → i ≤ σ .pieces → lowOf σ d depth cs i ≤ℤ highOf σ d depth cs i
+low-high σ rows d depth cs least most takes =
+    order (enclosable (σ .pieces) d rows least most takes) (rows .least) (2 ^ (d * depth)) (one-le-pow (d * depth) 2 (zero-lt-suc 1)) cs
 
 -- ---- control values are within 2^20 of a unit, so second differences are within 2^22, and a width within 2^26 sixteenths
-module _ (σ : Setting) (rows : HasRows (σ .pieces)) (d depth : ℕ) (cs : List ℤ) (least : 1 ≤ d) (most : d ≤ 3)
-    (each : Each (2 ^ 20 * 2 ^ (d * depth)) cs) where
+module _ (σ : Setting) (rows : HasRows (σ .pieces)) (d depth : ℕ) (cs : List ℤ) (least : 1 ≤ d) (most : d ≤ mostDegree)
+    (takes : degreePieces d (σ .pieces) ≡ true) (each : Each (2 ^ 20 * 2 ^ (d * depth)) cs) where
   pub width-under : (i : ℕ) → i ≤ σ .pieces → (highOf σ d depth cs i -ℤ lowOf σ d depth cs i) ≤ℤ pos (2 ^ 26)
   width-under i hi = *ℤ-cancel {k = pos 10000} (ltZ-yes tt) (le-by (pos (gapOf (σ .pieces) d) ∷ highOf σ d depth cs i ∷ lowOf σ d depth cs i ∷ [])
-      (gap (width-gap σ rows d depth 1 (2 ^ 22) cs most (λ k h. omega (arith, difference-under each k)) i hi)
-      +₀ natural 67108864 ×₀ gap (pos-le (gap-most (σ .pieces) d rows most)) +₀ natural 167772140000)
+      (gap (width-gap σ rows d depth 1 (2 ^ 22) cs most takes (λ k h. omega (arith, difference-under each k)) i hi)
+      +₀ natural 67108864 ×₀ gap (pos-le (gap-most (σ .pieces) d rows most takes)) +₀ natural 167772140000)
       (search sides depth 20) refl)
 
   pub bounds-sound : (i : ℕ) → i ≤ σ .pieces → Sound (2 ^ 28) (lowOf σ d depth cs i) (highOf σ d depth cs i)
-  bounds-sound i hi = wider (sound (enclosable (σ .pieces) d rows least most) (rows .least)
+  bounds-sound i hi = wider (sound (enclosable (σ .pieces) d rows least most takes) (rows .least)
       (2 ^ (d * depth)) (one-le-pow (d * depth) 2 (zero-lt-suc 1)) cs i hi (2 ^ 20) (2 ^ 26) each (width-under i hi))
     where
       wider : {l h : ℤ} → Sound (2 ^ 24 + 2 ^ 26) l h → Sound (2 ^ 28) l h
@@ -137,10 +138,10 @@ pub record SoundBox (B : ℕ) (b : WideBox) : Type 0 where
   pub x : Sound B (b .«x_low») (b .«x_high»)
   pub y : Sound B (b .«y_low») (b .«y_high»)
 
-pub node-box : (σ : Setting) → HasRows (σ .pieces) → (depth : ℕ) (c : Curve) → Sized depth c → (i : ℕ) → i ≤ σ .pieces
-    → SoundBox (2 ^ 28) (boxAt σ depth c i)
+pub node-box : (σ : Setting) → HasRows (σ .pieces) → (depth : ℕ) (c : Curve) → Sized depth c → degreePieces (c .degree) (σ .pieces) ≡ true
+    → (i : ℕ) → i ≤ σ .pieces → SoundBox (2 ^ 28) (boxAt σ depth c i)
 unfolding boxAt
-node-box σ rows depth c s i hi = record {
-  x = bounds-sound σ rows (c .degree) depth (c .x) (s .least) (s .most) (s .x) i hi;
-  y = bounds-sound σ rows (c .degree) depth (c .y) (s .least) (s .most) (s .y) i hi;
+node-box σ rows depth c s takes i hi = record {
+  x = bounds-sound σ rows (c .degree) depth (c .x) (s .least) (s .most) takes (s .x) i hi;
+  y = bounds-sound σ rows (c .degree) depth (c .y) (s .least) (s .most) takes (s .y) i hi;
 }

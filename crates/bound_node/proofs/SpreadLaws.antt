@@ -1,5 +1,5 @@
 -- What the code of the spread computes: sums by the degree, and a sum rounded up.
-use mathlib.Core.Path.{_≡_, _∙_, ap}
+use mathlib.Core.Path.{_≡_, refl, _∙_, ap}
 use mathlib.Core.List.{List, [], _∷_}
 use Prim.Native.Nat.{ℕ, suc, _+_, _-_, _*_, _/_, _%_, _^_, _≤_, _<_, zero-le}
 use native.Mathlib.Nat.{add-zero, mul-comm, mul-le-mul, le-refl, le-trans, lt-of-le-of-lt, div-div-eq-div-mul, mod-eq-of-lt}
@@ -22,14 +22,16 @@ use Rattle.bound_rows.proofs.Degrees.{degrees}
 use Rattle.bound_rows.specs.Table.{table, rowsOf}
 use Rattle.bound_coordinate.specs.Inside.{Small, Computed}
 use Rattle.bound_coordinate.proofs.Coordinates.{stored-is}
-use Rattle.setting.specs.Setting.{HasRows}
+use Rattle.setting.specs.Setting.{HasRows, mostDegree}
 use Rattle.bound_rows.specs.Rule.{gapOf}
 use Rattle.bound_rows.proofs.Rule.{gap-most}
 use Rattle.bound_node.specs.declared.pieces.Pieces.{Pieces}
 use Rattle.bound_node.specs.Inside.{gapsSum, spreadOf, nearGap, farGap, cornerOf, sumsOf, exactOf}
-use Rattle.bound_node.specs.Inside.{piecesBy, piecesOf}
+use Rattle.bound_node.specs.Inside.{higherGap, piecesBy, piecesOf}
 use Rattle.bound_node.proofs.Apart.{up-most}
 use Rattle.bound_node.proofs.Corners.{pieces-tested}
+use Rattle.bound_node.proofs.Boxes.{many-takes}
+use Rattle.bound_node.proofs.PiecesLaws.{many-gap}
 
 pub same-size : {B r : ℕ} {z : ℤ} → r ≡ natAbs z → Small B z → (r ≡ natAbs z) × (r ≤ B)
 same-size e h = (e, rw e (h .size))
@@ -79,7 +81,7 @@ module _ (m : ℕ) (h : HasRows m) where
 
   far-most : farGap m ≤ 7500
   unfolding farGap
-  far-most = omega (arith, gap-most m 3 h (lit≤ tt))
+  far-most = omega (arith, gap-most m 3 h (lit≤ tt) refl)
 
 module _ {p : Pieces} (h : HasRows (p .m)) (e : p ≡ piecesOf (p .m)) where
   pub single-is : p .single ≡ gapOf (p .m) 2
@@ -98,8 +100,22 @@ module _ {p : Pieces} (h : HasRows (p .m)) (e : p ≡ piecesOf (p .m)) where
   unfolding piecesOf piecesBy farGap exactOf
   exact-is = ap (λ q. q .exact) e
 
+  pub quartic-is : p .quartic ≡ higherGap (p .m) 4
+  unfolding piecesOf piecesBy
+  quartic-is = ap (λ q. q .quartic) e
+
+  pub quintic-is : p .quintic ≡ higherGap (p .m) 5
+  unfolding piecesOf piecesBy
+  quintic-is = ap (λ q. q .quintic) e
+
+  -- G of degrees 4 and 5, where so many pieces have it
+  pub higher-gap : {d g : ℕ} → 3 ≤ p .m → d ≤ mostDegree → g ≡ higherGap (p .m) d → (g ≡ gapOf (p .m) d) × (g ≤ 7500)
+  higher-gap {d} l hd eg =
+      let is = eg ∙ many-gap (p .m) d l in
+      (is, rw is (gap-most (p .m) d h hd (many-takes d (p .m) l)))
+
   pub single-under : p .single ≤ 7500
-  single-under = rw single-is (gap-most (p .m) 2 h (lit≤ tt))
+  single-under = rw single-is (gap-most (p .m) 2 h (lit≤ tt) refl)
 
   pub near-under : p .near ≤ 7500
   near-under = rw near-is (near-most (p .m) h)
@@ -135,9 +151,9 @@ module _ (m : ℕ) (h : HasRows m) (W : ℕ) (cs : List ℤ) (each : (k : ℕ) �
   sum-under : {a b : ℕ} → a ≤ 7500 → b ≤ 7500 → (d : ℕ) → 1 ≤ d → d ≤ 3 → gapsSum (cornerOf m a b d) 0 cs ≤ 15000 * W
   unfolding gapsSum cornerOf
   sum-under {a} {b} ha hb = degrees (λ d. gapsSum (cornerOf m a b d) 0 cs ≤ 15000 * W) zero-le
-      (omega (arith, mul-le-mul (gap-most m 2 h (lit≤ tt)) (each 0))) (omega (arith, mul-le-mul ha (each 0), mul-le-mul hb (each 1)))
+      (omega (arith, mul-le-mul (gap-most m 2 h (lit≤ tt) refl) (each 0))) (omega (arith, mul-le-mul ha (each 0), mul-le-mul hb (each 1)))
 
-module _ {m depth : ℕ} {c : Curve} (h : HasRows m) (s : Sized depth c) where
+module _ {m depth : ℕ} {c : Curve} (h : HasRows m) (s : Sized depth c) (few : c .degree ≤ 3) where
   abbrev B : ℕ
   B = 2 ^ 36 * 2 ^ (c .degree * depth)
 
@@ -148,7 +164,7 @@ module _ {m depth : ℕ} {c : Curve} (h : HasRows m) (s : Sized depth c) where
       one : {a b : ℕ} → a ≤ 7500 → b ≤ 7500 → gapsSum (cornerOf m a b (c .degree)) 0 cs ≤ B
       one ha hb = omega (
         arith,
-        sum-under m h (4 * (2 ^ 20 * 2 ^ (c .degree * depth))) cs (difference-under each) ha hb (c .degree) (s .least) (s .most),
+        sum-under m h (4 * (2 ^ 20 * 2 ^ (c .degree * depth))) cs (difference-under each) ha hb (c .degree) (s .least) few,
       )
 
   pub sums-under : {xs ys : List ℕ} → xs ≡ sumsOf m (c .degree) (c .x) → ys ≡ sumsOf m (c .degree) (c .y)

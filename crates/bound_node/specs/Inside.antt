@@ -15,6 +15,8 @@ use Rattle.bound_rows.specs.Rule.{gapOf}
 use Rattle.bound_rows.specs.Inside.{Copied}
 use Rattle.bound_coordinate.specs.declared.terms.Terms.{Terms}
 use Rattle.bound_coordinate.specs.Terms.{lowBy, highBy}
+use Rattle.bound_coordinate.specs.declared.higher.Higher.{Higher}
+use Rattle.bound_coordinate.specs.Higher.{higherLow, higherHigh}
 use Rattle.bound_node.specs.declared.pieces.Pieces.{Pieces}
 use Rattle.bound_node.specs.declared.node_boxes.WideBox.{WideBox}
 
@@ -82,20 +84,27 @@ sumsOf m d cs = gapsSum (nearCorner m d) 0 cs ∷ gapsSum (farCorner m d) 0 cs �
 unfoldable pub exactOf : (m d : ℕ) → Bool
 exactOf m d = cond (ltb d 3) true (eqb (gapAt m 3 1 (widestAt m)) (farGap m))
 
+-- G of degree 4 or 5; 0 for fewer pieces than they take
+unfoldable pub higherGap : (m d : ℕ) → ℕ
+higherGap m d = cond (ltb m 3) 0 (gapOf m d)
+
 -- what goes with the number of pieces: near and other are the gaps of degree 3 at the break point where the first is
 -- the largest, both is G
-unfoldable pub piecesBy : (m single near other both : ℕ) → Pieces
-piecesBy m single near other both = record {
+unfoldable pub piecesBy : (m single near other both quartic quintic : ℕ) → Pieces
+piecesBy m single near other both quartic quintic = record {
   «m» = m;
   «scale» = 840 / m;
   «single» = single;
   «near» = near;
   «far» = both - near;
   «exact» = eqb other (both - near);
+  «quartic» = quartic;
+  «quintic» = quintic;
 }
 
 unfoldable pub piecesOf : ℕ → Pieces
-piecesOf m = piecesBy m (gapOf m 2) (nearGap m) (gapAt m 3 1 (widestAt m)) (gapOf m 3)
+piecesOf m =
+    piecesBy m (gapOf m 2) (nearGap m) (gapAt m 3 1 (widestAt m)) (gapOf m 3) (higherGap m 4) (higherGap m 5)
 
 -- what goes with m pieces, and their rows, copied out of the table
 pub record Ready (p : Pieces) (rows : List ℤ) : Type 0 where
@@ -107,3 +116,8 @@ pub record Ready (p : Pieces) (rows : List ℤ) : Type 0 where
 abbrev pub acrossBy : (m s : ℕ) → List ℤ → (x y : Terms) → ℕ → ℤ
 acrossBy m s rows x y i =
     squared (highBy m s rows x i -ℤ lowBy m s rows x i) +ℤ squared (highBy m s rows y i -ℤ lowBy m s rows y i)
+
+abbrev pub higherAcrossBy : (m s : ℕ) → List ℤ → (x y : Higher) → ℕ → ℤ
+higherAcrossBy m s rows x y i =
+    squared (higherHigh m s rows x i -ℤ higherLow m s rows x i)
+    +ℤ squared (higherHigh m s rows y i -ℤ higherLow m s rows y i)

@@ -1,12 +1,13 @@
 // What the test of a node takes from the number of pieces alone.
 ghost use mathlib.Core.Path.{_≡_};
+ghost use mathlib.Core.Bool.{true};
 ghost use Prim.Native.Nat.{_≤_, _<_, _-_, _+_, _*_, max};
-ghost use Rattle.setting.specs.Setting.{HasRows};
+ghost use Rattle.setting.specs.Setting.{HasRows, degreePieces};
 ghost use Rattle.bound_rows.specs.Inside.{placeOf, Copied};
-ghost use Rattle.bound_node.specs.Inside.{gapAt, piecesBy, piecesOf};
+ghost use Rattle.bound_node.specs.Inside.{gapAt, higherGap, piecesBy, piecesOf};
 
-// The number of pieces, 840 over it, the largest gap of degree 2, the corner of degree 3, and whether its gaps are
-// those of a break point.
+// The number of pieces, 840 over it, the largest gap of degree 2, the corner of degree 3, whether its gaps are those of
+// a break point, and G of degrees 4 and 5.
 pub struct Pieces {
     pub m: usize,
     pub scale: usize,
@@ -14,23 +15,33 @@ pub struct Pieces {
     pub near: u64,
     pub far: u64,
     pub exact: bool,
+    pub quartic: u64,
+    pub quintic: u64,
 }
 
 // Where the rows of second difference k of a degree begin among the copied rows.
 fn start_of(degree: u32, k: usize) -> usize
-    requires { ⌜ (k < degree - 1) × (degree ≤ 3) ⌝ }
-    ensures { λ r. ⌜ (r ≡ placeOf degree k) × (r ≤ 54) ⌝ }
+    requires { ⌜ (k < degree - 1) × (degree ≤ 5) ⌝ }
+    ensures { λ r. ⌜ (r ≡ placeOf degree k) × (r ≤ 270) ⌝ }
 {
     if degree < 3 {
         return 54;
     }
-    27 * k
+    if degree < 4 {
+        return 27 * k;
+    }
+    if degree < 5 {
+        108 + 27 * k
+    } else {
+        189 + 27 * k
+    }
 }
 
 // The gap of the rows of second difference k of a degree at break point i; the copied rows are m times the rows.
 fn gap_at(rows: &[i64], m: usize, degree: u32, k: usize, i: usize) -> u64
-    requires { ⌜ (HasRows m) × (Copied m (now rows)) × (k < degree - 1) × (degree ≤ 3) × (i ≤ m) ⌝ }
-    ensures { λ r. ⌜ (r ≡ gapAt m degree k i) × (r ≤ 10000) ⌝ }
+    requires { ⌜ (HasRows m) × (Copied m (now rows)) × (k < degree - 1) × (degree ≤ 5) × (i ≤ m)
+        × (degreePieces degree m ≡ true) ⌝ }
+    ensures { λ r. ⌜ (r ≡ gapAt m degree k i) × (r ≤ 18000) ⌝ }
 {
     let start = start_of(degree, k);
     let high = rows[start + 3 * i];
@@ -45,10 +56,36 @@ pub fn larger(a: u64, b: u64) -> u64
     if a < b { b } else { a }
 }
 
-// The whole, from the gaps at the break point where the first is the largest, and the largest sum.
-fn pieces_by(m: usize, single: u64, near: u64, other: u64, both: u64) -> Pieces
+// G of degree 4 or 5, which stands at break point 1; 0 for fewer pieces than they take.
+fn gap_of(rows: &[i64], m: usize, degree: u32) -> u64
+    requires { ⌜ (HasRows m) × (Copied m (now rows)) × (4 ≤ degree) × (degree ≤ 5) ⌝ }
+    ensures { λ r. ⌜ r ≡ higherGap m degree ⌝ }
+{
+    if m < 3 {
+        return 0;
+    }
+    let three = gap_at(rows, m, degree, 0, 1)
+        + gap_at(rows, m, degree, 1, 1)
+        + gap_at(rows, m, degree, 2, 1);
+    if degree < 5 {
+        return three;
+    }
+    three + gap_at(rows, m, degree, 3, 1)
+}
+
+// The whole, from the gaps at the break point where the first is the largest, the largest sum, and G of degrees 4 and
+// 5.
+fn pieces_by(
+    m: usize,
+    single: u64,
+    near: u64,
+    other: u64,
+    both: u64,
+    quartic: u64,
+    quintic: u64,
+) -> Pieces
     requires { ⌜ (1 ≤ m) × (near ≤ both) ⌝ }
-    ensures { λ r. ⌜ r ≡ piecesBy m single near other both ⌝ }
+    ensures { λ r. ⌜ r ≡ piecesBy m single near other both quartic quintic ⌝ }
 {
     let far = both - near;
     Pieces {
@@ -58,6 +95,8 @@ fn pieces_by(m: usize, single: u64, near: u64, other: u64, both: u64) -> Pieces
         near,
         far,
         exact: other == far,
+        quartic,
+        quintic,
     }
 }
 
@@ -71,10 +110,12 @@ pub fn pieces_of(rows: &[i64], m: usize) -> Pieces
     let b0 = gap_at(rows, m, 3, 1, 0);
     let b1 = gap_at(rows, m, 3, 1, 1);
     let single = gap_at(rows, m, 2, 0, 1);
+    let quartic = gap_of(rows, m, 4);
+    let quintic = gap_of(rows, m, 5);
     let both = larger(a0 + b0, a1 + b1);
     if a0 < a1 {
-        pieces_by(m, single, a1, b1, both)
+        pieces_by(m, single, a1, b1, both, quartic, quintic)
     } else {
-        pieces_by(m, single, a0, b0, both)
+        pieces_by(m, single, a0, b0, both, quartic, quintic)
     }
 }

@@ -9,7 +9,7 @@ use crate::pieces::Pieces;
 use bound_coordinate::terms::difference_at;
 
 // The size of a second difference.
-fn size(difference: i64) -> u64
+pub fn size(difference: i64) -> u64
     requires { ⌜ Small (2 ^ 46) difference ⌝ }
     ensures { λ r. ⌜ (r ≡ natAbs difference) × (r ≤ 2 ^ 46) ⌝ }
 {
@@ -30,7 +30,7 @@ pub fn whole(sum: u64, more: u64, shift: u32) -> i64
 
 // The sums of one coordinate at the two corners: gaps times the sizes of its second differences. At degree 2 they are
 // the same.
-pub fn sums(pieces: Pieces, c: [i64; 4], degree: u32) -> [u64; 2]
+pub fn sums(pieces: Pieces, c: [i64; 6], degree: u32) -> [u64; 2]
     requires { ⌜ (HasRows (pieces .m)) × (pieces ≡ piecesOf (pieces .m)) × (Boundable c degree) ⌝ }
     ensures { λ r. ⌜ r ≡ sumsOf (pieces .m) degree c ⌝ }
 {

@@ -1,4 +1,4 @@
-// The test that a node meets the tolerance.
+// The test that a node of degree 1 to 3 meets the tolerance.
 ghost use mathlib.Core.Path.{_≡_};
 ghost use Prim.Native.Nat.{_≤_, _^_};
 ghost use lib.IntN.{_+ℤ_};
@@ -19,7 +19,7 @@ use bound_coordinate::terms::terms_of;
 use curve_nodes::Curve;
 
 // The diagonal of a box is longer than the length that has this square.
-fn is_longer(width: i64, height: i64, square: i64) -> bool
+pub fn is_longer(width: i64, height: i64, square: i64) -> bool
     requires { ⌜ (Small (2 ^ 29) width) × (Small (2 ^ 29) height) ⌝ }
     ensures { λ r. ⌜ r ≡ ltZ square (squared width +ℤ squared height) ⌝ }
 {
@@ -60,7 +60,8 @@ fn is_wide(
 
 // The boxes at all break points are narrow.
 fn boxes_meet(rows: &[i64], pieces: Pieces, curve: Curve, depth: u32, t: i64) -> bool
-    requires { ⌜ (Ready pieces (now rows)) × (Sized depth curve) × (depth ≤ 8) × (Small (2 ^ 27) t) ⌝ }
+    requires { ⌜ (Ready pieces (now rows)) × (Sized depth curve) × (curve .degree ≤ 3) × (depth ≤ 8)
+        × (Small (2 ^ 27) t) ⌝ }
     ensures { λ r. ⌜ r ≡ meets (lists (pieces .m)) t depth curve ⌝ }
 {
     let m = pieces.m;
@@ -87,7 +88,7 @@ fn boxes_meet(rows: &[i64], pieces: Pieces, curve: Curve, depth: u32, t: i64) ->
 // are break points, no box there is narrower than its corner. A tolerance beyond 2^27 is longer than every diagonal,
 // and so no square wraps.
 pub fn meets(rows: &[i64], pieces: Pieces, curve: Curve, depth: u32, t: i64) -> bool
-    requires { ⌜ (Ready pieces (now rows)) × (Sized depth curve) × (depth ≤ 8) ⌝ }
+    requires { ⌜ (Ready pieces (now rows)) × (Sized depth curve) × (curve .degree ≤ 3) × (depth ≤ 8) ⌝ }
     ensures { λ r. ⌜ r ≡ meets (lists (pieces .m)) t depth curve ⌝ }
 {
     if t < -134217728 {

@@ -1,6 +1,6 @@
 -- The rule of the table, by one computed test over all of it, and what the test shows of the rows of each number of pieces and degree.
-use mathlib.Core.Path.{_≡_, refl, ap}
-use mathlib.Core.Bool.{Bool, _&&_}
+use mathlib.Core.Path.{_≡_, refl, ap, subst}
+use mathlib.Core.Bool.{Bool, true, cond, _&&_}
 use mathlib.Core.List.{List, []}
 use Prim.Native.Nat.{ℕ, zero, suc, _+_, _*_, _-_, _≤_, _<_, suc-le-suc}
 use native.Mathlib.Omega.{arith}
@@ -8,7 +8,7 @@ use lib.Dec.{T, leb, leb→le, lit≤}
 use lib.ListN.{length}
 use lib.IntN.{ℤ, pos, _-ℤ_, pow, one}
 use lib.Signed.{leZ, leZ-yes}
-use Rattle.setting.specs.Setting.{HasRows}
+use Rattle.setting.specs.Setting.{HasRows, mostDegree, degreePieces}
 use Rattle.integers.specs.Entry.{entry}
 use Rattle.integers.specs.Rounding.{floor, ceiling}
 use Rattle.integers.proofs.Order.{≤ℤ-antisymm}
@@ -39,14 +39,21 @@ entriesFine m d k ρ = every-below (suc m) (λ i. highFine m d k ρ i && lowFine
 abbrev rowsFine : (m d : ℕ) → Bool
 rowsFine m d = tested m d (rowsOf m d) && (every (entriesFine m d) 0 (rowsOf m d) && gapsWithin m (gapOf m d) (rowsOf m d))
 
--- m is one more than n
-table-tested : T (every-below 8 (λ n. every-below 4 (rowsFine (suc n))))
+-- a test over every number of pieces, m, and every degree that takes so many
+abbrev asked : (ℕ → ℕ → Bool) → (m d : ℕ) → Bool
+asked f m d = cond (degreePieces d m) (f m d) true
+
+abbrev everywhere : (ℕ → ℕ → Bool) → Bool
+everywhere f = every-below 8 (λ n. every-below 6 (asked f (suc n)))
+
+there : (f : ℕ → ℕ → Bool) → T (everywhere f) → (m d : ℕ) → HasRows m → d ≤ mostDegree → degreePieces d m ≡ true → T (f m d)
+there f t zero d h l e = absurd (omega (arith, h .least))
+there f t (suc n) d h l e = subst (λ b. T (cond b (f (suc n) d) true)) e
+    (below 6 (asked f (suc n)) (below 8 (λ n. every-below 6 (asked f (suc n))) t n (h .most)) d (suc-le-suc l))
+
+table-tested : T (everywhere rowsFine)
 unfolding table rowsOf gapOf largestOf hat value sum choose pow one floor ceiling
 table-tested = tt
-
-rows-fine : (m d : ℕ) → HasRows m → d ≤ 3 → T (rowsFine m d)
-rows-fine zero d h l = absurd (omega (arith, h .least))
-rows-fine (suc n) d h l = below 4 (rowsFine (suc n)) (below 8 (λ n. every-below 4 (rowsFine (suc n))) table-tested n (h .most)) d (suc-le-suc l)
 
 -- ---- what it shows
 rows-length : (m at n : ℕ) → length (rowsAt m at n) ≡ n
@@ -58,7 +65,10 @@ pub rows-count : (m d : ℕ) → length (rowsOf m d) ≡ d - 1
 unfolding rowsOf
 rows-count m d = rows-length m _ (d - 1)
 
-module _ (m d : ℕ) (h : HasRows m) (most : d ≤ 3) where
+module _ (m d : ℕ) (h : HasRows m) (most : d ≤ mostDegree) (takes : degreePieces d m ≡ true) where
+  fine : T (rowsFine m d)
+  fine = there rowsFine table-tested m d h most takes
+
   abbrev all-entries : Bool
   all-entries = every (entriesFine m d) 0 (rowsOf m d)
 
@@ -66,11 +76,11 @@ module _ (m d : ℕ) (h : HasRows m) (most : d ≤ 3) where
   all-gaps = gapsWithin m (gapOf m d) (rowsOf m d)
 
   others : T (all-entries && all-gaps)
-  others = and-right (tested m d (rowsOf m d)) (all-entries && all-gaps) (rows-fine m d h most)
+  others = and-right (tested m d (rowsOf m d)) (all-entries && all-gaps) fine
 
   -- joined by lines, each row bounds its polynomial (`row-below`, `row-above`)
   pub rows-tested : T (tested m d (rowsOf m d))
-  rows-tested = and-left (tested m d (rowsOf m d)) (all-entries && all-gaps) (rows-fine m d h most)
+  rows-tested = and-left (tested m d (rowsOf m d)) (all-entries && all-gaps) fine
 
   -- at each break point high less low adds up to G at most
   pub rows-apart : T (gapsWithin m (gapOf m d) (rowsOf m d))
@@ -109,14 +119,12 @@ module _ (m d : ℕ) (h : HasRows m) (most : d ≤ 3) where
     }
 
 -- ---- G is 7500 for one piece of degree 3, and nowhere more
-gaps-tested : T (every-below 8 (λ n. every-below 4 (λ d. leb (gapOf (suc n) d) 7500)))
+gaps-tested : T (everywhere (λ m d. leb (gapOf m d) 7500))
 unfolding table rowsOf gapOf largestOf
 gaps-tested = tt
 
-pub gap-most : (m d : ℕ) → HasRows m → d ≤ 3 → gapOf m d ≤ 7500
-gap-most zero d h l = absurd (omega (arith, h .least))
-gap-most (suc n) d h l = leb→le (gapOf (suc n) d) 7500 (below 4 (λ d. leb (gapOf (suc n) d) 7500)
-    (below 8 (λ n. every-below 4 (λ d. leb (gapOf (suc n) d) 7500)) gaps-tested n (h .most)) d (suc-le-suc l))
+pub gap-most : (m d : ℕ) → HasRows m → d ≤ mostDegree → degreePieces d m ≡ true → gapOf m d ≤ 7500
+gap-most m d h l e = leb→le (gapOf m d) 7500 (there (λ m d. leb (gapOf m d) 7500) gaps-tested m d h l e)
 
 -- ---- three pieces
 pub pieces-have-rows : HasRows pieces

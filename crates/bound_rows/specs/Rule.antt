@@ -1,4 +1,4 @@
--- The rule of the table of rows, and G (request 05).
+-- The rule of the table of rows, and G (request 05, for degrees 4 and 5 request 08).
 use mathlib.Core.Path.{_≡_}
 use mathlib.Core.List.{List, [], _∷_}
 use Prim.Native.Nat.{ℕ, suc, _+_, _*_, _-_, _≤_, _<_}

@@ -20,6 +20,9 @@ listed-under B zero f h k = zero-le
 listed-under B (suc n) f h zero = h 0 (omega arith)
 listed-under B (suc n) f h (suc k) = listed-under B n (λ i. f (suc i)) (λ i l. h (suc i) (omega arith)) k
 
+pub each-wider : {B C : ℕ} {cs : List ℤ} → B ≤ C → Each B cs → Each C cs
+each-wider l h = record { under = λ k. le-trans (h .under k) l }
+
 pub each-padded : {B : ℕ} {cs : List ℤ} → Each B cs → Each B (padded cs)
 each-padded {B} {cs} h = record { under = listed-under B controlValues (entry cs) (λ k l. h .under k) }
 

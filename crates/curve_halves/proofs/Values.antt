@@ -6,8 +6,9 @@ use Prim.Native.Nat.{ℕ, zero, suc, _+_, _*_, _-_, _^_, _≤_, _<_, zero-le, su
 use native.Mathlib.Nat.{le-of-suc-le-suc, not-suc-le-zero, sub-zero, suc-sub-suc, zero-mul, suc-mul, pow-zero, pow-suc}
 use native.Mathlib.Omega.{arith}
 use lib.Pow.{pow-add}
+use lib.ListN.{length}
 use lib.IntN.{ℤ, pos, natAbs, _+ℤ_, _*ℤ_, pow, one, +ℤ-comm}
-use Rattle.setting.specs.Setting.{controlValues}
+use Rattle.setting.specs.Setting.{mostDegree, controlValues}
 use Rattle.integers.specs.Entry.{entry}
 use Rattle.integers.proofs.RingLaws.{pow-natural}
 use Rattle.integers.proofs.Ring.{ring, sides}
@@ -54,27 +55,38 @@ unfolding right
 right-mirrored d cs = sym (reversed-twice d (λ k. pow (pos 2) k *ℤ triangle cs (d - k) k)) ∙ ap (reversed d) (mirror d cs)
 
 -- padding changes nothing
+-- a whole list of control values is not padded
+pub padded-whole : (cs : List ℤ) → length cs ≡ controlValues → padded cs ≡ cs
+padded-whole [] e = absurd (omega arith)
+padded-whole (a ∷ []) e = absurd (omega arith)
+padded-whole (a ∷ b ∷ []) e = absurd (omega arith)
+padded-whole (a ∷ b ∷ c ∷ []) e = absurd (omega arith)
+padded-whole (a ∷ b ∷ c ∷ d ∷ []) e = absurd (omega arith)
+padded-whole (a ∷ b ∷ c ∷ d ∷ f ∷ []) e = absurd (omega arith)
+padded-whole (a ∷ b ∷ c ∷ d ∷ f ∷ g ∷ []) e = refl
+padded-whole (a ∷ b ∷ c ∷ d ∷ f ∷ g ∷ h ∷ cs) e = absurd (omega arith)
+
 pub padded-entry : (cs : List ℤ) (k : ℕ) → k < controlValues → entry (padded cs) k ≡ entry cs k
 padded-entry cs = listed-entry controlValues (entry cs)
 
-reversed-padded : (d : ℕ) → d ≤ 3 → (cs : List ℤ) → reversed d (padded cs) ≡ reversed d cs
+reversed-padded : (d : ℕ) → d ≤ mostDegree → (cs : List ℤ) → reversed d (padded cs) ≡ reversed d cs
 reversed-padded d h cs =
     listed-ext (suc d) (λ k. entry (padded cs) (d - k)) (λ k. entry cs (d - k)) (λ k l. padded-entry cs (d - k) (omega arith))
 
-triangle-padded : (cs : List ℤ) (j i : ℕ) → i + j ≤ 3 → triangle (padded cs) j i ≡ triangle cs j i
+triangle-padded : (cs : List ℤ) (j i : ℕ) → i + j ≤ mostDegree → triangle (padded cs) j i ≡ triangle cs j i
 unfolding triangle
 triangle-padded cs zero i h = padded-entry cs i (omega arith)
 triangle-padded cs (suc j) i h = ap₂ _+ℤ_ (triangle-padded cs j i (omega arith)) (triangle-padded cs j (suc i) (omega arith))
 
-left-padded : (d : ℕ) → d ≤ 3 → (cs : List ℤ) → left d (padded cs) ≡ left d cs
+left-padded : (d : ℕ) → d ≤ mostDegree → (cs : List ℤ) → left d (padded cs) ≡ left d cs
 unfolding left
 left-padded d h cs = listed-ext (suc d) (λ k. pow (pos 2) (d - k) *ℤ triangle (padded cs) k 0) (λ k. pow (pos 2) (d - k) *ℤ triangle cs k 0)
     (λ k l. ap (λ x. pow (pos 2) (d - k) *ℤ x) (triangle-padded cs k 0 (omega arith)))
 
-pub mirror-padded : (d : ℕ) → d ≤ 3 → (cs : List ℤ) → padded (reversed d (padded (right d cs))) ≡ padded (left d (padded (reversed d cs)))
+pub mirror-padded : (d : ℕ) → d ≤ mostDegree → (cs : List ℤ) → padded (reversed d (padded (right d cs))) ≡ padded (left d (padded (reversed d cs)))
 mirror-padded d h cs = ap padded (reversed-padded d h (right d cs) ∙ mirror d cs ∙ sym (left-padded d h (reversed d cs)))
 
-pub right-padded : (d : ℕ) → d ≤ 3 → (cs : List ℤ) → padded (reversed d (padded (left d (padded (reversed d cs))))) ≡ padded (right d cs)
+pub right-padded : (d : ℕ) → d ≤ mostDegree → (cs : List ℤ) → padded (reversed d (padded (left d (padded (reversed d cs))))) ≡ padded (right d cs)
 right-padded d h cs =
     ap padded (reversed-padded d h (left d (padded (reversed d cs))) ∙ ap (reversed d) (left-padded d h (reversed d cs)) ∙ sym (right-mirrored d cs))
 
@@ -148,13 +160,13 @@ module _ (p r : ℤ) (d : ℕ) (cs : List ℤ) where
       ∙ ap₂ (λ x y. value x y d cs) (ring (p ∷ r ∷ []) (search sides depth 20) refl) (ring (p ∷ r ∷ []) (search sides depth 20) refl)
 
   -- padding changes none
-  pub value-padded : d ≤ 3 → value p r d (padded cs) ≡ value p r d cs
+  pub value-padded : d ≤ mostDegree → value p r d (padded cs) ≡ value p r d cs
   value-padded h = value-is p r d (padded cs)
       ∙ casteljau-ext p r d (entry (padded cs)) (entry cs) (λ k l. padded-entry cs k (omega arith))
       ∙ sym (value-is p r d cs)
 
 module _ (p r : ℤ) (b : ℕ) (hb : b < 2) where
-  pub half-padded-value : (d : ℕ) → d ≤ 3 → (cs : List ℤ)
+  pub half-padded-value : (d : ℕ) → d ≤ mostDegree → (cs : List ℤ)
       → value p r d (padded (half b d cs)) ≡ value (pos b *ℤ (p +ℤ r) +ℤ p) (pos (1 - b) *ℤ (p +ℤ r) +ℤ r) d cs
   half-padded-value d h cs = value-padded p r d (half b d cs) h ∙ half-value p r d cs b hb
 

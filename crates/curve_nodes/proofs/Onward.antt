@@ -8,6 +8,7 @@ use native.Mathlib.Nat.{le-of-suc-le-suc, pow-suc, pow-succ', mul-assoc, mul-suc
 use native.Mathlib.Omega.{arith}
 use lib.Count.{trailingZeros}
 use lib.IntN.{ℤ, pos, _*ℤ_, pow}
+use Rattle.setting.specs.Setting.{mostDegree, controlValues}
 use Rattle.integers.specs.Entry.{entry}
 use Rattle.curve_halves.specs.Halves.{triangle, right, padded}
 use Rattle.curve_halves.proofs.Values.{listed-entry, listed-ext}
@@ -81,21 +82,22 @@ few-zeros {k} {n} {m} hn l x =
     omega (arith, power-order n (suc k) 8 h l)
 
 -- ---- the curve
-module _ (d : ℕ) (h : d ≤ 3) (cs : List ℤ) where
+module _ (d : ℕ) (h : d ≤ mostDegree) (cs : List ℤ) where
   values-onward : {k n m : ℕ} → 0 < n → NextStretch k n m → padded (onward d k (nodeValues d cs n)) ≡ nodeValues d cs m
   unfolding onward right
   values-onward {k} {n} {m} hn x =
       let vs = nodeValues d cs (x .above) in
       let e : nodeValues d cs m ≡ padded (right d vs) = ap (nodeValues d cs) (x .is) ∙ values-half d cs (x .above) 1 (x .some) (omega arith) in
-      ap padded (listed-ext (suc d) (onwardAt d k (nodeValues d cs n)) (λ j. pow (pos 2) j *ℤ triangle vs (d - j) j) (λ i l.
-      onward-is k (x .follows) d (entry cs) (nodeValues d cs n) (node-span d h cs n hn) i (le-of-suc-le-suc l)
+      ap padded (listed-ext (suc d) (onwardAt d k (entry (nodeValues d cs n))) (λ j. pow (pos 2) j *ℤ triangle vs (d - j) j) (λ i l.
+      onward-is k (x .follows) d (entry cs) (entry (nodeValues d cs n)) (node-span d h cs n hn) i (le-of-suc-le-suc l)
       ∙ sym (node-span d h cs m (omega (arith, x .is)) i (le-of-suc-le-suc l))
       ∙ ap (λ ns. entry ns i) e
-      ∙ listed-entry 4 (entry (right d vs)) i (omega arith)
+      ∙ listed-entry controlValues (entry (right d vs)) i (omega arith)
       ∙ listed-entry (suc d) (λ j. pow (pos 2) j *ℤ triangle vs (d - j) j) i l))
       ∙ sym e
 
-pub node-onward : (root : Curve) → root .degree ≤ 3 → {k n m : ℕ} → 0 < n → NextStretch k n m → onwardOf k (nodeCurve root n) ≡ nodeCurve root m
+pub node-onward : (root : Curve) → root .degree ≤ mostDegree → {k n m : ℕ} → 0 < n → NextStretch k n m
+    → onwardOf k (nodeCurve root n) ≡ nodeCurve root m
 unfolding onwardOf
 node-onward root h {k} {n} {m} hn x =
     ap (onwardOf k) (node-curve root n hn)

@@ -4,6 +4,7 @@ use mathlib.Core.Path.{_≡_, refl, sym, _∙_, ap, ap₂}
 use mathlib.Core.List.{List, [], _∷_}
 use Prim.Native.Nat.{ℕ, suc, _+_, _*_, _^_, _≤_, _<_}
 use lib.IntN.{ℤ, pos, _+ℤ_, _-ℤ_, _*ℤ_, pow}
+use Rattle.setting.specs.Setting.{mostDegree}
 use Rattle.integers.proofs.Ring.{ring, sides}
 use Rattle.curve_bernstein.specs.Value.{value}
 use Rattle.curve_bernstein.proofs.Stretch.{part-list-value}
@@ -14,7 +15,7 @@ use Rattle.curve_nodes.proofs.Coordinates.{nodeValues, node-curve}
 use Rattle.curve_nodes.proofs.Spans.{remaining, whole-width, node-span}
 
 -- ---- up
-pub values-up : (d : ℕ) → d ≤ 3 → (cs : List ℤ) (n : ℕ) → 0 < n → (p r : ℤ)
+pub values-up : (d : ℕ) → d ≤ mostDegree → (cs : List ℤ) (n : ℕ) → 0 < n → (p r : ℤ)
     → value (pos (start n) *ℤ (p +ℤ r) +ℤ p) (pos (remaining n) *ℤ (p +ℤ r) +ℤ r) d cs ≡ value p r d (nodeValues d cs n)
 values-up d h cs n hn p r =
     let s = start n in
@@ -36,7 +37,7 @@ rAt n P R = pos (suc (start n)) *ℤ (P +ℤ R) -ℤ pos (2 ^ depth n) *ℤ P
 pub same-sum : (n : ℕ) (P R : ℤ) → pAt n P R +ℤ rAt n P R ≡ P +ℤ R
 same-sum n P R = ring (pos (2 ^ depth n) ∷ pos (start n) ∷ P ∷ R ∷ []) (search sides depth 20) refl
 
-pub values-down : (d : ℕ) → d ≤ 3 → (cs : List ℤ) (n : ℕ) → 0 < n → (P R : ℤ)
+pub values-down : (d : ℕ) → d ≤ mostDegree → (cs : List ℤ) (n : ℕ) → 0 < n → (P R : ℤ)
     → value (pAt n P R) (rAt n P R) d (nodeValues d cs n) ≡ pow (pos (2 ^ depth n)) d *ℤ value P R d cs
 values-down d h cs n hn P R =
     let w = 2 ^ depth n in
@@ -53,7 +54,7 @@ values-down d h cs n hn P R =
         ∙ ap (λ (v : ℕ). pos v *ℤ R) e
 
 -- ---- the same for the curve of a node, in x and in y
-module _ (c : Curve) (h : c .degree ≤ 3) (n : ℕ) (hn : 0 < n) where
+module _ (c : Curve) (h : c .degree ≤ mostDegree) (n : ℕ) (hn : 0 < n) where
   module _ (p r : ℤ) where
     pub node-value-x : value (pos (start n) *ℤ (p +ℤ r) +ℤ p) (pos (remaining n) *ℤ (p +ℤ r) +ℤ r) (c .degree) (c .x)
         ≡ value p r (c .degree) (nodeCurve c n .x)

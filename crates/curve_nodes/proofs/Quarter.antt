@@ -10,6 +10,7 @@ use native.Mathlib.Nat.{mul-assoc, mul-comm, mul-left-comm, mul-zero, mul-suc, p
 use lib.Pow.{pow-add}
 use native.Mathlib.Omega.{arith}
 use lib.IntN.{ℤ, pos, natAbs, _+ℤ_, _-ℤ_, _*ℤ_}
+use Rattle.setting.specs.Setting.{mostDegree}
 use Rattle.integers.specs.Entry.{entry}
 use Rattle.integers.proofs.Ring.{ring, sides}
 use Rattle.integers.proofs.Order.{lt-or-ge}
@@ -99,7 +100,7 @@ half-bend b hb (suc (suc n)) l cs =
         (bend (suc (suc n)) cs) n (difference cs) (λ j m. bend-at (suc (suc n)) cs j (omega arith)) k (omega arith))
 
 -- padding changes none
-padded-bend : (d : ℕ) → d ≤ 3 → (cs : List ℤ) → bend d (padded cs) ≤ bend d cs
+padded-bend : (d : ℕ) → d ≤ mostDegree → (cs : List ℤ) → bend d (padded cs) ≤ bend d cs
 padded-bend d h cs = bend-least d (padded cs) (λ k l. rw (difference-at (padded cs) (entry cs) k
     (padded-entry cs k (omega arith)) (padded-entry cs (suc k) (omega arith)) (padded-entry cs (suc (suc k)) (omega arith))) (bend-at d cs k l))
 
@@ -110,7 +111,7 @@ max-times k m a b A B f g = ⊎-elim
     (λ l. subst (λ z. k * z ≤ m * max A B) {x = a} {y = max a b} (omega arith) (le-trans f (mul-le-mul-left m (le-max-left A B))))
     (lt-or-ge a b)
 
-pub half-largest : (b : ℕ) → b < 2 → (c : Curve) → 1 ≤ c .degree → c .degree ≤ 3 → 4 * largest (halfOf b c) ≤ 2 ^ c .degree * largest c
+pub half-largest : (b : ℕ) → b < 2 → (c : Curve) → 1 ≤ c .degree → c .degree ≤ mostDegree → 4 * largest (halfOf b c) ≤ 2 ^ c .degree * largest c
 unfolding largest
 half-largest b hb c l h = rw (curve-half b c)
     (max-times 4 (2 ^ d) (bend d (halved (c .x))) (bend d (halved (c .y))) (bend d (c .x)) (bend d (c .y)) (coordinate (c .x)) (coordinate (c .y)))
@@ -129,7 +130,7 @@ deeper : (a a' w w' L' L M : ℕ) → a' * L' ≤ w' * L → a * L ≤ w * M →
 deeper a a' w w' L' L M f g =
     rw (mul-assoc a a' L', mul-comm w w', mul-assoc w' w M) (le-trans (mul-le-mul-left a f) (rw (mul-left-comm a w' L) (mul-le-mul-left w' g)))
 
-module _ (c : Curve) (l : 1 ≤ c .degree) (h : c .degree ≤ 3) where
+module _ (c : Curve) (l : 1 ≤ c .degree) (h : c .degree ≤ mostDegree) where
   next-largest : (n b : ℕ) → 0 < n → b < 2 → 4 * largest (nodeCurve c (2 * n + b)) ≤ 2 ^ c .degree * largest (nodeCurve c n)
   next-largest n b hn hb = rw (node-half c n b hn hb)
       (subst (λ d. 4 * largest (halfOf b (nodeCurve c n)) ≤ 2 ^ d * largest (nodeCurve c n)) (node-degree c n hn)

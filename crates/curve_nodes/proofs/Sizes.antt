@@ -1,4 +1,5 @@
--- How large control values get: a halving makes them at most 2^d times as large, so at depth 8 they are within 2^44 where the root's are within 2^20.
+-- How large control values get: a halving makes them at most 2^d times as large, so at the
+-- greatest depth of its degree they are within 2^44 where the root's are within 2^20.
 use mathlib.Core.Path.{_≡_, _∙_, ap}
 use mathlib.Core.List.{List}
 use Prim.Native.Nat.{ℕ, zero, suc, _*_, _^_, _≤_, _<_}
@@ -6,6 +7,8 @@ use native.Mathlib.Nat.{le-refl, le-trans, le-of-eq, mul-le-mul, mul-comm, mul-l
 use native.Mathlib.Omega.{arith}
 use lib.Pow.{pow-add, pow-mono}
 use lib.IntN.{ℤ, pos, negℤ, natAbs, _-ℤ_, _*ℤ_}
+use Rattle.setting.specs.Setting.{deepest}
+use Rattle.setting.proofs.Depths.{degree-depth}
 use Rattle.integers.specs.Entry.{entry}
 use Rattle.integers.proofs.Size.{abs-neg, abs-add, abs-mul}
 use Rattle.curve_nodes.specs.declared.Curve.{Curve}
@@ -13,15 +16,13 @@ use Rattle.curve_halves.specs.Halves.{left, right, padded}
 use Rattle.curve_nodes.specs.Halves.{leftHalf, rightHalf}
 use Rattle.curve_nodes.specs.Nodes.{depth, halfOf, nodeCurve}
 use Rattle.curve_halves.specs.Sizes.{Each}
-use Rattle.curve_halves.proofs.Sizes.{each-padded, each-left, each-right}
+use Rattle.curve_halves.proofs.Sizes.{each-wider, each-padded, each-left, each-right}
 use Rattle.curve_nodes.specs.Inside.{Halvable}
 use Rattle.curve_nodes.specs.Bounds.{Sized}
 use Rattle.curve_nodes.specs.Differences.{difference}
 use Rattle.curve_nodes.proofs.Nodes.{node-induction}
 use Rattle.curve_nodes.proofs.Numbers.{depth-one, depth-half, depth-under, node-one, node-half}
-
-pub each-wider : {B C : ℕ} {cs : List ℤ} → B ≤ C → Each B cs → Each C cs
-each-wider l h = record { under = λ k. le-trans (h .under k) l }
+use Rattle.curve_nodes.proofs.Coordinates.{node-degree}
 
 -- a second difference is at most four times as large
 pub difference-under : {B : ℕ} {cs : List ℤ} → Each B cs → (k : ℕ) → natAbs (difference cs k) ≤ 4 * B
@@ -62,16 +63,17 @@ unfolding leftHalf rightHalf
 half-sized zero h = halved left (λ B cs. each-left) h
 half-sized (suc b) h = halved right (λ B cs. each-right) h
 
-pub sized-halvable : {k : ℕ} {c : Curve} → k ≤ 8 → Sized k c → Halvable c
+pub sized-halvable : {k : ℕ} {c : Curve} → k ≤ deepest (c .degree) → Sized k c → Halvable c
 sized-halvable {k} {c} l h = record { least = h .least; most = h .most; x = each-wider small (h .x); y = each-wider small (h .y) }
   where
     small : room (c .degree) k ≤ 2 ^ 44
-    small = mul-le-mul (le-refl (2 ^ 20)) (pow-mono {j = 24} (mul-le-mul (h .most) l))
+    small = mul-le-mul (le-refl (2 ^ 20)) (pow-mono {j = 24} (degree-depth (c .degree) k (h .most) l))
 
 module _ {root : Curve} (h : Sized 0 root) where
   pub node-sized : (n : ℕ) → 0 < n → Sized (depth n) (nodeCurve root n)
   node-sized = node-induction (λ n. Sized (depth n) (nodeCurve root n)) (rw (depth-one, node-one root) h)
       (λ n b hn hb s. rw (depth-half n b hn hb, node-half root n b hn hb) (half-sized b s))
 
-  pub node-halvable : (n : ℕ) → 0 < n → n < 512 → Halvable (nodeCurve root n)
-  node-halvable n hn l = sized-halvable (depth-under n 8 hn l) (node-sized n hn)
+  pub node-halvable : (n : ℕ) → 0 < n → n < 2 ^ suc (deepest (root .degree)) → Halvable (nodeCurve root n)
+  node-halvable n hn l =
+      sized-halvable (rw (node-degree root n hn) (depth-under n (deepest (root .degree)) hn l)) (node-sized n hn)

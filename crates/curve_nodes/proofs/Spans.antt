@@ -6,6 +6,7 @@ use Prim.Native.Nat.{ℕ, zero, suc, _+_, _*_, _-_, _^_, _≤_, _<_}
 use native.Mathlib.Nat.{pow-succ'}
 use native.Mathlib.Omega.{arith}
 use lib.IntN.{ℤ, pos}
+use Rattle.setting.specs.Setting.{mostDegree, controlValues}
 use Rattle.integers.specs.Entry.{entry}
 use Rattle.curve_bernstein.proofs.Stretch.{part, part-ext, part-part, half-part, span, span-whole}
 use Rattle.curve_halves.proofs.Values.{listed-entry, half, half-entry}
@@ -47,7 +48,7 @@ module _ (d : ℕ) (f : ℕ → ℤ) (k : ℕ) where
       ∙ same-span (2 * s + 1) (2 * e + 0) (omega arith) (omega arith) (omega arith) (omega arith)
   span-half (suc (suc b)) hb s e l = absurd (omega arith)
 
-module _ (d : ℕ) (h : d ≤ 3) (cs : List ℤ) where
+module _ (d : ℕ) (h : d ≤ mostDegree) (cs : List ℤ) where
   abbrev Spans : ℕ → Type 0
   Spans n = (k : ℕ) → k ≤ d → entry (nodeValues d cs n) k ≡ span (start n) (remaining n) d (entry cs) k
 
@@ -55,7 +56,7 @@ module _ (d : ℕ) (h : d ≤ 3) (cs : List ℤ) where
   node-span = node-induction Spans
       (λ k l. rw (values-one d cs, depth-one) (sym (span-whole d (entry cs) k l)))
       (λ n b hn hb is k l. rw (values-half d cs n b hn hb, remaining-half n b hn hb, start-half n b hn hb)
-      (listed-entry 4 (entry (half b d (nodeValues d cs n))) k (omega arith)
+      (listed-entry controlValues (entry (half b d (nodeValues d cs n))) k (omega arith)
       ∙ half-entry b hb d (nodeValues d cs n) k l
       ∙ part-ext (pos b) (pos (suc (1 - b))) (pos (suc b)) (pos (1 - b)) d (entry (nodeValues d cs n))
       (span (start n) (remaining n) d (entry cs)) is k

@@ -4,6 +4,7 @@ use mathlib.Core.List.{List}
 use Prim.Native.Nat.{ℕ, zero, suc, _-_, _≤_, _<_}
 use lib.IntN.{ℤ, pos, negℤ, _+ℤ_, _*ℤ_}
 use lib.Signed.{_≤ℤ_}
+use Rattle.setting.specs.Setting.{mostDegree}
 use Rattle.integers.proofs.RingLaws.{pow-natural, *ℤ-neg}
 use Rattle.integers.proofs.Size.{abs-high, abs-low}
 use Rattle.curve_bernstein.specs.Value.{value}
@@ -23,12 +24,12 @@ curve-half zero c = refl
 curve-half (suc b) c = refl
 
 -- the mirror law: the right half, its control points in reverse order, is the left half of the curve with its control points in reverse order
-pub mirror-curve : (c : Curve) → c .degree ≤ 3 → reversedOf (rightHalf c) ≡ leftHalf (reversedOf c)
+pub mirror-curve : (c : Curve) → c .degree ≤ mostDegree → reversedOf (rightHalf c) ≡ leftHalf (reversedOf c)
 unfolding leftHalf rightHalf reversedOf
 mirror-curve c h =
     ap₂ (λ (xs ys : List ℤ). record { degree = c .degree; x = xs; y = ys }) (mirror-padded (c .degree) h (c .x)) (mirror-padded (c .degree) h (c .y))
 
-module _ (p r : ℤ) (b : ℕ) (hb : b < 2) (c : Curve) (h : c .degree ≤ 3) where
+module _ (p r : ℤ) (b : ℕ) (hb : b < 2) (c : Curve) (h : c .degree ≤ mostDegree) where
   pub curve-half-x : value p r (c .degree) (halfOf b c .x) ≡ value (pos b *ℤ (p +ℤ r) +ℤ p) (pos (1 - b) *ℤ (p +ℤ r) +ℤ r) (c .degree) (c .x)
   curve-half-x = ap (λ a. value p r (c .degree) (a .x)) (curve-half b c) ∙ half-padded-value p r b hb (c .degree) h (c .x)
 

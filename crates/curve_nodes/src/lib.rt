@@ -1,24 +1,39 @@
-// Bézier curves of degree 1 to 3 over scaled whole numbers, halved and carried on, and the nodes of repeated halving.
+// Bézier curves of degree 1 to 5 over scaled whole numbers, halved and carried on, and the nodes of repeated halving.
 
 ghost use mathlib.Core.Path.{_≡_};
-ghost use Prim.Native.Nat.{_^_, _≤_, _<_};
+ghost use Prim.Native.Nat.{suc, _^_, _≤_, _<_};
+ghost use Rattle.setting.specs.Setting.{deepest};
 ghost use Rattle.curve_nodes.specs.Nodes.{depth, after, nodeCurve};
 ghost use Rattle.curve_nodes.specs.Inside.{onwardOf, Halvable};
 ghost use Rattle.curve_nodes.specs.Halves.{leftHalf, rightHalf};
 ghost use Rattle.curve_nodes.specs.Bounds.{Sized};
 use curve_halves::left_values;
 use curve_halves::right_values;
+use curve_halves::same_values;
 use curve_onward::onward_values;
 
-// A curve (document 01): its degree and four control values a coordinate, those past the degree being zero. At depth k
+// A curve (document 01): its degree and six control values a coordinate, those past the degree being zero. At depth k
 // of halving the values are the exact ones times 2^(degree * k).
 pub struct Curve {
     pub degree: u32,
-    pub x: [i64; 4],
-    pub y: [i64; 4],
+    pub x: [i64; 6],
+    pub y: [i64; 6],
 }
 
 impl Curve {
+    // The same curve, value by value. A call that is handed this one does not keep the caller's own out of registers.
+    pub fn same(self) -> Curve
+        requires { ⌜ Halvable self ⌝ }
+        ensures { λ r. ⌜ r ≡ self ⌝ }
+    {
+        let degree = self.degree;
+        let cx = self.x;
+        let cy = self.y;
+        let x = same_values(cx);
+        let y = same_values(cy);
+        Curve { degree, x, y }
+    }
+
     // The half from t = 0 to 1/2.
     pub fn left(self) -> Curve
         requires { ⌜ Halvable self ⌝ }
@@ -78,7 +93,7 @@ pub fn after(node: u32) -> u32
 
 // The curve of a node, halved down from the root along the node's bits.
 pub fn node_curve(root: Curve, node: u32) -> Curve
-    requires { ⌜ (0 < node) × (node < 512) × Sized 0 root ⌝ }
+    requires { ⌜ (0 < node) × (node < 2 ^ suc (deepest (root .degree))) × Sized 0 root ⌝ }
     ensures { λ r. ⌜ r ≡ nodeCurve root node ⌝ }
 {
     let mut curve = root;

@@ -1,3 +1,3 @@
--- Laws of a coordinate carried on past its end, and how the powers of 2 in its code are held.
+-- Laws of a coordinate carried on past its end, and of its rises, by which the code goes.
 pub mod Onward
-mod Powers
+mod RisesLaws

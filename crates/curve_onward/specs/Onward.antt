@@ -2,27 +2,31 @@
 -- carried on past its end, over the stretch of parameters that follows its own and is 2^k times as long: what the code
 -- computes. From a node's coordinate it makes another node's, exactly (`onward-is`, proofs/Onward.antt).
 use mathlib.Core.List.{List}
-use Prim.Native.Nat.{ℕ, zero, suc, _*_, _-_, _^_}
-use lib.IntN.{ℤ, pos, _+ℤ_, _-ℤ_, _*ℤ_}
+use Prim.Native.Nat.{ℕ, zero, suc, _*_, _^_}
+use lib.IntN.{ℤ, _+ℤ_, _-ℤ_}
 use lib.Signed.{shrZ}
+use Rattle.setting.specs.Setting.{mostDegree}
 use Rattle.integers.specs.Entry.{entry}
 use Rattle.curve_halves.specs.Halves.{listed}
 
--- from a control value to the next
-abbrev pub rise : List ℤ → ℕ → ℤ
-rise cs i = entry cs (suc i) -ℤ entry cs i
+-- from a number to the next
+abbrev pub rise : (ℕ → ℤ) → ℕ → ℤ
+rise f i = f (suc i) -ℤ f i
 
--- Row j of de Casteljau's triangle at the parameter 1 + w: each number is the second of the two below it in the row
--- before, and w times the rise from the first to it.
-unfoldable pub extended : ℕ → (ℕ → ℤ) → ℕ → ℕ → ℤ
-extended w f zero i = f i
-extended w f (suc j) i = extended w f j (suc i) +ℤ pos w *ℤ (extended w f j (suc i) -ℤ extended w f j i)
+-- the rises of a coordinate's control values
+abbrev pub rises : List ℤ → List ℤ
+rises cs = listed mostDegree (rise (entry cs))
 
--- Control value i, at a depth less by k. The first is where the coordinate ends; each further one rises by the last
--- number of a row over the coordinate's rises.
-unfoldable pub onwardAt : ℕ → ℕ → List ℤ → ℕ → ℤ
-onwardAt d k cs zero = shrZ (entry cs d) (2 ^ (d * k))
-onwardAt d k cs (suc i) = onwardAt d k cs i +ℤ shrZ (extended (2 ^ k) (rise cs) i (d - 1 - i)) (2 ^ ((d - 1) * k))
+-- the numbers that begin with z and rise by f
+unfoldable pub risen : ℤ → (ℕ → ℤ) → ℕ → ℤ
+risen z f zero = z
+risen z f (suc i) = risen z f i +ℤ f i
+
+-- Control value i of a coordinate of degree d, at a depth less by k. The first is where the coordinate ends, and they
+-- rise as the coordinate's rises, whose degree is one less, carried on.
+unfoldable pub onwardAt : ℕ → ℕ → (ℕ → ℤ) → ℕ → ℤ
+onwardAt zero k f i = f 0
+onwardAt (suc n) k f i = risen (shrZ (f (suc n)) (2 ^ (suc n * k))) (onwardAt n k (rise f)) i
 
 unfoldable pub onward : ℕ → ℕ → List ℤ → List ℤ
-onward d k cs = listed (suc d) (onwardAt d k cs)
+onward d k cs = listed (suc d) (onwardAt d k (entry cs))

@@ -1,67 +1,124 @@
 // One coordinate of a curve carried on past its end, over a stretch of parameters 2^k times as long, by its degree.
 ghost use mathlib.Core.Path.{_≡_};
 ghost use Prim.Native.Nat.{_^_, _≤_};
+ghost use Rattle.setting.specs.Setting.{mostDegree};
 ghost use Rattle.curve_halves.specs.Halves.{padded};
 ghost use Rattle.curve_halves.specs.Sizes.{Each};
-ghost use Rattle.curve_onward.specs.Onward.{onward};
+ghost use Rattle.curve_onward.specs.Onward.{rises, onward};
 
 // One coordinate of the curve carried on.
-pub fn onward_values(degree: u32, k: u32, c: [i64; 4]) -> [i64; 4]
-    requires { ⌜ (1 ≤ degree) × (degree ≤ 3) × (k ≤ 7) × Each (2 ^ 44) c ⌝ }
+pub fn onward_values(degree: u32, k: u32, c: [i64; 6]) -> [i64; 6]
+    requires { ⌜ (1 ≤ degree) × (degree ≤ mostDegree) × (k ≤ 7) × Each (2 ^ 44) c ⌝ }
     ensures { λ r. ⌜ r ≡ padded (onward degree k c) ⌝ }
 {
     match degree {
         1 => onward_line(k, c),
         2 => onward_quadratic(k, c),
-        _ => onward_cubic(k, c),
+        3 => onward_cubic(k, c),
+        4 => onward_quartic(k, c),
+        _ => onward_quintic(k, c),
     }
 }
 
-// One degree each. d are the coordinate's rises, e and f the rows over them, and r the control values made.
-fn onward_line(k: u32, c: [i64; 4]) -> [i64; 4]
+// One degree each. d are the coordinate's rises and e the rises of these; r are the control values made, s their rises
+// and t the rises of these. What is made begins where the coordinate ends, and so do the rises.
+fn onward_line(k: u32, c: [i64; 6]) -> [i64; 6]
     requires { ⌜ (k ≤ 7) × Each (2 ^ 44) c ⌝ }
     ensures { λ r. ⌜ r ≡ padded (onward 1 k c) ⌝ }
 {
     let c0 = c[0];
     let c1 = c[1];
     let r0 = c1 >> k;
-    [r0, r0 + (c1 - c0), 0, 0]
+    [r0, r0 + (c1 - c0), 0, 0, 0, 0]
 }
 
-fn onward_quadratic(k: u32, c: [i64; 4]) -> [i64; 4]
+fn onward_quadratic(k: u32, c: [i64; 6]) -> [i64; 6]
     requires { ⌜ (k ≤ 7) × Each (2 ^ 44) c ⌝ }
     ensures { λ r. ⌜ r ≡ padded (onward 2 k c) ⌝ }
 {
     let c0 = c[0];
     let c1 = c[1];
     let c2 = c[2];
-    let w = (1u32 << k) as i64;
     let d0 = c1 - c0;
     let d1 = c2 - c1;
-    let e1 = d1 + w * (d1 - d0);
+    let s0 = d1 >> k;
+    let s1 = s0 + (d1 - d0);
     let r0 = c2 >> (2 * k);
-    let r1 = r0 + (d1 >> k);
-    [r0, r1, r1 + (e1 >> k), 0]
+    let r1 = r0 + s0;
+    [r0, r1, r1 + s1, 0, 0, 0]
 }
 
-fn onward_cubic(k: u32, c: [i64; 4]) -> [i64; 4]
-    requires { ⌜ (k ≤ 7) × Each (2 ^ 44) c ⌝ }
+fn onward_cubic(k: u32, c: [i64; 6]) -> [i64; 6]
+    requires { ⌜ (k ≤ 7) × Each (2 ^ 46) c ⌝ }
     ensures { λ r. ⌜ r ≡ padded (onward 3 k c) ⌝ }
 {
     let c0 = c[0];
     let c1 = c[1];
     let c2 = c[2];
     let c3 = c[3];
-    let w = (1u32 << k) as i64;
     let d0 = c1 - c0;
     let d1 = c2 - c1;
     let d2 = c3 - c2;
-    let e1 = d1 + w * (d1 - d0);
-    let e2 = d2 + w * (d2 - d1);
-    let f2 = e2 + w * (e2 - e1);
-    let by = 2 * k;
+    let e0 = d1 - d0;
+    let e1 = d2 - d1;
+    let t0 = e1 >> k;
+    let t1 = t0 + (e1 - e0);
+    let s0 = d2 >> (2 * k);
+    let s1 = s0 + t0;
+    let s2 = s1 + t1;
     let r0 = c3 >> (3 * k);
-    let r1 = r0 + (d2 >> by);
-    let r2 = r1 + (e2 >> by);
-    [r0, r1, r2, r2 + (f2 >> by)]
+    let r1 = r0 + s0;
+    let r2 = r1 + s1;
+    [r0, r1, r2, r2 + s2, 0, 0]
+}
+
+// Here the rises are carried on by the degree below. s are what comes of them.
+fn onward_quartic(k: u32, c: [i64; 6]) -> [i64; 6]
+    requires { ⌜ (k ≤ 7) × Each (2 ^ 45) c ⌝ }
+    ensures { λ r. ⌜ r ≡ padded (onward 4 k c) ⌝ }
+{
+    let s = onward_cubic(k, rises(c));
+    let c4 = c[4];
+    let s0 = s[0];
+    let s1 = s[1];
+    let s2 = s[2];
+    let s3 = s[3];
+    let r0 = c4 >> (4 * k);
+    let r1 = r0 + s0;
+    let r2 = r1 + s1;
+    let r3 = r2 + s2;
+    [r0, r1, r2, r3, r3 + s3, 0]
+}
+
+fn onward_quintic(k: u32, c: [i64; 6]) -> [i64; 6]
+    requires { ⌜ (k ≤ 7) × Each (2 ^ 44) c ⌝ }
+    ensures { λ r. ⌜ r ≡ padded (onward 5 k c) ⌝ }
+{
+    let s = onward_quartic(k, rises(c));
+    let c5 = c[5];
+    let s0 = s[0];
+    let s1 = s[1];
+    let s2 = s[2];
+    let s3 = s[3];
+    let s4 = s[4];
+    let r0 = c5 >> (5 * k);
+    let r1 = r0 + s0;
+    let r2 = r1 + s1;
+    let r3 = r2 + s2;
+    let r4 = r3 + s3;
+    [r0, r1, r2, r3, r4, r4 + s4]
+}
+
+// The rises from each control value to the next, the last of degree 5.
+fn rises(c: [i64; 6]) -> [i64; 6]
+    requires { ⌜ Each (2 ^ 45) c ⌝ }
+    ensures { λ r. ⌜ r ≡ padded (rises c) ⌝ }
+{
+    let c0 = c[0];
+    let c1 = c[1];
+    let c2 = c[2];
+    let c3 = c[3];
+    let c4 = c[4];
+    let c5 = c[5];
+    [c1 - c0, c2 - c1, c3 - c2, c4 - c3, c5 - c4, 0]
 }

@@ -119,13 +119,13 @@ module _ (σ : Setting) (T : ℤ) (ns old : List ℤ) (a b c : ℕ) (done : band
     -- a point beyond the reach is never judged on
     pub on-in-reach : IsOn answer → Reach T x × Reach T y
     on-in-reach on =
-        let sized = accepted-all (σ .most) ns 0 (claim .all) (outlined-from (σ .most) ns (claim .all) (claim .are)) in
+        let sized = accepted-all (σ .most) (σ .pieces) ns 0 (claim .all) (outlined-from (σ .most) (σ .pieces) ns (claim .all) (claim .are)) in
         let least = between-low (pos 2) (pos 1048576) T (done-exactly σ T ns (length old) a b c .0 done .1 .tolerance) in
         somewhere-in-reach T (claim .all) sized x y (nonneg-by (T ∷ []) (gap least +₀ natural 2) (search sides depth 20) refl)
         (claim .demand-3 .every-on-near on)
 
     -- the node that stands in a leaf's record has depth at most j
-    pub leaf-depth : (i : ℕ) → recordLength σ * i < length leaves → (cs : List Curve) → outlined (σ .most) ns ≡ curves cs
+    pub leaf-depth : (i : ℕ) → recordLength σ * i < length leaves → (cs : List Curve) → outlined (σ .most) (σ .pieces) ns ≡ curves cs
         → (k : ℕ) (c : Curve) → CurveOf cs k c → entry leaves (recordLength σ * i) ≡ pos k
         → (j : ℕ) → Flat σ T c j → (n : ℕ) → entry leaves (recordLength σ * i + 1) ≡ pos n → depth n ≤ j
     leaf-depth i h cs o k c of e j flat n is =
@@ -137,9 +137,13 @@ module _ (σ : Setting) (T : ℤ) (ns old : List ℤ) (a b c : ℕ) (done : band
 
 -- ---- curve A: half-way it is at (240 360), which is on at every tolerance and with every list lent
 abbrev curveA : Curve
-curveA = record { degree = 3; x = pos 0 ∷ pos 10 ∷ pos 20 ∷ pos 30 ∷ []; y = pos 0 ∷ pos 30 ∷ pos 30 ∷ pos 0 ∷ [] }
+curveA = record {
+  degree = 3;
+  x = pos 0 ∷ pos 10 ∷ pos 20 ∷ pos 30 ∷ pos 0 ∷ pos 0 ∷ [];
+  y = pos 0 ∷ pos 30 ∷ pos 30 ∷ pos 0 ∷ pos 0 ∷ pos 0 ∷ [];
+}
 
-of-a : outlined (standard .most) A ≡ curves (curveA ∷ [])
+of-a : outlined (standard .most) (standard .pieces) A ≡ curves (curveA ∷ [])
 unfolding outlined outlineFrom faultAt firstBad curveAt
 of-a = refl
 
@@ -156,7 +160,11 @@ half-way-on T old a b c done answer judged =
 -- ---- the premise of the depth claim: y 0, 0, 125, 250 has M = 125. With three pieces G is 890, and 2 × (16 × 890 × 125 + 20000)² lies between
 -- (10000 × 254)² and (10000 × 255)²; with eight it is 120, and 2 × (16 × 120 × 125 + 20000)² lies between (10000 × 36)² and (10000 × 37)².
 abbrev bow : Curve
-bow = record { degree = 3; x = pos 0 ∷ pos 0 ∷ pos 0 ∷ pos 0 ∷ []; y = pos 0 ∷ pos 0 ∷ pos 125 ∷ pos 250 ∷ [] }
+bow = record {
+  degree = 3;
+  x = pos 0 ∷ pos 0 ∷ pos 0 ∷ pos 0 ∷ pos 0 ∷ pos 0 ∷ [];
+  y = pos 0 ∷ pos 0 ∷ pos 125 ∷ pos 250 ∷ pos 0 ∷ pos 0 ∷ [];
+}
 
 pub flat-from-255 : Flat standard (pos 255) bow 0
 unfolding largest bend largestOf gapOf rowsOf table

@@ -20,7 +20,7 @@ use Rattle.bound_node.proofs.Narrow.{Narrow, meets-narrow}
 use Rattle.walk_tree.specs.Leaves.{Spans}
 use Rattle.walk_curve.specs.Walked.{nodeMeets}
 use Rattle.boxes.specs.declared.Box.{Box}
-use Rattle.setting.specs.Setting.{Setting, HasRows, covers, recordLength}
+use Rattle.setting.specs.Setting.{Setting, HasRows, covers, recordLength, degreePieces}
 use Rattle.boxes.specs.Records.{boxIndex, boxAtIndex}
 use Rattle.band_records.specs.Records.{boxNumbers, recordOf}
 use Rattle.band_records.proofs.Sound.{record-box}
@@ -71,7 +71,8 @@ module _ (σ : Setting) (c : Curve) (n : ℕ) (hn : 0 < n) {rs : List ℤ} {j : 
       let e3 = number-there 3 (at + 3) (omega arith) (omega arith) in
       rw (e0, e1, e2, e3)
 
-module _ (σ : Setting) (rows : HasRows (σ .pieces)) (c : Curve) (s : Sized 0 c) (n : ℕ) (hn : 0 < n) where
+module _ (σ : Setting) (rows : HasRows (σ .pieces)) (c : Curve) (s : Sized 0 c) (takes : degreePieces (c .degree) (σ .pieces) ≡ true) (n : ℕ)
+    (hn : 0 < n) where
   -- ---- a point of the curve
   pub point-held : (p r : ℕ) → 0 < p + r → Spans n p r → (x y : ℤ) → Equals c p r x y → Held σ (nodeBox σ c n) x y
   point-held p r some within x y equals =
@@ -87,9 +88,9 @@ module _ (σ : Setting) (rows : HasRows (σ .pieces)) (c : Curve) (s : Sized 0 c
           a = l .near;
           b = l .far;
           some = omega (arith, l .place .whole, sum);
-          in-x = point-mixed σ rows (c .degree) (s .least) (s .most) (c .x) n hn p r (P .0) (R .0) some (sym (P .1)) (sym (R .1)) l x
+          in-x = point-mixed σ rows (c .degree) (s .least) (s .most) takes (c .x) n hn p r (P .0) (R .0) some (sym (P .1)) (sym (R .1)) l x
               (equals .in-x);
-          in-y = point-mixed σ rows (c .degree) (s .least) (s .most) (c .y) n hn p r (P .0) (R .0) some (sym (P .1)) (sym (R .1)) l y
+          in-y = point-mixed σ rows (c .degree) (s .least) (s .most) takes (c .y) n hn p r (P .0) (R .0) some (sym (P .1)) (sym (R .1)) l y
               (equals .in-y);
         };
       }
@@ -100,5 +101,5 @@ module _ (σ : Setting) (rows : HasRows (σ .pieces)) (c : Curve) (s : Sized 0 c
       → Within T c (upP (σ .pieces) n i (h .a) (h .b)) (upR (σ .pieces) n i (h .a) (h .b)) x y
   held-near T meet i hi x y h =
       let narrow = subst (Narrow σ T (depth n)) (node-curve c n hn) (meets-narrow σ T (depth n) (nodeCurve c n) meet) in
-      mixed-within σ rows c (s .least) (s .most) n hn i (h .a) (h .b) hi T x y (narrow .each i (omega arith)) (narrow .each (suc i) hi)
+      mixed-within σ rows c (s .least) (s .most) takes n hn i (h .a) (h .b) hi T x y (narrow .each i (omega arith)) (narrow .each (suc i) hi)
       (h .in-x) (h .in-y)

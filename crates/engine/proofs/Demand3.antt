@@ -1,6 +1,7 @@
 -- Demand 3, as one theorem from a list of curves and a tolerance to the answer of judging, and from the outline that banding is given. Judging is
 -- known here by what it promises of its answer alone. That it refuses no point of the curves is proved, not assumed.
 use mathlib.Core.Path.{_≡_, refl, sym, _∙_, ap, subst}
+use mathlib.Core.Bool.{true}
 use mathlib.Core.List.{List, [], _∷_, _++_, List·Memᴰ, List·Memᴰ·head, Memᴰ·append-right}
 use mathlib.Core.Option.{none}
 use Prim.Native.Nat.{ℕ, suc, _+_, _*_, _^_, _≤_, _<_}
@@ -14,9 +15,9 @@ use Rattle.curve_nodes.specs.declared.Curve.{Curve}
 use Rattle.curve_halves.specs.Sizes.{Each}
 use Rattle.curve_nodes.specs.Bounds.{Sized}
 use Rattle.curve_nodes.specs.Points.{Equals}
-use Rattle.curve_nodes.proofs.Sizes.{each-wider}
-use Rattle.setting.specs.Setting.{Setting, lists, station, HasRows, covers, recordLength, deepest}
-use Rattle.outline.proofs.Accepted.{outlined-from, accepted-most, accepted-some, accepted-all}
+use Rattle.curve_halves.proofs.Sizes.{each-wider}
+use Rattle.setting.specs.Setting.{Setting, lists, station, HasRows, covers, recordLength, degreePieces, deepest}
+use Rattle.outline.proofs.Accepted.{outlined-from, accepted-most, accepted-some, accepted-all, accepted-pieces}
 use Rattle.walk_curve.specs.Walked.{nodeMeets}
 use Rattle.walk_tree.proofs.Leaves.{end-facts}
 use Rattle.band.specs.declared.banding.Banded.the-variants.{Done}
@@ -70,7 +71,7 @@ of-member of = rw (of .split) (Memᴰ·append-right (of .before) (List·Memᴰ·
 
 -- ---- the claim, for the records of curves that all meet T
 module _ (σ : Setting) (rows : HasRows (σ .pieces)) (T : ℤ) (cs : List Curve) (sized : (c : Curve) → List·Memᴰ c cs → Sized 0 c)
-    (meet : AllMeet σ T cs) where
+    (takes : (c : Curve) → List·Memᴰ c cs → degreePieces (c .degree) (σ .pieces) ≡ true) (meet : AllMeet σ T cs) where
   abbrev rs : List ℤ
   rs = allRecords σ T 0 cs
 
@@ -83,7 +84,7 @@ module _ (σ : Setting) (rows : HasRows (σ .pieces)) (T : ℤ) (cs : List Curve
       let leaf = every-parameter σ T cs meet c i p r in
       let found = subst (λ l. Found σ (allRecords σ T 0 l) (recordOf σ number c (leaf .0))) (sym (of .split))
       (every-end-stands σ T 0 (of .before) c (of .after) (leaf .0) (leaves-exactly σ T cs meet c i (leaf .0) .1 (leaf .1))) in
-      let held = point-held σ rows c (sized c i) (leaf .0) (leaf .1 .node) p r positive (leaf .2) x y equals in
+      let held = point-held σ rows c (sized c i) (takes c i) (leaf .0) (leaf .1 .node) p r positive (leaf .2) x y equals in
       let there = box-there σ c (leaf .0) (leaf .1 .node) number (found .stands) in
       record {
         place = found .place;
@@ -127,7 +128,7 @@ module _ (σ : Setting) (rows : HasRows (σ .pieces)) (T : ℤ) (cs : List Curve
           p = upP (σ .pieces) (w .node) (on .cover) (h .a) (h .b);
           r = upR (σ .pieces) (w .node) (on .cover) (h .a) (h .b);
           some = up-some (σ .pieces) (w .node) (on .cover) (h .a) (h .b) (v .cover) (h .some);
-          near = held-near σ rows c (sized c i) (w .node) hn T (meet .each c i .each (w .node) (w .end)) (on .cover) (v .cover) x y h;
+          near = held-near σ rows c (sized c i) (takes c i) (w .node) hn T (meet .each c i .each (w .node) (w .end)) (on .cover) (v .cover) x y h;
         }
 
   leaf-shallow : (i : ℕ) → recordLength σ * i < length rs → (k : ℕ) (c : Curve) → CurveOf cs k c → entry rs (recordLength σ * i) ≡ pos k
@@ -140,26 +141,27 @@ module _ (σ : Setting) (rows : HasRows (σ .pieces)) (T : ℤ) (cs : List Curve
       let same = same-curve (w .before) (of .before) (w .after) (of .after) (omega (arith, pos-same number, of .number))
       (sym (w .split) ∙ of .split) in
       let own : CurveOf cs (length (w .before)) (w .curve) = record { before = w .before; after = w .after; split = w .split; number = refl } in
+      let member = of-member own in
       record {
         node = w .node;
         is = w .stands .number 1 (omega arith) ∙ record-node σ (0 + length (w .before)) (w .curve) (w .node);
-        depth-at-most = end-depth σ rows T (w .curve) (sized (w .curve) (of-member own)) j (rw same flat) (w .node) (w .end);
+        depth-at-most = end-depth σ rows T (w .curve) (sized (w .curve) member) (takes (w .curve) member) j (rw same flat) (w .node) (w .end);
       }
     where
       pos-same : {m n : ℕ} → pos m ≡ pos n → m ≡ n
       pos-same e = cc
 
--- ---- demand 3 of a list of curves: some, not too many, of the size of an outline's, and none too wide
+-- ---- demand 3 of a list of curves: some, not too many, of the size of an outline's, of degrees that take so many pieces, and none too wide
 pub curves-demand-3 : (σ : Setting) → HasRows (σ .pieces) → (T : ℤ) (cs : List Curve) → 0 < length cs → length cs ≤ σ .most
-    → ((c : Curve) → List·Memᴰ c cs → Sized 0 c) → AllMeet σ T cs
+    → ((c : Curve) → List·Memᴰ c cs → Sized 0 c) → ((c : Curve) → List·Memᴰ c cs → degreePieces (c .degree) (σ .pieces) ≡ true) → AllMeet σ T cs
     → (x y : ℤ) (answer : Judgement) → Judged σ (allRecords σ T 0 cs) x y answer → Demand3 σ T cs (allRecords σ T 0 cs) x y answer
-curves-demand-3 σ rows T cs some few sized meet x y answer judged =
+curves-demand-3 σ rows T cs some few sized takes meet x y answer judged =
     let one = curves-leaves σ T cs some in
-    let sound = curves-sound σ rows T 0 cs (omega (arith, few)) sized in
+    let sound = curves-sound σ rows T 0 cs (omega (arith, few)) sized takes in
     record {
-      every-point-on = point-on σ rows T cs sized meet (leavesOf σ T cs) one sound x y answer judged;
-      every-on-near = on-near σ rows T cs sized meet (leavesOf σ T cs) one sound x y answer judged;
-      every-leaf-shallow = leaf-shallow σ rows T cs sized meet;
+      every-point-on = point-on σ rows T cs sized takes meet (leavesOf σ T cs) one sound x y answer judged;
+      every-on-near = on-near σ rows T cs sized takes meet (leavesOf σ T cs) one sound x y answer judged;
+      every-leaf-shallow = leaf-shallow σ rows T cs sized takes meet;
     }
 
 -- ---- demand 3 of an outline, in every setting: where it is accepted, there are rows for the number of pieces
@@ -172,12 +174,13 @@ demand-3 σ T ns old a b c done x y answer judged =
     let o = h .1 .outline in
     let is = records-written σ T ns old (h .1) (h .2) in
     let said = subst (λ rs. Judged σ rs x y answer) is judged in
+    let from = outlined-from (σ .most) (σ .pieces) ns cs o in
     record {
       all = cs;
       are = o;
       demand-3 = subst (λ rs. Demand3 σ T cs rs x y answer) (sym is) (curves-demand-3 σ (faultless-rows (h .1)) T cs
-          (accepted-some (σ .most) ns cs o) (accepted-most (σ .most) ns cs o) (accepted-all (σ .most) ns 0 cs (outlined-from (σ .most) ns cs o))
-          (h .2 .meet) x y answer said);
+          (accepted-some (σ .most) (σ .pieces) ns cs o) (accepted-most (σ .most) (σ .pieces) ns cs o) (accepted-all (σ .most) (σ .pieces) ns 0 cs from)
+          (accepted-pieces (σ .most) (σ .pieces) ns 0 cs from) (h .2 .meet) x y answer said);
     }
 
 -- ---- the same where fewer curves may stand than in lists: the leaves are judged as every leaf list is

@@ -13,7 +13,7 @@ use Rattle.curve_bernstein.proofs.Ends.{value-start, value-end, one-powers}
 use Rattle.setting.specs.Setting.{Setting, recordLength}
 use Rattle.outline.specs.Meeting.{CurvesMeet}
 use Rattle.outline.specs.Checks.{Outlined, curves, outlined}
-use Rattle.outline.proofs.Accepted.{outlined-from, accepted-all}
+use Rattle.outline.proofs.Accepted.{outlined-from, accepted-all, accepted-pieces}
 use Rattle.outline.proofs.Meeting.{curves-meet}
 use Rattle.band.specs.declared.banding.Banded.the-variants.{Done}
 use Rattle.band.specs.Banding.{banded, written}
@@ -53,27 +53,29 @@ next-is [] [] after rest c d l e = absurd (omega arith)
 next-is (b ∷ bs) [] after rest c d l e = absurd (omega arith)
 next-is (b ∷ bs) (a ∷ ds) after rest c d l e = next-is bs ds after rest c d (omega arith) (cc)
 
-pub numbers-meet : (most : ℕ) (ns : List ℤ) (cs : List Curve) → outlined most ns ≡ curves cs
+pub numbers-meet : (most m : ℕ) (ns : List ℤ) (cs : List Curve) → outlined most m ns ≡ curves cs
     → (k : ℕ) (c d : Curve) → CurveOf cs k c → CurveOf cs (suc k) d → CurvesMeet c d
-numbers-meet most ns cs o k c d first second =
+numbers-meet most m ns cs o k c d first second =
     let number = second .number ∙ ap suc (sym (first .number)) in
     let after = next-is (first .before) (second .before) (first .after) (second .after) c d number (sym (first .split) ∙ second .split) in
-    curves-meet most ns (first .before) c d (second .after) (o ∙ ap curves (first .split ∙ ap (λ l. first .before ++ c ∷ l) after))
+    curves-meet most m ns (first .before) c d (second .after) (o ∙ ap curves (first .split ∙ ap (λ l. first .before ++ c ∷ l) after))
 
 -- ---- the point where curve k ends and curve k + 1 begins
 pub covered-twice : (σ : Setting) (T : ℤ) (ns old : List ℤ) (a b n : ℕ) → banded σ T ns (length old) ≡ Done a b n
-    → (cs : List Curve) → outlined (σ .most) ns ≡ curves cs
+    → (cs : List Curve) → outlined (σ .most) (σ .pieces) ns ≡ curves cs
     → (k : ℕ) (c d : Curve) → CurveOf cs k c → CurveOf cs (suc k) d → (x y : ℤ) → EndsAt c x y
     → (answer : Judgement) → Judged σ (take (recordLength σ * b) (written σ T ns old)) x y answer
     → CoveredTwice σ (take (recordLength σ * b) (written σ T ns old)) k x y answer
 covered-twice σ T ns old a b n done cs o k c d first second x y ends answer judged =
     let h = done-exactly σ T ns (length old) a b n .0 done in
     let same = same-curves (h .1 .outline) o in
-    let sized = accepted-all (σ .most) ns 0 (h .0) (outlined-from (σ .most) ns (h .0) (h .1 .outline)) in
-    let held = held-at σ (faultless-rows (h .1)) T (h .0) sized (h .2 .meet) in
+    let from = outlined-from (σ .most) (σ .pieces) ns (h .0) (h .1 .outline) in
+    let sized = accepted-all (σ .most) (σ .pieces) ns 0 (h .0) from in
+    let takes = accepted-pieces (σ .most) (σ .pieces) ns 0 (h .0) from in
+    let held = held-at σ (faultless-rows (h .1)) T (h .0) sized takes (h .2 .meet) in
     let d3 = demand-3 σ T ns old a b n done x y answer judged in
     let is = records-written σ T ns old (h .1) (h .2) in
-    let next = at-next-start ends (numbers-meet (σ .most) ns cs o k c d first second) in
+    let next = at-next-start ends (numbers-meet (σ .most) (σ .pieces) ns cs o k c d first second) in
     record {
       on = d3 .demand-3 .every-point-on k c (rw (same-curves (d3 .are) o) first) 1 0 (omega arith) (at-end ends);
       last-leaf = subst (λ rs. HeldAt σ rs k 1 0 x y) (sym is) (held k c (rw same first) 1 0 (omega arith) x y (at-end ends));

@@ -1,13 +1,14 @@
 -- One coordinate of a node against the mixtures of its lows and highs. A point of the curve at a parameter of the node lies in a mixture, by the
 -- enclosure; and what lies in a mixture is within the widths at the two break points of the curve at the parameter with the same weights.
 use mathlib.Core.Path.{_≡_, refl, sym, _∙_, ap, ap₂, subst, subst₂}
+use mathlib.Core.Bool.{true}
 use mathlib.Core.List.{List, [], _∷_}
 use Prim.Native.Nat.{ℕ, zero, suc, _+_, _*_, _-_, _^_, _≤_, _<_}
 use native.Mathlib.Nat.{one-le-pow, zero-lt-suc, mul-le-mul-left}
 use native.Mathlib.Omega.{arith}
 use lib.IntN.{ℤ, pos, negℤ, natAbs, _+ℤ_, _-ℤ_, _*ℤ_, pow, one}
 use lib.Signed.{_≤ℤ_, _<ℤ_}
-use Rattle.setting.specs.Setting.{Setting, HasRows}
+use Rattle.setting.specs.Setting.{Setting, HasRows, mostDegree, degreePieces}
 use Rattle.integers.specs.Squares.{squared}
 use Rattle.integers.proofs.Squares.{square-within}
 use Rattle.integers.proofs.RingLaws.{pow-last}
@@ -123,7 +124,8 @@ module _ (m d D : ℕ) (ρs : List Row) (cs : List ℤ) (hd : 0 < d) (hD : 0 < D
 pub down-sum : (n p r P R : ℕ) → pos P ≡ pAt n (pos p) (pos r) → pos R ≡ rAt n (pos p) (pos r) → P + R ≡ p + r
 down-sum n p r P R eP eR = ap natAbs (ap₂ _+ℤ_ eP eR ∙ same-sum n (pos p) (pos r))
 
-module _ (σ : Setting) (rows : HasRows (σ .pieces)) (d : ℕ) (least : 1 ≤ d) (most : d ≤ 3) (cs : List ℤ) (n : ℕ) (hn : 0 < n) where
+module _ (σ : Setting) (rows : HasRows (σ .pieces)) (d : ℕ) (least : 1 ≤ d) (most : d ≤ mostDegree) (takes : degreePieces d (σ .pieces) ≡ true)
+    (cs : List ℤ) (n : ℕ) (hn : 0 < n) where
   abbrev D : ℕ
   D = 2 ^ (d * depth n)
 
@@ -142,7 +144,7 @@ module _ (σ : Setting) (rows : HasRows (σ .pieces)) (d : ℕ) (least : 1 ≤ d
       → Mixed (l .near) (l .far) (lows (l .piece)) (highs (l .piece)) (lows (suc (l .piece))) (highs (suc (l .piece))) z
   point-mixed p r P R some eP eR l z same =
       enclosed-mixed (σ .pieces) d D (rowsOf (σ .pieces) d) (nodeValues d cs n) least some-D (l .piece) (l .near) (l .far) P R (rw sum some) (l .place)
-      (enclosure (σ .pieces) d rows least most (pos D) (pos-lt some-D) (nodeValues d cs n) (l .piece) (l .near) (l .far) P R (l .inside) (l .place))
+      (enclosure (σ .pieces) d rows least most takes (pos D) (pos-lt some-D) (nodeValues d cs n) (l .piece) (l .near) (l .far) P R (l .inside) (l .place))
       z
       (ap (λ (q : ℕ). pos D *ℤ (pow (pos q) d *ℤ z)) sum ∙ ap (λ x. pos D *ℤ x) same ∙ ring (pos D ∷ value (pos p) (pos r) d cs ∷ [])
       (search sides depth 20) refl
@@ -185,7 +187,7 @@ module _ (σ : Setting) (rows : HasRows (σ .pieces)) (d : ℕ) (least : 1 ≤ d
         let e = unit *ℤ (pos a *ℤ (highs i -ℤ lows i) +ℤ pos b *ℤ (highs (suc i) -ℤ lows (suc i))) in
         let s = subst₂ (λ w v. Close e w v z) (sym power) (sym (values-up d most cs n hn (pos P) (pos R)))
         (mixed-close m d D (rowsOf m d) (nodeValues d cs n) least some-D i a b P R (place-at m i a b hi)
-        (enclosure-between m d rows least most (pos D) (pos-lt some-D) (nodeValues d cs n) i a b hi) z mixed) in
+        (enclosure-between m d rows least most takes (pos D) (pos-lt some-D) (nodeValues d cs n) i a b hi) z mixed) in
         square-within (s .below) (s .above)
 
 -- ---- both coordinates: boxes with a diagonal within T have mixtures with one within T, since 2 × w₀ × w₁ ≤ w₀² + w₁²
@@ -200,8 +202,8 @@ mixed-squares k a b T w₀ h₀ w₁ h₁ first second = le-by (k ∷ pos a ∷ 
 abbrev pub widthAt : Setting → ℕ → List ℤ → ℕ → ℕ → ℤ
 widthAt σ d cs n i = highOf σ d (depth n) (nodeValues d cs n) i -ℤ lowOf σ d (depth n) (nodeValues d cs n) i
 
-module _ (σ : Setting) (rows : HasRows (σ .pieces)) (c : Curve) (least : 1 ≤ c .degree) (most : c .degree ≤ 3) (n : ℕ) (hn : 0 < n)
-    (i a b : ℕ) (hi : i < σ .pieces) (T x y : ℤ) where
+module _ (σ : Setting) (rows : HasRows (σ .pieces)) (c : Curve) (least : 1 ≤ c .degree) (most : c .degree ≤ mostDegree)
+    (takes : degreePieces (c .degree) (σ .pieces) ≡ true) (n : ℕ) (hn : 0 < n) (i a b : ℕ) (hi : i < σ .pieces) (T x y : ℤ) where
   abbrev w : ℕ → ℤ
   w = widthAt σ (c .degree) (c .x) n
 
@@ -225,12 +227,12 @@ module _ (σ : Setting) (rows : HasRows (σ .pieces)) (c : Curve) (least : 1 ≤
       → Within T c (upP (σ .pieces) n i a b) (upR (σ .pieces) n i a b) x y
   mixed-within first second in-x in-y = record {
     distance = ≤ℤ-trans
-        (+ℤ-mono (mixed-off σ rows (c .degree) least most (c .x) n hn i a b hi x in-x)
-        (mixed-off σ rows (c .degree) least most (c .y) n hn i a b hi y in-y))
+        (+ℤ-mono (mixed-off σ rows (c .degree) least most takes (c .x) n hn i a b hi x in-x)
+        (mixed-off σ rows (c .degree) least most takes (c .y) n hn i a b hi y in-y))
         (subst (λ z. (squared (k *ℤ (pos a *ℤ w i +ℤ pos b *ℤ w (suc i))) +ℤ squared (k *ℤ (pos a *ℤ h i +ℤ pos b *ℤ h (suc i)))) ≤ℤ squared (z *ℤ T))
-        (sym (unit-power σ rows (c .degree) least most (c .x) n hn i a b hi))
+        (sym (unit-power σ rows (c .degree) least most takes (c .x) n hn i a b hi))
         (mixed-squares k a b T (w i) (h i) (w (suc i)) (h (suc i)) first second));
   }
     where
       k : ℤ
-      k = unit σ rows (c .degree) least most (c .x) n hn i a b hi
+      k = unit σ rows (c .degree) least most takes (c .x) n hn i a b hi

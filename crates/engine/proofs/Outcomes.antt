@@ -104,7 +104,7 @@ module _ (σ : Setting) (T : ℤ) (ns : List ℤ) (room : ℕ) (point : Refusal)
 
     pub other-again : banded σ T ns 0 ≡ NotBanded r → r ≡ refusalOr point (banded σ T ns room)
     unfolding banded
-    other-again e = ap (refusalOr point) (sym (go (piecesFine (σ .pieces)) (toleranceFine T) (outlined (σ .most) ns) e))
+    other-again e = ap (refusalOr point) (sym (go (piecesFine (σ .pieces)) (toleranceFine T) (outlined (σ .most) (σ .pieces) ns) e))
       where
         answer : Bool → Bool → Outlined → ℕ → Banded
         answer rows fine o n =

@@ -60,5 +60,5 @@ pub record Demand3 (σ : Setting) (T : ℤ) (cs : List Curve) (rs : List ℤ) (x
 -- The outline ns has no fault, and demand 3 holds of the curves that it describes.
 pub record OutlineDemand3 (σ : Setting) (T : ℤ) (ns rs : List ℤ) (x y : ℤ) (answer : Judgement) : Type 0 where
   pub all : List Curve
-  pub are : outlined (σ .most) ns ≡ curves all
+  pub are : outlined (σ .most) (σ .pieces) ns ≡ curves all
   pub demand-3 : Demand3 σ T all rs x y answer

@@ -17,7 +17,7 @@ answer (curves cs) = (0, length cs)
 answer (faulty r) = (numberOf r, spotOf r)
 
 abbrev check : List ℤ → ℕ × ℕ
-check ns = answer (outlined 64 ns)
+check ns = answer (outlined 64 3 ns)
 
 -- a line from (0 0) to (3 4), and n of no length
 abbrev line : List ℤ
@@ -45,7 +45,7 @@ pub least-number : toleranceFine (negℤ (pos 2147483648)) ≡ false
 least-number = refl
 
 -- ---- 6: an empty list, even where no curve may stand
-pub empty-none-allowed : answer (outlined 0 []) ≡ (6, 0)
+pub empty-none-allowed : answer (outlined 0 3 []) ≡ (6, 0)
 unfolding outlined
 empty-none-allowed = refl
 
@@ -53,6 +53,22 @@ empty-none-allowed = refl
 pub cut-short : check (pos 3 ∷ pos 1048577 ∷ pos 0 ∷ []) ≡ (3, 3)
 unfolding outlined outlineFrom faultAt
 cut-short = refl
+
+-- ---- 2 and 20: no degree, and a degree that takes more pieces, before the end of the list is looked at
+abbrev short : (m d : ℕ) → ℕ × ℕ
+short m d = answer (outlined 64 m (pos d ∷ []))
+
+pub no-degree : (short 2 0 ≡ (2, 0)) × (short 2 6 ≡ (2, 0)) × (short 3 6 ≡ (2, 0))
+unfolding outlined outlineFrom faultAt
+no-degree = (refl, refl, refl)
+
+pub few-pieces : (short 1 3 ≡ (3, 1)) × (short 2 4 ≡ (20, 0)) × (short 2 5 ≡ (20, 0)) × (short 3 4 ≡ (3, 1)) × (short 8 5 ≡ (3, 1))
+unfolding outlined outlineFrom faultAt
+few-pieces = (refl, refl, refl, refl, refl)
+
+pub few-pieces-later : answer (outlined 64 2 (line ++ (pos 4 ∷ []))) ≡ (20, 5)
+unfolding outlined outlineFrom faultAt firstBad
+few-pieces-later = refl
 
 -- ---- 4: a coordinate, before the next curve's degree and before 17 of its own curve
 pub farthest : check (pos 1 ∷ pos 1048576 ∷ negℤ (pos 1048576) ∷ pos 0 ∷ pos 0 ∷ []) ≡ (0, 1)
@@ -76,7 +92,7 @@ pub one-more : check (lines 64 ++ (pos 9 ∷ [])) ≡ (5, 320)
 unfolding outlined outlineFrom faultAt firstBad
 one-more = refl
 
-pub none-allowed : answer (outlined 0 (pos 9 ∷ [])) ≡ (5, 0)
+pub none-allowed : answer (outlined 0 3 (pos 9 ∷ [])) ≡ (5, 0)
 unfolding outlined outlineFrom
 none-allowed = refl
 
@@ -126,9 +142,9 @@ curve-a = pos 3 ∷ pos 0 ∷ pos 0 ∷ pos 10 ∷ pos 30 ∷ pos 20 ∷ pos 30 
 abbrev arch : List ℤ
 arch = pos 2 ∷ pos 30 ∷ pos 0 ∷ pos 31 ∷ pos 18 ∷ pos 32 ∷ pos 0 ∷ []
 
-pub read : outlined 64 (curve-a ++ arch) ≡ curves (
-    record { degree = 3; x = pos 0 ∷ pos 10 ∷ pos 20 ∷ pos 30 ∷ []; y = pos 0 ∷ pos 30 ∷ pos 30 ∷ pos 0 ∷ [] }
-    ∷ record { degree = 2; x = pos 30 ∷ pos 31 ∷ pos 32 ∷ pos 0 ∷ []; y = pos 0 ∷ pos 18 ∷ pos 0 ∷ pos 0 ∷ [] }
+pub read : outlined 64 3 (curve-a ++ arch) ≡ curves (
+    record { degree = 3; x = pos 0 ∷ pos 10 ∷ pos 20 ∷ pos 30 ∷ pos 0 ∷ pos 0 ∷ []; y = pos 0 ∷ pos 30 ∷ pos 30 ∷ pos 0 ∷ pos 0 ∷ pos 0 ∷ [] }
+    ∷ record { degree = 2; x = pos 30 ∷ pos 31 ∷ pos 32 ∷ pos 0 ∷ pos 0 ∷ pos 0 ∷ []; y = pos 0 ∷ pos 18 ∷ pos 0 ∷ pos 0 ∷ pos 0 ∷ pos 0 ∷ [] }
     ∷ [])
 unfolding outlined outlineFrom faultAt firstBad curveAt
 read = refl

@@ -18,57 +18,58 @@ use Rattle.outline.specs.Curves.{nextAt, curveAt}
 use Rattle.outline.specs.Faults.{faultAt}
 use Rattle.outline.specs.Checks.{Outlined, curves, faulty, withCurve, outlineFrom, outlined}
 use Rattle.outline.specs.Places.{placeOf, OneTooMany}
-use Rattle.outline.proofs.Faultless.{Finding, no-degree, cut-short, beyond, gap, finding}
+use Rattle.outline.proofs.Faultless.{Finding, no-degree, few-pieces, cut-short, beyond, gap, finding}
 use Rattle.outline.proofs.Steps.{outline-full, outline-step}
 
 -- it is no fault of one curve
-not-of-a-curve : (ns : List ℤ) (at i : ℕ) → faultAt ns at ≡ some (TooManyCurves i) → ⊥
-not-of-a-curve ns at i e = go (TooManyCurves i) refl (rw e at (finding ns at))
+not-of-a-curve : (m : ℕ) (ns : List ℤ) (at i : ℕ) → faultAt m ns at ≡ some (TooManyCurves i) → ⊥
+not-of-a-curve m ns at i e = go (TooManyCurves i) refl (rw e at (finding m ns at))
   where
-    go : (r : Refusal) → r ≡ TooManyCurves i → Finding ns at (some r) → ⊥
+    go : (r : Refusal) → r ≡ TooManyCurves i → Finding m ns at (some r) → ⊥
     go _ f no-degree = clash (cc)
+    go _ f few-pieces = clash (cc)
     go _ f cut-short = clash (cc)
     go _ f (beyond k) = clash (cc)
     go _ f (gap h) = clash (cc)
 
 -- ---- where it is due
-due : (left : ℕ) (ns : List ℤ) (at i : ℕ) → OneTooMany left ns at i → outlineFrom left ns at ≡ faulty (TooManyCurves i)
-due zero ns at i t = subst (λ j. outlineFrom 0 ns at ≡ faulty (TooManyCurves j)) (t .is) (outline-full ns at (rw (t .is) (t .begins)))
-due (suc left) ns at i t =
-    outline-step ns at left (t .no-fault 0 (omega arith))
-    ∙ ap (withCurve (curveAt ns at)) (due left ns (nextAt ns at) i
+due : (left m : ℕ) (ns : List ℤ) (at i : ℕ) → OneTooMany left m ns at i → outlineFrom left m ns at ≡ faulty (TooManyCurves i)
+due zero m ns at i t = subst (λ j. outlineFrom 0 m ns at ≡ faulty (TooManyCurves j)) (t .is) (outline-full m ns at (rw (t .is) (t .begins)))
+due (suc left) m ns at i t =
+    outline-step m ns at left (t .no-fault 0 (omega arith))
+    ∙ ap (withCurve (curveAt ns at)) (due left m ns (nextAt ns at) i
     (record { no-fault = λ k h. t .no-fault (suc k) (omega (arith, h)); is = t .is; begins = t .begins }))
 
 -- ---- and only there
-said : (left : ℕ) (ns : List ℤ) (at i : ℕ) → outlineFrom left ns at ≡ faulty (TooManyCurves i) → OneTooMany left ns at i
+said : (left m : ℕ) (ns : List ℤ) (at i : ℕ) → outlineFrom left m ns at ≡ faulty (TooManyCurves i) → OneTooMany left m ns at i
 unfolding outlineFrom
-said zero ns at i = go (ltb at (length ns)) refl
+said zero m ns at i = go (ltb at (length ns)) refl
   where
     go : (b : Bool) → ltb at (length ns) ≡ b
-        → _≡_ {A = Outlined} (elim b [ true ↦ faulty (TooManyCurves at) | false ↦ curves [] ]) (faulty (TooManyCurves i)) → OneTooMany 0 ns at i
+        → _≡_ {A = Outlined} (elim b [ true ↦ faulty (TooManyCurves at) | false ↦ curves [] ]) (faulty (TooManyCurves i)) → OneTooMany 0 m ns at i
     go true f e =
         let is : at ≡ i = cc in
         record { no-fault = λ k h. absurd (not-suc-le-zero h); is = is; begins = rw (sym is) (ltb-true at (length ns) f) }
     go false f e = clash (cc)
-said (suc left) ns at i = go (ltb at (length ns)) (faultAt ns at) refl (outlineFrom left ns (nextAt ns at)) (said left ns (nextAt ns at) i)
+said (suc left) m ns at i = go (ltb at (length ns)) (faultAt m ns at) refl (outlineFrom left m ns (nextAt ns at)) (said left m ns (nextAt ns at) i)
   where
-    go : (b : Bool) (o : Option Refusal) → faultAt ns at ≡ o → (rest : Outlined)
-        → (rest ≡ faulty (TooManyCurves i) → OneTooMany left ns (nextAt ns at) i)
+    go : (b : Bool) (o : Option Refusal) → faultAt m ns at ≡ o → (rest : Outlined)
+        → (rest ≡ faulty (TooManyCurves i) → OneTooMany left m ns (nextAt ns at) i)
         → _≡_ {A = Outlined} (elim b [ false ↦ curves [] | true ↦ elim o [ some r ↦ faulty r | none ↦ withCurve (curveAt ns at) rest ] ])
         (faulty (TooManyCurves i))
-        → OneTooMany (suc left) ns at i
+        → OneTooMany (suc left) m ns at i
     go false o f rest again e = clash (cc)
-    go true (some r) f rest again e = absurd (not-of-a-curve ns at i (f ∙ cc))
+    go true (some r) f rest again e = absurd (not-of-a-curve m ns at i (f ∙ cc))
     go true none f (curves cs) again e = clash (cc)
     go true none f (faulty r) again e =
         let t = again e in
         record { no-fault = each t; is = t .is; begins = t .begins }
       where
-        each : OneTooMany left ns (nextAt ns at) i → (k : ℕ) → k < suc left → faultAt ns (placeOf ns at k) ≡ none
+        each : OneTooMany left m ns (nextAt ns at) i → (k : ℕ) → k < suc left → faultAt m ns (placeOf ns at k) ≡ none
         each t zero h = f
         each t (suc k) h = t .no-fault k (le-of-suc-le-suc h)
 
-pub count-exactly : (most : ℕ) (ns : List ℤ) (i : ℕ) → (outlined most ns ≡ faulty (TooManyCurves i)) ↔ OneTooMany most ns 0 i
+pub count-exactly : (most m : ℕ) (ns : List ℤ) (i : ℕ) → (outlined most m ns ≡ faulty (TooManyCurves i)) ↔ OneTooMany most m ns 0 i
 unfolding outlined
-count-exactly most [] i = (λ e. clash (cc), λ t. absurd (not-suc-le-zero (t .begins)))
-count-exactly most (z ∷ ns) i = (said most (z ∷ ns) 0 i, due most (z ∷ ns) 0 i)
+count-exactly most m [] i = (λ e. clash (cc), λ t. absurd (not-suc-le-zero (t .begins)))
+count-exactly most m (z ∷ ns) i = (said most m (z ∷ ns) 0 i, due most m (z ∷ ns) 0 i)

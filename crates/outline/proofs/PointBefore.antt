@@ -8,21 +8,21 @@ use Prim.Native.Nat.{ℕ, _+_, _-_, _*_, _≤_, _<_, zero-le}
 use native.Mathlib.Omega.{arith}
 use borrow.Author.Tests.{le-ltb, le-leb}
 use lib.IntN.{ℤ, pos}
+use Rattle.setting.specs.Setting.{controlValues}
 use Rattle.integers.specs.Entry.{entry}
-use Rattle.integers.specs.Between.{between}
 use Rattle.integers.specs.Equal.{equal}
 use Rattle.integers.proofs.Both.{both-true}
 use Rattle.integers.proofs.Equal.{equal-≡, ≡-equal}
 use Rattle.curve_halves.proofs.Values.{listed-entry}
-use Rattle.outline.specs.Curves.{degreeAt, nextAt, values, curveAt}
+use Rattle.outline.specs.Curves.{degreeFine, degreeAt, nextAt, values, curveAt}
 use Rattle.outline.specs.Meeting.{CurvesMeet}
 use Rattle.outline.proofs.Degrees.{degree-most}
 use Rattle.outline.specs.Faults.{meetsBefore}
 use Rattle.outline.proofs.Faultless.{valueAt}
 
 -- control value k of a coordinate, whose values begin at index i, stands at index j
-value-there : (ns : List ℤ) (d i k j : ℕ) → k ≤ d → k < 4 → i + 2 * k ≡ j → entry (values ns d i) k ≡ entry ns j
-value-there ns d i k j h l e = listed-entry 4 (valueAt ns d i) k l ∙ rw (le-leb k d h) (ap (entry ns) e)
+value-there : (ns : List ℤ) (d i k j : ℕ) → k ≤ d → k < controlValues → i + 2 * k ≡ j → entry (values ns d i) k ≡ entry ns j
+value-there ns d i k j h l e = listed-entry controlValues (valueAt ns d i) k l ∙ rw (le-leb k d h) (ap (entry ns) e)
 
 module _ (ns : List ℤ) (at : ℕ) where
   first-x : entry (curveAt ns at .x) 0 ≡ entry ns (at + 1)
@@ -37,7 +37,7 @@ module _ (ns : List ℤ) (at : ℕ) where
 pub first-meets : (ns : List ℤ) → meetsBefore ns 0 ≡ true
 first-meets ns = refl
 
-module _ (ns : List ℤ) (at : ℕ) (degree : between (pos 1) (pos 3) (entry ns at) ≡ true) where
+module _ (ns : List ℤ) (at : ℕ) (degree : degreeFine (entry ns at) ≡ true) where
   abbrev next : ℕ
   next = nextAt ns at
 

@@ -22,32 +22,32 @@ use Rattle.outline.proofs.Degrees.{degree-inside}
 use Rattle.outline.proofs.Faultless.{faultless}
 
 -- ---- one step
-module _ (ns : List ℤ) (at : ℕ) where
-  pub outline-ended : (left : ℕ) → length ns ≤ at → outlineFrom left ns at ≡ curves []
+module _ (m : ℕ) (ns : List ℤ) (at : ℕ) where
+  pub outline-ended : (left : ℕ) → length ns ≤ at → outlineFrom left m ns at ≡ curves []
   unfolding outlineFrom
   outline-ended zero h = rw (outlineFrom, le-ltb at (length ns) h)
   outline-ended (suc left) h = rw (outlineFrom, le-ltb at (length ns) h)
 
-  pub outline-full : at < length ns → outlineFrom 0 ns at ≡ faulty (TooManyCurves at)
+  pub outline-full : at < length ns → outlineFrom 0 m ns at ≡ faulty (TooManyCurves at)
   unfolding outlineFrom
   outline-full h = rw (outlineFrom, lt-ltb at (length ns) h)
 
-  pub outline-faulty : (left : ℕ) (r : Refusal) → at < length ns → faultAt ns at ≡ some r → outlineFrom (suc left) ns at ≡ faulty r
+  pub outline-faulty : (left : ℕ) (r : Refusal) → at < length ns → faultAt m ns at ≡ some r → outlineFrom (suc left) m ns at ≡ faulty r
   unfolding outlineFrom
   outline-faulty left r h e = rw (outlineFrom, lt-ltb at (length ns) h, e)
 
-  pub outline-step : (left : ℕ) → faultAt ns at ≡ none → outlineFrom (suc left) ns at ≡ withCurve (curveAt ns at) (outlineFrom left ns (nextAt ns at))
+  pub outline-step : (left : ℕ) → faultAt m ns at ≡ none → outlineFrom (suc left) m ns at ≡ withCurve (curveAt ns at) (outlineFrom left m ns (nextAt ns at))
   unfolding outlineFrom
-  outline-step left e = rw (outlineFrom, lt-ltb at (length ns) (degree-inside ns at (faultless ns at e .degree)), e)
+  outline-step left e = rw (outlineFrom, lt-ltb at (length ns) (degree-inside ns at (faultless m ns at e .degree)), e)
 
 -- ---- an accepted list: it begins with a curve, or ends
-pub record Begins (left : ℕ) (ns : List ℤ) (at : ℕ) (c : Curve) (cs : List Curve) : Type 0 where
+pub record Begins (left m : ℕ) (ns : List ℤ) (at : ℕ) (c : Curve) (cs : List Curve) : Type 0 where
   pub some : 0 < left
   pub inside : at < length ns
-  pub no-fault : faultAt ns at ≡ none
+  pub no-fault : faultAt m ns at ≡ none
   pub is : c ≡ curveAt ns at
   pub ends : nextAt ns at ≤ length ns
-  pub rest : outlineFrom (left - 1) ns (nextAt ns at) ≡ curves cs
+  pub rest : outlineFrom (left - 1) m ns (nextAt ns at) ≡ curves cs
 
 no-room : (b : Bool) (i : ℕ) (cs : List Curve) → _≡_ {A = Outlined} (elim b [ true ↦ faulty (TooManyCurves i) | false ↦ curves [] ]) (curves cs)
     → (b ≡ false) × (cs ≡ [])
@@ -69,13 +69,13 @@ last true none found (faulty r) e = clash (cc)
 last true (some r) found rest e = clash (cc)
 last false o found rest e = refl
 
-pub outline-begins : (left : ℕ) (ns : List ℤ) (at : ℕ) (c : Curve) (cs : List Curve)
-    → outlineFrom left ns at ≡ curves (c ∷ cs) → Begins left ns at c cs
+pub outline-begins : (left m : ℕ) (ns : List ℤ) (at : ℕ) (c : Curve) (cs : List Curve)
+    → outlineFrom left m ns at ≡ curves (c ∷ cs) → Begins left m ns at c cs
 unfolding outlineFrom
-outline-begins zero ns at c cs e = let n = no-room (ltb at (length ns)) at (c ∷ cs) e .1 in clash (cc)
-outline-begins (suc left) ns at c cs e =
-    let s = first (ltb at (length ns)) (faultAt ns at) (curveAt ns at) (outlineFrom left ns (nextAt ns at)) c cs e in
-    let f = faultless ns at (s .0) in
+outline-begins zero m ns at c cs e = let n = no-room (ltb at (length ns)) at (c ∷ cs) e .1 in clash (cc)
+outline-begins (suc left) m ns at c cs e =
+    let s = first (ltb at (length ns)) (faultAt m ns at) (curveAt ns at) (outlineFrom left m ns (nextAt ns at)) c cs e in
+    let f = faultless m ns at (s .0) in
     record {
       some = omega arith;
       inside = degree-inside ns at (f .degree);
@@ -85,24 +85,24 @@ outline-begins (suc left) ns at c cs e =
       rest = rw sub-one (s .2);
     }
 
-pub outline-ends : (left : ℕ) (ns : List ℤ) (at : ℕ) → outlineFrom left ns at ≡ curves [] → length ns ≤ at
+pub outline-ends : (left m : ℕ) (ns : List ℤ) (at : ℕ) → outlineFrom left m ns at ≡ curves [] → length ns ≤ at
 unfolding outlineFrom
-outline-ends zero ns at e = ltb-false at (length ns) (no-room (ltb at (length ns)) at [] e .0)
-outline-ends (suc left) ns at e =
-    ltb-false at (length ns) (last (ltb at (length ns)) (faultAt ns at) (curveAt ns at) (outlineFrom left ns (nextAt ns at)) e)
+outline-ends zero m ns at e = ltb-false at (length ns) (no-room (ltb at (length ns)) at [] e .0)
+outline-ends (suc left) m ns at e =
+    ltb-false at (length ns) (last (ltb at (length ns)) (faultAt m ns at) (curveAt ns at) (outlineFrom left m ns (nextAt ns at)) e)
 
 -- ---- the same, where a loop has tested the index
-pub record Continues (left : ℕ) (ns : List ℤ) (at : ℕ) (cs : List Curve) : Type 0 where
+pub record Continues (left m : ℕ) (ns : List ℤ) (at : ℕ) (cs : List Curve) : Type 0 where
   pub rest : List Curve
   pub is : cs ≡ curveAt ns at ∷ rest
-  pub begins : Begins left ns at (curveAt ns at) rest
+  pub begins : Begins left m ns at (curveAt ns at) rest
 
-module _ (left : ℕ) (ns : List ℤ) (at : ℕ) where
-  pub outline-continues : (cs : List Curve) → outlineFrom left ns at ≡ curves cs → at < length ns → Continues left ns at cs
-  outline-continues [] e h = absurd (not-le-of-lt h (outline-ends left ns at e))
+module _ (left m : ℕ) (ns : List ℤ) (at : ℕ) where
+  pub outline-continues : (cs : List Curve) → outlineFrom left m ns at ≡ curves cs → at < length ns → Continues left m ns at cs
+  outline-continues [] e h = absurd (not-le-of-lt h (outline-ends left m ns at e))
   outline-continues (c ∷ cs) e h =
-      let b = outline-begins left ns at c cs e in
-      record { rest = cs; is = ap (λ (d : Curve). d ∷ cs) (b .is); begins = subst (λ d. Begins left ns at d cs) (b .is) b }
+      let b = outline-begins left m ns at c cs e in
+      record { rest = cs; is = ap (λ (d : Curve). d ∷ cs) (b .is); begins = subst (λ d. Begins left m ns at d cs) (b .is) b }
 
-  pub outline-over : (cs : List Curve) → outlineFrom left ns at ≡ curves cs → length ns ≤ at → cs ≡ []
-  outline-over cs e h = let f = outline-ended ns at left h in cc
+  pub outline-over : (cs : List Curve) → outlineFrom left m ns at ≡ curves cs → length ns ≤ at → cs ≡ []
+  outline-over cs e h = let f = outline-ended m ns at left h in cc

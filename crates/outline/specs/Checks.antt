@@ -1,5 +1,5 @@
--- The checks of a tolerance and of an outline, in document 01's order ("Place of each check"), with 17 of document 02.
--- The most curves that an outline may have is a parameter.
+-- The checks of a tolerance and of an outline, in document 01's order ("Place of each check"), with 17 and 20 of
+-- document 02. The most curves that an outline may have and the number of pieces are parameters.
 use mathlib.Core.Bool.{Bool, true, false}
 use mathlib.Core.List.{List, [], _∷_}
 use mathlib.Core.Option.{none, some}
@@ -28,19 +28,19 @@ withCurve c (curves cs) = curves (c ∷ cs)
 withCurve c (faulty r) = faulty r
 
 -- curve by curve from index `at` on: 5 where more than `left` begin, then the faults of each
-unfoldable pub outlineFrom : ℕ → List ℤ → ℕ → Outlined
-outlineFrom zero ns at = elim (ltb at (length ns)) [ true ↦ faulty (TooManyCurves at) | false ↦ curves [] ]
-outlineFrom (suc left) ns at =
+unfoldable pub outlineFrom : (left m : ℕ) → List ℤ → ℕ → Outlined
+outlineFrom zero m ns at = elim (ltb at (length ns)) [ true ↦ faulty (TooManyCurves at) | false ↦ curves [] ]
+outlineFrom (suc left) m ns at =
     elim (ltb at (length ns)) [
       | false ↦ curves []
       | true ↦
-          elim (faultAt ns at) [
+          elim (faultAt m ns at) [
             | some r ↦ faulty r
-            | none ↦ withCurve (curveAt ns at) (outlineFrom left ns (nextAt ns at))
+            | none ↦ withCurve (curveAt ns at) (outlineFrom left m ns (nextAt ns at))
           ]
     ]
 
 -- 6 where the list is empty
-unfoldable pub outlined : ℕ → List ℤ → Outlined
-outlined most [] = faulty EmptyOutline
-outlined most (z ∷ ns) = outlineFrom most (z ∷ ns) 0
+unfoldable pub outlined : (most m : ℕ) → List ℤ → Outlined
+outlined most m [] = faulty EmptyOutline
+outlined most m (z ∷ ns) = outlineFrom most m (z ∷ ns) 0

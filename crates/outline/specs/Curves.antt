@@ -1,14 +1,19 @@
 -- The curves of an outline (document 01, "Outline and tolerance"): a list of numbers, for each curve its degree d, then
 -- x and y of its d + 1 control points. `at` is the index of a curve's degree.
-use mathlib.Core.Bool.{cond}
+use mathlib.Core.Bool.{Bool, cond}
 use mathlib.Core.List.{List}
 use Prim.Native.Nat.{ℕ, _+_, _*_}
 use lib.Dec.{leb}
 use lib.IntN.{ℤ, pos, natAbs}
-use Rattle.setting.specs.Setting.{controlValues}
+use Rattle.setting.specs.Setting.{mostDegree, controlValues}
 use Rattle.integers.specs.Entry.{entry}
+use Rattle.integers.specs.Between.{between}
 use Rattle.curve_nodes.specs.declared.Curve.{Curve}
 use Rattle.curve_halves.specs.Halves.{listed}
+
+-- 2: a degree is 1 to 5
+abbrev pub degreeFine : ℤ → Bool
+degreeFine z = between (pos 1) (pos mostDegree) z
 
 -- how many numbers follow a degree d, and where the next curve begins
 abbrev pub coordinates : ℕ → ℕ

@@ -1,5 +1,5 @@
--- The checks of one curve of an outline, in document 01's order ("Place of each check"), and 17 of document 02, request
--- 03.
+-- The checks of one curve of an outline, in document 01's order ("Place of each check"), with 17 and 20 of document 02,
+-- requests 03 and 08.
 use mathlib.Core.Bool.{Bool, true, false, _&&_, _||_}
 use mathlib.Core.List.{List}
 use mathlib.Core.Option.{Option, none, some}
@@ -7,13 +7,14 @@ use Prim.Native.Nat.{ℕ, _+_, _-_}
 use lib.Dec.{ltb}
 use lib.ListN.{length}
 use lib.IntN.{ℤ, pos, negℤ}
+use Rattle.setting.specs.Setting.{degreePieces}
 use Rattle.integers.specs.Entry.{entry}
 use Rattle.integers.specs.Between.{between}
 use Rattle.integers.specs.Equal.{equal}
 use Rattle.integers.specs.First.{firstBad}
 use Rattle.refusals.specs.declared.Refusal.{Refusal}
-use Rattle.refusals.specs.declared.Refusal.the-variants.{Degree, CutShort, Coordinate, Gap}
-use Rattle.outline.specs.Curves.{coordinates, degreeAt, nextAt}
+use Rattle.refusals.specs.declared.Refusal.the-variants.{Degree, CutShort, Coordinate, Gap, DegreePieces}
+use Rattle.outline.specs.Curves.{degreeFine, coordinates, degreeAt, nextAt}
 
 -- ---- 4: the first of n numbers from index i on that is no coordinate, −1,048,576 to 1,048,576
 abbrev pub coordinateFine : ℤ → Bool
@@ -28,18 +29,22 @@ abbrev pub meetsBefore : List ℤ → ℕ → Bool
 meetsBefore ns at =
     ltb at 2 || (equal (entry ns (at - 2)) (entry ns (at + 1)) && equal (entry ns (at - 1)) (entry ns (at + 2)))
 
--- the faults of the curve whose degree stands at `at`: 2, 3, 4 and 17, in this order
-unfoldable pub faultAt : List ℤ → ℕ → Option Refusal
-faultAt ns at =
-    elim (between (pos 1) (pos 3) (entry ns at)) [
+-- the faults of the curve whose degree stands at `at`, for m pieces: 2, 20, 3, 4 and 17, in this order
+unfoldable pub faultAt : ℕ → List ℤ → ℕ → Option Refusal
+faultAt m ns at =
+    elim (degreeFine (entry ns at)) [
       | false ↦ some (Degree at)
       | true ↦
-          elim (ltb (length ns) (nextAt ns at)) [
-            | true ↦ some (CutShort (length ns))
-            | false ↦
-                elim (firstBeyond ns (coordinates (degreeAt ns at)) (at + 1)) [
-                  | some i ↦ some (Coordinate i)
-                  | none ↦ elim (meetsBefore ns at) [ true ↦ none | false ↦ some (Gap at) ]
+          elim (degreePieces (degreeAt ns at) m) [
+            | false ↦ some (DegreePieces at)
+            | true ↦
+                elim (ltb (length ns) (nextAt ns at)) [
+                  | true ↦ some (CutShort (length ns))
+                  | false ↦
+                      elim (firstBeyond ns (coordinates (degreeAt ns at)) (at + 1)) [
+                        | some i ↦ some (Coordinate i)
+                        | none ↦ elim (meetsBefore ns at) [ true ↦ none | false ↦ some (Gap at) ]
+                      ]
                 ]
           ]
     ]

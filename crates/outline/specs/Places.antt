@@ -15,7 +15,7 @@ placeOf ns at zero = at
 placeOf ns at (suc k) = placeOf ns (nextAt ns at) k
 
 -- from index `at` on, `most` curves have no fault, and one more begins at index i
-pub record OneTooMany (most : ℕ) (ns : List ℤ) (at i : ℕ) : Type 0 where
-  pub no-fault : (k : ℕ) → k < most → faultAt ns (placeOf ns at k) ≡ none
+pub record OneTooMany (most m : ℕ) (ns : List ℤ) (at i : ℕ) : Type 0 where
+  pub no-fault : (k : ℕ) → k < most → faultAt m ns (placeOf ns at k) ≡ none
   pub is : placeOf ns at most ≡ i
   pub begins : i < length ns

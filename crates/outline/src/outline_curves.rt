@@ -2,14 +2,12 @@
 // its d + 1 control points.
 ghost use mathlib.Core.Path.{_≡_};
 ghost use mathlib.Core.Bool.{true};
-ghost use lib.IntN.{pos};
 ghost use Rattle.integers.specs.Entry.{entry};
-ghost use Rattle.integers.specs.Between.{between};
-ghost use Rattle.outline.specs.Curves.{degreeAt, nextAt};
+ghost use Rattle.outline.specs.Curves.{degreeFine, degreeAt, nextAt};
 
 // The degree that stands at index `at`.
 pub fn degree_at(ns: &[i32], at: usize) -> u32
-    requires { ⌜ between (pos 1) (pos 3) (entry (now ns) at) ≡ true ⌝ }
+    requires { ⌜ degreeFine (entry (now ns) at) ≡ true ⌝ }
     ensures { λ r. ⌜ r ≡ degreeAt (now (ns .entry)) at ⌝ }
 {
     ns[at] as u32
@@ -17,7 +15,7 @@ pub fn degree_at(ns: &[i32], at: usize) -> u32
 
 // Where the curve whose degree stands at index `at` is over, and the next begins.
 pub fn next_at(ns: &[i32], at: usize) -> usize
-    requires { ⌜ between (pos 1) (pos 3) (entry (now ns) at) ≡ true ⌝ }
+    requires { ⌜ degreeFine (entry (now ns) at) ≡ true ⌝ }
     ensures { λ r. ⌜ r ≡ nextAt (now (ns .entry)) at ⌝ }
 {
     let d = degree_at(ns, at) as usize;

@@ -1,11 +1,13 @@
-// Checks 2, 3, 4 and 17 of one curve of an outline.
+// Checks 2, 20, 3, 4 and 17 of one curve of an outline.
 ghost use mathlib.Core.Path.{_≡_};
 ghost use Prim.Native.Nat.{_+_, _-_, _≤_, _<_};
 ghost use lib.ListN.{length};
+ghost use Rattle.setting.specs.Setting.{degreePieces};
 ghost use Rattle.outline.specs.Faults.{firstBeyond, meetsBefore, faultAt};
 ghost use Rattle.outline.specs.Inside.{foundOf, faultOf};
 use outline::curve_faults::Fault;
 use outline::curve_faults::Found;
+use outline::outline_curves::degree_at;
 use outline::outline_curves::next_at;
 use refusals::Refusal;
 
@@ -47,17 +49,30 @@ fn meets_before(ns: &[i32], at: usize) -> bool
     false
 }
 
-// Checks 2, 3, 4 and 17 of the curve whose degree stands at index `at`.
-pub fn fault_at(ns: &[i32], at: usize) -> Fault
+// Check 20: whether a degree takes m pieces.
+fn takes_pieces(degree: u32, m: u32) -> bool
+    ensures { λ r. ⌜ r ≡ degreePieces degree m ⌝ }
+{
+    if degree <= 3 {
+        return true;
+    }
+    3 <= m
+}
+
+// Checks 2, 20, 3, 4 and 17 of the curve whose degree stands at index `at`, for m pieces.
+pub fn fault_at(ns: &[i32], at: usize, m: u32) -> Fault
     requires { ⌜ at < length (now ns) ⌝ }
-    ensures { λ r. ⌜ r ≡ faultOf (faultAt (now (ns .entry)) at) ⌝ }
+    ensures { λ r. ⌜ r ≡ faultOf (faultAt m (now (ns .entry)) at) ⌝ }
 {
     let d = ns[at];
     if d < 1 {
         return Fault::Is(Refusal::Degree(at));
     }
-    if 3 < d {
+    if 5 < d {
         return Fault::Is(Refusal::Degree(at));
+    }
+    if !takes_pieces(degree_at(ns, at), m) {
+        return Fault::Is(Refusal::DegreePieces(at));
     }
     let next = next_at(ns, at);
     if ns.len() < next {

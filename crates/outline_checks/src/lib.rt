@@ -1,4 +1,4 @@
-// Checks 1 to 6 and 17 of a tolerance and an outline, in their order.
+// Checks 1 to 6, 17 and 20 of a tolerance and an outline, in their order.
 ghost use mathlib.Core.Path.{_≡_};
 ghost use Rattle.outline.specs.Checks.{toleranceFine, outlined};
 ghost use Rattle.outline.specs.Inside.{checkedOf};
@@ -20,10 +20,10 @@ pub fn tolerance_fine(t: i32) -> bool
     t <= 1048576
 }
 
-// Checks 2 to 6 and 17 of an outline that may have `most` curves, in their order. Every list and every `most` may be
-// asked about.
-pub fn check_outline(ns: &[i32], most: usize) -> Checked
-    ensures { λ r. ⌜ r ≡ checkedOf (outlined most (now (ns .entry))) ⌝ }
+// Checks 2 to 6, 17 and 20 of an outline that may have `most` curves, for m pieces, in their order. Every list, every
+// `most` and every m may be asked about.
+pub fn check_outline(ns: &[i32], most: usize, m: u32) -> Checked
+    ensures { λ r. ⌜ r ≡ checkedOf (outlined most m (now (ns .entry))) ⌝ }
 {
     if ns.len() == 0 {
         return Checked::Faulty(Refusal::EmptyOutline);
@@ -34,7 +34,7 @@ pub fn check_outline(ns: &[i32], most: usize) -> Checked
         if count == most {
             return Checked::Faulty(Refusal::TooManyCurves(at));
         }
-        match fault_at(ns, at) {
+        match fault_at(ns, at, m) {
             Fault::Is(refusal) => {
                 return Checked::Faulty(refusal);
             }

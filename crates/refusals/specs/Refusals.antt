@@ -1,5 +1,5 @@
--- The number and the spot of each refusal (document 01, "Place of each check"; 17 is request 03's, 18
--- request 05's, 19 request 07's).
+-- The number and the spot of each refusal (document 01, "Place of each check"; 17 is request 03's, 18 request 05's, 19
+-- request 07's, 20 request 08's).
 use Prim.Native.Nat.{ℕ, _+_, _*_}
 use Rattle.refusals.specs.declared.Refusal.{Refusal}
 use Rattle.refusals.specs.declared.Refusal.the-variants.{
@@ -23,6 +23,7 @@ use Rattle.refusals.specs.declared.Refusal.the-variants.{
   Gap,
   Pieces,
   TooManyLeaves,
+  DegreePieces,
 }
 
 abbrev pub numberOf : Refusal → ℕ
@@ -46,6 +47,7 @@ numberOf (TextTooLong first) = 16
 numberOf (Gap index) = 17
 numberOf Pieces = 18
 numberOf (TooManyLeaves leaves) = 19
+numberOf (DegreePieces index) = 20
 
 -- a curve and a node of it as one number
 abbrev pub nodeSpot : ℕ → ℕ → ℕ
@@ -72,3 +74,4 @@ spotOf (TextTooLong first) = first
 spotOf (Gap index) = index
 spotOf Pieces = 0
 spotOf (TooManyLeaves leaves) = leaves
+spotOf (DegreePieces index) = index

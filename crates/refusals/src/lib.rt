@@ -43,6 +43,8 @@ pub enum Refusal {
     Pieces,
     // 19: the leaves are more than the caller takes; how many there are.
     TooManyLeaves(usize),
+    // 20: a degree takes more pieces, at this index.
+    DegreePieces(usize),
 }
 
 impl Refusal {
@@ -71,6 +73,7 @@ impl Refusal {
             Refusal::Gap(_) => 17,
             Refusal::Pieces => 18,
             Refusal::TooManyLeaves(_) => 19,
+            Refusal::DegreePieces(_) => 20,
         }
     }
 
@@ -99,6 +102,7 @@ impl Refusal {
             Refusal::Gap(index) => index,
             Refusal::Pieces => 0,
             Refusal::TooManyLeaves(leaves) => leaves,
+            Refusal::DegreePieces(index) => index,
         }
     }
 }

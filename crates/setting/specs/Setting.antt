@@ -1,6 +1,6 @@
 -- What the operations leave open, in one record, and the sizes that follow from it (document 01). Definitions take a
 -- setting; an operation's contract says which.
-use mathlib.Core.Bool.{Bool, _&&_}
+use mathlib.Core.Bool.{Bool, _&&_, _||_, cond}
 use Prim.Native.Nat.{ℕ, suc, _+_, _*_, _≤_}
 use lib.Dec.{leb}
 
@@ -54,13 +54,21 @@ covers σ = σ .pieces
 abbrev pub recordLength : Setting → ℕ
 recordLength σ = 2 + 4 * breakPoints σ
 
+-- the greatest degree (request 08)
+abbrev pub mostDegree : ℕ
+mostDegree = 5
+
+-- 20: degrees 4 and 5 take 3 pieces or more
+abbrev pub degreePieces : ℕ → ℕ → Bool
+degreePieces d m = leb d 3 || leb 3 m
+
 -- how many control values of a coordinate are kept, whatever the degree
 abbrev pub controlValues : ℕ
-controlValues = 4
+controlValues = suc mostDegree
 
--- the greatest depth of a node of a curve of degree d
+-- the greatest depth of a node of a curve of degree d: 8, and 4 for degrees 4 and 5
 abbrev pub deepest : ℕ → ℕ
-deepest d = 8
+deepest d = cond (leb d 3) 8 4
 
 -- the greatest number of a node: the last one at the greatest depth of any degree, 8, is 2^9 − 1
 abbrev pub greatestNode : ℕ

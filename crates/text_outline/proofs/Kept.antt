@@ -11,18 +11,18 @@ use lib.ListN.{length, length-append, List·getD-append}
 use lib.Seq.{getD-append-seam}
 use lib.IntN.{ℤ, pos, natAbs}
 use lib.Signed.{ltZ}
+use Rattle.setting.specs.Setting.{controlValues, degreePieces}
 use Rattle.integers.specs.Entry.{entry}
 use Rattle.refusals.specs.declared.Refusal.{Refusal}
 use Rattle.refusals.specs.declared.Refusal.the-variants.{TooManyCurves}
 use Rattle.curve_halves.proofs.Values.{listed-ext}
-use Rattle.outline.specs.Curves.{coordinates, degreeAt, nextAt, values, curveAt}
-use Rattle.integers.specs.Between.{between}
+use Rattle.outline.specs.Curves.{degreeFine, coordinates, degreeAt, nextAt, values, curveAt}
 use Rattle.integers.specs.Equal.{equal}
 use Rattle.integers.specs.First.{firstBad}
 use Rattle.outline.specs.Faults.{coordinateFine, firstBeyond, meetsBefore, faultAt}
 use Rattle.outline.specs.Inside.{foundOf, faultOf}
 use Rattle.outline.specs.Checks.{faulty, withCurve, outlineFrom, outlined}
-use Rattle.outline.proofs.Faultless.{lastFault, fault-degree, fault-last}
+use Rattle.outline.proofs.Faultless.{lastFault, fault-degree, fault-pieces, fault-last}
 use Rattle.outline.proofs.Steps.{outline-full, outline-faulty, outline-step}
 use Rattle.text_forms.specs.declared.forms.Points.{Points}
 use Rattle.text_forms.specs.declared.forms.Form.{Form}
@@ -69,21 +69,28 @@ module _ {ns ms : List ℤ} {e : ℕ} (a : Agree ns ms e) where
         (ap₂ equal (a .same (at - 2) (omega arith)) (a .same (at + 1) (omega arith)))
         (ap₂ equal (a .same (at - 1) (omega arith)) (a .same (at + 2) (omega arith)))
 
-    fault-same : faultAt ns at ≡ faultAt ms at
-    fault-same = either (between (pos 1) (pos 3) (entry ns at)) refl
+    fault-same : (m : ℕ) → faultAt m ns at ≡ faultAt m ms at
+    fault-same m = either (degreeFine (entry ns at)) refl (degreePieces (degreeAt ns at) m) refl
       where
-        either : (b : Bool) → between (pos 1) (pos 3) (entry ns at) ≡ b → faultAt ns at ≡ faultAt ms at
-        either false f = fault-degree ns at f ∙ sym (fault-degree ms at (ap (between (pos 1) (pos 3)) (sym degree-same) ∙ f))
-        either true f =
-            fault-of (faultAt ns at) (faultAt ms at)
-            (fault-last ns at f (omega (arith, a .first))
-            ∙ ap₂ (λ (m : Bool) (o : Option ℕ). lastFault at m (foundOf o)) meets-same
+        fine-same : degreeFine (entry ms at) ≡ degreeFine (entry ns at)
+        fine-same = ap degreeFine (sym degree-same)
+
+        pieces-same : degreePieces (degreeAt ms at) m ≡ degreePieces (degreeAt ns at) m
+        pieces-same = ap (λ (z : ℤ). degreePieces (natAbs z) m) (sym degree-same)
+
+        either : (b : Bool) → degreeFine (entry ns at) ≡ b → (q : Bool) → degreePieces (degreeAt ns at) m ≡ q → faultAt m ns at ≡ faultAt m ms at
+        either false f q g = fault-degree m ns at f ∙ sym (fault-degree m ms at (fine-same ∙ f))
+        either true f false g = fault-pieces m ns at f g ∙ sym (fault-pieces m ms at (fine-same ∙ f) (pieces-same ∙ g))
+        either true f true g =
+            fault-of (faultAt m ns at) (faultAt m ms at)
+            (fault-last m ns at f g (omega (arith, a .first))
+            ∙ ap₂ (λ (t : Bool) (o : Option ℕ). lastFault at t (foundOf o)) meets-same
             (beyond-same (nextAt ns at - (at + 1)) (at + 1) (omega arith) ∙ ap (λ (n : ℕ). firstBeyond ms (n - (at + 1)) (at + 1)) next-same)
-            ∙ sym (fault-last ms at (ap (between (pos 1) (pos 3)) (sym degree-same) ∙ f) (omega (arith, a .second, next-same))))
+            ∙ sym (fault-last m ms at (fine-same ∙ f) (pieces-same ∙ g) (omega (arith, a .second, next-same))))
 
     -- i is 1 for x and 2 for y
     values-same : (i : ℕ) → i ≤ 2 → values ns (degreeAt ns at) (at + i) ≡ values ms (degreeAt ns at) (at + i)
-    values-same i l = listed-ext 4 _ _ (λ k m. either k (leb k (degreeAt ns at)) refl)
+    values-same i l = listed-ext controlValues _ _ (λ k m. either k (leb k (degreeAt ns at)) refl)
       where
         either : (k : ℕ) (b : Bool) → leb k (degreeAt ns at) ≡ b
             → cond b (entry ns (at + i + 2 * k)) (pos 0) ≡ cond b (entry ms (at + i + 2 * k)) (pos 0)
@@ -135,7 +142,7 @@ numbers-length p r = subst (λ (z : ℤ). length (numbersBy p z) ≡ 1 + coordin
     each (suc (suc (suc (suc d)))) l h = absurd (omega arith)
 
 -- ---- a curve after the numbers `front`, and whatever follows it
-module _ (front : List ℤ) (p : Points) (d : OneToThree (p .degree)) (xs ys : List ℤ) where
+module _ (m : ℕ) (front : List ℤ) (p : Points) (d : OneToThree (p .degree)) (xs ys : List ℤ) where
   abbrev whole : List ℤ → List ℤ
   whole zs = front ++ (numbersOfCurve p ++ zs)
 
@@ -159,10 +166,10 @@ module _ (front : List ℤ) (p : Points) (d : OneToThree (p .degree)) (xs ys : L
       ∙ omega (arith, numbers-length p d, length-append front (numbersOfCurve p))
 
   -- the checks of this curve are the same, and then those of the rest
-  after-curve : (most : ℕ) → outlineFrom most ((front ++ numbersOfCurve p) ++ xs) (length (front ++ numbersOfCurve p))
-      ≡ outlineFrom most ((front ++ numbersOfCurve p) ++ ys) (length (front ++ numbersOfCurve p))
-      → outlineFrom (suc most) (whole xs) (length front) ≡ outlineFrom (suc most) (whole ys) (length front)
-  after-curve most again = either (faultAt (whole xs) (length front)) refl
+  after-curve : (most : ℕ) → outlineFrom most m ((front ++ numbersOfCurve p) ++ xs) (length (front ++ numbersOfCurve p))
+      ≡ outlineFrom most m ((front ++ numbersOfCurve p) ++ ys) (length (front ++ numbersOfCurve p))
+      → outlineFrom (suc most) m (whole xs) (length front) ≡ outlineFrom (suc most) m (whole ys) (length front)
+  after-curve most again = either (faultAt m (whole xs) (length front)) refl
     where
       reach : nextAt (whole xs) (length front) ≤ length (front ++ numbersOfCurve p)
       reach = omega (arith, next-there xs)
@@ -170,44 +177,44 @@ module _ (front : List ℤ) (p : Points) (d : OneToThree (p .degree)) (xs ys : L
       within : (zs : List ℤ) → length front < length (whole zs)
       within zs = omega (arith, reaches zs, length-append front (numbersOfCurve p), numbers-length p d)
 
-      moved : (zs : List ℤ) → outlineFrom most (whole zs) (nextAt (whole zs) (length front))
-          ≡ outlineFrom most ((front ++ numbersOfCurve p) ++ zs) (length (front ++ numbersOfCurve p))
-      moved zs = ap₂ (outlineFrom most) (sym (append-assoc front (numbersOfCurve p) zs)) (next-there zs)
+      moved : (zs : List ℤ) → outlineFrom most m (whole zs) (nextAt (whole zs) (length front))
+          ≡ outlineFrom most m ((front ++ numbersOfCurve p) ++ zs) (length (front ++ numbersOfCurve p))
+      moved zs = ap₂ (outlineFrom most m) (sym (append-assoc front (numbersOfCurve p) zs)) (next-there zs)
 
-      either : (o : Option Refusal) → faultAt (whole xs) (length front) ≡ o
-          → outlineFrom (suc most) (whole xs) (length front) ≡ outlineFrom (suc most) (whole ys) (length front)
+      either : (o : Option Refusal) → faultAt m (whole xs) (length front) ≡ o
+          → outlineFrom (suc most) m (whole xs) (length front) ≡ outlineFrom (suc most) m (whole ys) (length front)
       either (some r) e =
-          outline-faulty (whole xs) (length front) most r (within xs) e
-          ∙ sym (outline-faulty (whole ys) (length front) most r (within ys) (sym (fault-same agree (length front) reach) ∙ e))
+          outline-faulty m (whole xs) (length front) most r (within xs) e
+          ∙ sym (outline-faulty m (whole ys) (length front) most r (within ys) (sym (fault-same agree (length front) reach m) ∙ e))
       either none e =
-          outline-step (whole xs) (length front) most e
+          outline-step m (whole xs) (length front) most e
           ∙ ap₂ withCurve (curve-same agree (length front) reach) (moved xs ∙ again ∙ sym (moved ys))
-          ∙ sym (outline-step (whole ys) (length front) most (sym (fault-same agree (length front) reach) ∙ e))
+          ∙ sym (outline-step m (whole ys) (length front) most (sym (fault-same agree (length front) reach m) ∙ e))
 
 -- ---- line by line
-kept-from : (ls : List Form) → Degrees ls → (most : ℕ) (front : List ℤ)
-    → outlineFrom most (front ++ kept most ls) (length front) ≡ outlineFrom most (front ++ gather curveNumbers ls) (length front)
+kept-from : (m : ℕ) (ls : List Form) → Degrees ls → (most : ℕ) (front : List ℤ)
+    → outlineFrom most m (front ++ kept most ls) (length front) ≡ outlineFrom most m (front ++ gather curveNumbers ls) (length front)
 unfolding kept gather
-kept-from [] d most front = refl
-kept-from (Tolerance t j ∷ ls) d most front = kept-from ls d most front
-kept-from (Point x y j ∷ ls) d most front = kept-from ls d most front
-kept-from (NoForm ∷ ls) d most front = kept-from ls d most front
-kept-from (CurveLine p j ∷ ls) d zero front =
+kept-from m [] d most front = refl
+kept-from m (Tolerance t j ∷ ls) d most front = kept-from m ls d most front
+kept-from m (Point x y j ∷ ls) d most front = kept-from m ls d most front
+kept-from m (NoForm ∷ ls) d most front = kept-from m ls d most front
+kept-from m (CurveLine p j ∷ ls) d zero front =
     begins (p .degree ∷ []) (omega arith) ∙ sym (begins (numbersOfCurve p ++ gather curveNumbers ls) some-there)
   where
-    begins : (zs : List ℤ) → 0 < length zs → outlineFrom 0 (front ++ zs) (length front) ≡ faulty (TooManyCurves (length front))
-    begins zs h = outline-full (front ++ zs) (length front) (omega (arith, length-append front zs))
+    begins : (zs : List ℤ) → 0 < length zs → outlineFrom 0 m (front ++ zs) (length front) ≡ faulty (TooManyCurves (length front))
+    begins zs h = outline-full m (front ++ zs) (length front) (omega (arith, length-append front zs))
 
     some-there : 0 < length (numbersOfCurve p ++ gather curveNumbers ls)
     some-there = omega (arith, length-append (numbersOfCurve p) (gather curveNumbers ls), numbers-length p (d .0))
-kept-from (CurveLine p j ∷ ls) d (suc most) front =
-    after-curve front p (d .0) (kept most ls) (gather curveNumbers ls) most (kept-from ls (d .1) most (front ++ numbersOfCurve p))
+kept-from m (CurveLine p j ∷ ls) d (suc most) front =
+    after-curve m front p (d .0) (kept most ls) (gather curveNumbers ls) most (kept-from m ls (d .1) most (front ++ numbersOfCurve p))
 
 -- ---- what is kept of the lines of a text
-not-empty : (most : ℕ) (ns : List ℤ) → 0 < length ns → outlined most ns ≡ outlineFrom most ns 0
+not-empty : (most m : ℕ) (ns : List ℤ) → 0 < length ns → outlined most m ns ≡ outlineFrom most m ns 0
 unfolding outlined
-not-empty most [] h = absurd (omega arith)
-not-empty most (z ∷ ns) h = refl
+not-empty most m [] h = absurd (omega arith)
+not-empty most m (z ∷ ns) h = refl
 
 module _ (p : Points) (j : ℕ) (ls : List Form) (d : OneToThree (p .degree)) where
   curve-some : (xs : List ℤ) → 0 < length (numbersOfCurve p ++ xs)
@@ -218,23 +225,23 @@ module _ (p : Points) (j : ℕ) (ls : List Form) (d : OneToThree (p .degree)) wh
   kept-some zero = omega arith
   kept-some (suc most) = curve-some (kept most ls)
 
-kept-lines : (ls : List Form) → Degrees ls → (most : ℕ) → outlined most (kept most ls) ≡ outlined most (gather curveNumbers ls)
+kept-lines : (m : ℕ) (ls : List Form) → Degrees ls → (most : ℕ) → outlined most m (kept most ls) ≡ outlined most m (gather curveNumbers ls)
 unfolding kept gather
-kept-lines [] d most = refl
-kept-lines (Tolerance t j ∷ ls) d most = kept-lines ls d most
-kept-lines (Point x y j ∷ ls) d most = kept-lines ls d most
-kept-lines (NoForm ∷ ls) d most = kept-lines ls d most
-kept-lines (CurveLine p j ∷ ls) d most =
-    not-empty most (kept most (CurveLine p j ∷ ls)) (kept-some p j ls (d .0) most)
-    ∙ kept-from (CurveLine p j ∷ ls) d most []
-    ∙ sym (not-empty most (numbersOfCurve p ++ gather curveNumbers ls) (curve-some p j ls (d .0) (gather curveNumbers ls)))
+kept-lines m [] d most = refl
+kept-lines m (Tolerance t j ∷ ls) d most = kept-lines m ls d most
+kept-lines m (Point x y j ∷ ls) d most = kept-lines m ls d most
+kept-lines m (NoForm ∷ ls) d most = kept-lines m ls d most
+kept-lines m (CurveLine p j ∷ ls) d most =
+    not-empty most m (kept most (CurveLine p j ∷ ls)) (kept-some p j ls (d .0) most)
+    ∙ kept-from m (CurveLine p j ∷ ls) d most []
+    ∙ sym (not-empty most m (numbersOfCurve p ++ gather curveNumbers ls) (curve-some p j ls (d .0) (gather curveNumbers ls)))
 
 -- ---- and of a text that is accepted: the checks of its outline, and so banding, find the same
-pub outline-kept : (most : ℕ) (s : List ℕ) (T : ℤ) (outline : List ℤ) (points : List (ℤ × ℤ)) → meaning s ≡ means T outline points
-    → outlined most (kept most (linesOf s)) ≡ outlined most outline
+pub outline-kept : (most m : ℕ) (s : List ℕ) (T : ℤ) (outline : List ℤ) (points : List (ℤ × ℤ)) → meaning s ≡ means T outline points
+    → outlined most m (kept most (linesOf s)) ≡ outlined most m outline
 unfolding linesOf
-outline-kept most s T outline points e =
-    kept-lines (linesOf s) (lines-degrees (length s) s 0) most ∙ ap (outlined most) (sym (accepted s T outline points e .outline))
+outline-kept most m s T outline points e =
+    kept-lines m (linesOf s) (lines-degrees (length s) s 0) most ∙ ap (outlined most m) (sym (accepted s T outline points e .outline))
 
 -- ---- and it is no more than nine numbers a curve, and one
 pub kept-few : (most : ℕ) (ls : List Form) → length (kept most ls) ≤ 9 * most + 1

@@ -1,19 +1,23 @@
 -- Where a walk stands, a part of a curve: the curve itself, the left half of a part, the part after one, and what the walk asks of a part.
 use mathlib.Core.Path.{_≡_, refl, sym, _∙_, ap, ap₂}
 use mathlib.Core.Logic.{⊎-elim}
-use mathlib.Core.Bool.{Bool}
-use Prim.Native.Nat.{ℕ, _+_, _*_, _^_, _≤_, _<_}
-use native.Mathlib.Nat.{div-le-self}
+use mathlib.Core.Bool.{Bool, true}
+use Prim.Native.Nat.{ℕ, suc, _+_, _*_, _^_, _≤_, _<_}
+use native.Mathlib.Nat.{div-le-self, pow-suc}
 use native.Mathlib.Omega.{arith}
+use lib.Pow.{pow-pos}
 use lib.Count.{trailingZeros}
 use lib.IntN.{ℤ}
-use Rattle.setting.specs.Setting.{Setting}
+use Rattle.setting.specs.Setting.{Setting, degreePieces, deepest, greatestNode}
+use Rattle.setting.proofs.Depths.{deepest-low, deepest-high, deepest-few}
+use Rattle.setting.proofs.Pieces.{degree-takes}
 use Rattle.curve_nodes.specs.declared.Curve.{Curve}
 use Rattle.curve_nodes.specs.Inside.{onwardOf, Halvable}
 use Rattle.curve_nodes.specs.Halves.{leftHalf}
 use Rattle.curve_nodes.specs.Nodes.{depth, nodeCurve, after}
 use Rattle.curve_nodes.specs.Bounds.{Sized}
 use Rattle.curve_nodes.proofs.Numbers.{depth-under, node-one, node-half, after-shifted}
+use Rattle.curve_nodes.proofs.Coordinates.{node-degree}
 use Rattle.curve_nodes.proofs.Sizes.{node-sized, node-halvable}
 use Rattle.curve_nodes.proofs.Onward.{NextStretch, next-stretch, few-zeros, node-onward}
 use Rattle.bound_node.specs.Boxes.{meets}
@@ -26,28 +30,51 @@ abbrev pub part : ℕ → Curve → Part
 part n c = record { node = n; curve = c }
 
 pub part-whole : {c : Curve} → Sized 0 c → PartOf c (part 1 c)
-part-whole {c} h = record { sized = h; some = omega arith; deep = omega arith; is = sym (node-one c) }
+part-whole {c} h = record {
+  sized = h;
+  some = omega arith;
+  deep = omega (arith, pow-suc 2 (deepest (c .degree)), pow-pos (deepest (c .degree)));
+  is = sym (node-one c);
+}
 
 module _ {root : Curve} {p : Part} (h : PartOf root p) where
   pub part-sized : Sized (depth (p .node)) (p .curve)
   part-sized = rw (h .is) (node-sized (h .sized) (p .node) (h .some))
 
-  pub part-shallow : depth (p .node) ≤ 8
-  part-shallow = depth-under (p .node) 8 (h .some) (h .deep)
+  pub part-degree : p .curve .degree ≡ root .degree
+  part-degree = ap (λ c. c .degree) (h .is) ∙ node-degree root (p .node) (h .some)
+
+  pub part-shallow : depth (p .node) ≤ deepest (p .curve .degree)
+  part-shallow = rw part-degree (depth-under (p .node) (deepest (root .degree)) (h .some) (h .deep))
+
+  -- its number is that of a node
+  pub part-node : p .node < suc greatestNode
+  part-node = omega (arith, h .deep, pow-suc 2 (deepest (root .degree)), deepest-few (root .degree))
 
   pub part-halvable : Halvable (p .curve)
   part-halvable = rw (h .is) (node-halvable (h .sized) (p .node) (h .some) (h .deep))
 
   -- the test of a part, at the depth that the code computed, is the test of its node
-  pub part-meets : (σ : Setting) (T : ℤ) {k : ℕ} {r v : Bool} → k ≡ depth (p .node) → r ≡ meets σ T k (p .curve) → r ≡ v
-      → nodeMeets σ T root (p .node) ≡ v
-  part-meets σ T e f g = ap₂ (λ k c. meets σ T k c) (sym e) (sym (h .is)) ∙ sym f ∙ g
+  pub part-meets : (σ : Setting) (T : ℤ) {k : ℕ} {c : Curve} {r : Bool} → k ≡ depth (p .node) → c ≡ p .curve → r ≡ meets σ T k c
+      → r ≡ nodeMeets σ T root (p .node)
+  part-meets σ T e f g = g ∙ ap₂ (λ k c. meets σ T k c) e (f ∙ h .is)
 
-  pub part-left : p .node < 256 → PartOf root (leftPart p)
+  -- what the test of degrees 1 to 3 asks of it
+  pub part-low : p .curve .degree ≤ 3 → depth (p .node) ≤ 8
+  part-low l = rw (deepest-low (p .curve .degree) l) at part-shallow
+
+  -- what the test of degrees 4 and 5 asks of it
+  pub part-high : 3 < p .curve .degree → depth (p .node) ≤ 4
+  part-high l = rw (deepest-high (p .curve .degree) l) at part-shallow
+
+  pub part-pieces : {m : ℕ} → degreePieces (root .degree) m ≡ true → 3 < p .curve .degree → 3 ≤ m
+  part-pieces {m} e l = degree-takes (root .degree) m .0 e (rw part-degree at l)
+
+  pub part-left : p .node < 2 ^ deepest (root .degree) → PartOf root (leftPart p)
   part-left l = let n = p .node in record {
     sized = h .sized;
     some = omega (arith, h .some);
-    deep = omega arith;
+    deep = omega (arith, pow-suc 2 (deepest (root .degree)));
     is = ap leftHalf (h .is) ∙ sym (node-half root n 0 (h .some) (omega arith)) ∙ ap (nodeCurve root) {x = 2 * n + 0} {y = 2 * n} (omega arith);
   }
 
@@ -61,10 +88,10 @@ module _ {p : Part} (h : Standing p) where
 
   module _ (more : after (p .node) ≡ 1 → ⊥) where
     follows : NextStretch (zeros (p .node)) (p .node) (after (p .node))
-    follows = ⊎-elim (λ e. absurd (more e)) (λ x. x) (next-stretch (p .node) (h .1 .some) 32 (omega (arith, h .1 .deep)))
+    follows = ⊎-elim (λ e. absurd (more e)) (λ x. x) (next-stretch (p .node) (h .1 .some) 32 (omega (arith, part-node (h .1))))
 
     pub part-zeros : zeros (p .node) ≤ 7
-    part-zeros = few-zeros (h .1 .some) (h .1 .deep) follows
+    part-zeros = few-zeros (h .1 .some) (part-node (h .1)) follows
 
     pub after-onward : AfterOf p (part (after (p .node)) (onwardOf (zeros (p .node)) (p .curve)))
     after-onward = let n = p .node in record {
@@ -72,7 +99,14 @@ module _ {p : Part} (h : Standing p) where
       of = λ {root} o k. record {
         sized = o .sized;
         some = omega (arith, follows .is);
-        deep = omega (arith, follows .is, o .deep, after-shifted 32 n (omega (arith, o .deep)), div-le-self (n + 1) (2 ^ zeros n));
+        deep = omega (
+          arith,
+          follows .is,
+          o .deep,
+          pow-suc 2 (deepest (root .degree)),
+          after-shifted 32 n (omega (arith, part-node o)),
+          div-le-self (n + 1) (2 ^ zeros n),
+        );
         is = ap (onwardOf (zeros n)) (o .is) ∙ node-onward root (o .sized .most) (o .some) follows;
       };
       end = λ e. absurd (more e);

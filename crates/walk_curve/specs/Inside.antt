@@ -2,10 +2,10 @@
 -- of a curve finds. A part of a curve is one of its nodes, with the node's own curve.
 use mathlib.Core.Path.{_≡_}
 use mathlib.Core.Option.{none, some}
-use Prim.Native.Nat.{ℕ, suc, _*_, _<_}
+use Prim.Native.Nat.{ℕ, suc, _*_, _^_, _<_}
 use lib.ListN.{length}
 use lib.IntN.{ℤ}
-use Rattle.setting.specs.Setting.{Setting, greatestNode}
+use Rattle.setting.specs.Setting.{Setting, deepest}
 use Rattle.curve_nodes.specs.declared.Curve.{Curve}
 use Rattle.curve_nodes.specs.Bounds.{Sized}
 use Rattle.curve_nodes.specs.Halves.{leftHalf}
@@ -16,11 +16,11 @@ use Rattle.walk_curve.specs.declared.Walked.{Walked}
 use Rattle.walk_curve.specs.declared.Walked.the-variants.{Leaves, WideNode}
 use Rattle.walk_curve.specs.Walked.{nodeMeets, endsOf}
 
--- p is a part of the curve `root`, and no deeper than nodes go
+-- p is a part of the curve `root`, and no deeper than its nodes go
 pub record PartOf (root : Curve) (p : Part) : Type 0 where
   pub sized : Sized 0 root
   pub some : 0 < p .node
-  pub deep : p .node < suc greatestNode
+  pub deep : p .node < 2 ^ suc (deepest (root .degree))
   pub is : p .curve ≡ nodeCurve root (p .node)
 
 -- p is a part of some curve

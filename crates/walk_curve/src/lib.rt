@@ -1,7 +1,8 @@
 // The walk of a curve in parameter order, from its root on: where it stands, its steps, and a curve walked.
 ghost use mathlib.Core.Path.{_≡_};
+ghost use mathlib.Core.Bool.{true};
 ghost use Prim.Native.Nat.{_<_, _^_};
-ghost use Rattle.setting.specs.Setting.{lists, deepest};
+ghost use Rattle.setting.specs.Setting.{lists, deepest, degreePieces};
 ghost use Rattle.curve_nodes.specs.Bounds.{Sized};
 ghost use Rattle.bound_node.specs.Inside.{Ready};
 ghost use Rattle.walk_curve.specs.Inside.{Standing, leftPart, AfterOf, walkedOf};
@@ -51,24 +52,37 @@ pub enum Walked {
     WideNode(u32),
 }
 
+// The first node at the last depth of a degree.
+pub fn first_deepest(degree: u32) -> u32
+    ensures { λ r. ⌜ r ≡ 2 ^ deepest degree ⌝ }
+{
+    if degree <= 3 { 256 } else { 16 }
+}
+
 // The leaves of a curve, counted. The rows lent are those of the number of pieces.
 pub fn walk(rows: &[i64], pieces: Pieces, curve: Curve, t: i64) -> Walked
-    requires { ⌜ (Ready pieces (now rows)) × (Sized 0 curve) ⌝ }
+    requires { ⌜ (Ready pieces (now rows)) × (Sized 0 curve) × (degreePieces (curve .degree) (pieces .m) ≡ true) ⌝ }
     ensures { λ r. ⌜ r ≡ walkedOf (lists (pieces .m)) t curve ⌝ }
 {
+    let last = first_deepest(curve.degree);
     let mut part = Part { node: 1, curve };
     let mut leaves: usize = 0;
     loop {
         let node = part.node;
         let own = part.curve;
-        if bound_node::tolerance::meets(rows, pieces, own, curve_nodes::depth(node), t) {
+        let met = if own.degree < 4 {
+            bound_node::tolerance::meets(rows, pieces, own, curve_nodes::depth(node), t)
+        } else {
+            bound_node::higher::meets(rows, pieces, own.same(), curve_nodes::depth(node), t)
+        };
+        if met {
             leaves += 1;
             part = part.after();
             if part.node == 1 {
                 return Walked::Leaves(leaves);
             }
         } else {
-            if 256 <= node {
+            if last <= node {
                 return Walked::WideNode(node);
             }
             part = part.left();

@@ -1,7 +1,7 @@
 //! Banding: the inputs and the table.
 
 use crate::times::{by_turns, heading};
-use bench::outlines::{cubics, nominal};
+use bench::outlines::{cubics, nominal, quartics, quintics};
 use contour_band::record_length;
 use std::hint::black_box;
 
@@ -20,6 +20,11 @@ pub fn run() {
         }
         for tolerance in [3, 16] {
             row(&format!("nominal, 20 curves, T {tolerance}, m {m}"), &nominal, tolerance, m);
+        }
+    }
+    for (name, outline) in [("quartic", quartics()), ("quintic", quintics())] {
+        for (m, tolerance) in [3, 8].into_iter().flat_map(|m| [3, 16, 256, 65_536].map(|t| (m, t))) {
+            row(&format!("64 {name} curves, T {tolerance}, m {m}"), &outline, tolerance, m);
         }
     }
 }

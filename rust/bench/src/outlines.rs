@@ -32,6 +32,32 @@ pub fn arches(depth: u32) -> Vec<i32> {
     (0..64).flat_map(|i| [2, 1_000 * i, 0, 1_000 * i + 500, height, 1_000 * i + 1_000, 0]).collect()
 }
 
+/// 64 curves of degree 4 round a circle that swing out and in, nearly as far as T 3 accepts with three pieces.
+pub fn quartics() -> Vec<i32> {
+    swinging(4, 45.0)
+}
+
+/// 64 curves of degree 5 round a circle that swing out and in, nearly as far as T 3 accepts with three pieces.
+pub fn quintics() -> Vec<i32> {
+    swinging(5, 35.0)
+}
+
+/// 64 curves of degree 4 or 5 round a circle. They are halved four times at most, so both the circle and the
+/// swing are smaller than with cubic curves.
+fn swinging(degree: i32, swing: f64) -> Vec<i32> {
+    let mut outline = Vec::new();
+    for i in 0..64 {
+        outline.push(degree);
+        for j in 0..=degree {
+            let along = f64::from(j) / f64::from(degree);
+            let angle = TAU * (f64::from(i) + along) / 64.0;
+            let radius = 20_000.0 + swing * (TAU * along).sin();
+            outline.extend([(radius * angle.cos()).round() as i32, (radius * angle.sin()).round() as i32]);
+        }
+    }
+    outline
+}
+
 /// A punch of 20 curves in stage units: straight sides, round corners, and a notch with a curved
 /// floor. Each curve begins where the one before ends.
 #[rustfmt::skip]

@@ -55,12 +55,13 @@ impl Curve {
             match points.len() / 2 {
                 2 => [c(0), c(1) - c(0), 0.0, 0.0],
                 3 => [c(0), 2.0 * (c(1) - c(0)), c(0) - 2.0 * c(1) + c(2), 0.0],
-                _ => [
+                4 => [
                     c(0),
                     3.0 * (c(1) - c(0)),
                     3.0 * (c(0) - 2.0 * c(1) + c(2)),
                     c(3) - c(0) + 3.0 * (c(1) - c(2)),
                 ],
+                points => panic!("the method has no curves of {points} points"),
             }
         }))
     }

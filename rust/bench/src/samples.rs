@@ -47,7 +47,8 @@ fn random_outlines() {
     let mut missed = [0; 3];
     let mut accepted = 0;
     while accepted < OUTLINES {
-        let (outline, tolerance) = (outlines::outline(&mut random), outlines::tolerance(&mut random));
+        let outline = outlines::outline(&mut random, 1..=3);
+        let tolerance = outlines::tolerance(&mut random);
         let Some(bands) = Bands::new(&outline, tolerance) else { continue };
         accepted += 1;
         let misses = bands.each(|band| usize::from(band.misses().next().is_some()));

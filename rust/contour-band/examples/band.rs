@@ -23,7 +23,7 @@ fn main() -> Result<(), Refusal> {
             println!();
         }
     }
-    let refused = band(&[4], 44, M, &mut []).expect_err("there is no degree 4");
-    println!("degree 4: {refused}");
+    let refused = band(&[6], 44, M, &mut []).expect_err("there is no degree 6");
+    println!("degree 6: {refused}");
     Ok(())
 }

@@ -16,15 +16,17 @@ pub struct Report {
 
 /// Puts a band round an outline.
 ///
-/// `outline` has for each curve its degree d (1, 2 or 3), then x and y of its d + 1 control points
+/// `outline` has for each curve its degree d (1 to 5), then x and y of its d + 1 control points
 /// in stage units, each from −1,048,576 to 1,048,576. There are 1 to 4,096 curves, and each begins where
 /// the one before it ends; the outline may stay open at its ends. `tolerance` is the greatest diagonal
-/// of a box, 2 to 1,048,576 sixteenths of a unit. `m` is how many straight pieces a leaf has, 1 to 8: the
-/// more, the fewer leaves there are as a rule, and the longer is a record.
+/// of a box, 2 to 1,048,576 sixteenths of a unit. `m` is how many straight pieces a leaf has, 1 to 8, and
+/// 3 to 8 where a curve has degree 4 or 5: the more, the fewer leaves there are as a rule, and the longer is
+/// a record.
 ///
 /// The leaves are written to the front of `records`, [`record_length(m)`](crate::record_length) numbers
 /// each, by curve and then by parameter; [`leaves`](crate::leaves) reads them. The numbers past them stay
-/// as they were. A list of `record_length(m)` × 256 numbers for each curve is always long enough.
+/// as they were. A curve is halved 8 times at most, and 4 times where its degree is 4 or 5, so a list of
+/// `record_length(m)` × 256 numbers for each curve, or × 16 for one of degree 4 or 5, is always long enough.
 ///
 /// ```
 /// use contour_band::{band, leaves, record_length, Refusal};
@@ -43,7 +45,7 @@ pub struct Report {
 /// let mut records = vec![0; record_length(8)];
 /// assert_eq!(band(&outline, 7, 8, &mut records)?.leaves, 1);
 ///
-/// let refusal = band(&[4, 0, 0], 43, m, &mut records).unwrap_err();
+/// let refusal = band(&[6, 0, 0], 43, m, &mut records).unwrap_err();
 /// assert_eq!(refusal, Refusal::Degree { index: 0 });
 /// assert_eq!((refusal.number(), refusal.spot()), (2, 0));
 /// assert_eq!(band(&outline, 43, 9, &mut records), Err(Refusal::Pieces));

@@ -1,12 +1,12 @@
 //! Contour bands of Bézier outlines, by the proved engine.
 //!
-//! An outline is a list of numbers: for each curve its degree d (1, 2 or 3), then x and y of its
+//! An outline is a list of numbers: for each curve its degree d (1 to 5), then x and y of its
 //! d + 1 control points in stage units. [`band`] encloses it in boxes whose diagonals are at most a
 //! tolerance long, and writes them to a list that the caller lends: for each leaf, which is a stretch of a
-//! curve, m straight pieces with a box at each of their m + 1 ends. The caller chooses m, 1 to 8.
-//! [`station_band`] does the same for the bench station, which takes less. [`leaves`] reads the records.
-//! [`judge`] says of a measured point whether it lies on what the boxes cover, and
-//! [`band_and_judge`] does both. [`draw`] draws the convex hull of two boxes.
+//! curve, m straight pieces with a box at each of their m + 1 ends. The caller chooses m, 1 to 8, or 3 to 8
+//! where a curve has degree 4 or 5. [`station_band`] does the same for the bench station, which takes less.
+//! [`leaves`] reads the records. [`judge`] says of a measured point whether it lies on what the boxes cover,
+//! and [`band_and_judge`] does both. [`draw`] draws the convex hull of two boxes.
 //!
 //! Two lines at the root of the repository build the archive that is linked, and run a program with it:
 //!

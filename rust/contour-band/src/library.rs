@@ -182,7 +182,7 @@ mod tests {
             assert_eq!(band(&[], 1, m, &mut []), refused(18, 0));
         }
         assert_eq!(band(&line, 1, 3, &mut records), refused(1, 0));
-        assert_eq!(band(&[4], 2, 3, &mut records), refused(2, 0));
+        assert_eq!(band(&[6], 2, 3, &mut records), refused(2, 0));
         assert_eq!(band(&[1, 0], 2, 3, &mut records), refused(3, 2));
         assert_eq!(band(&[1, 0, 0, 1_048_577, 0], 2, 3, &mut records), refused(4, 3));
         assert_eq!(band(&[1, 0, 0, 0, 0].repeat(4_097), 2, 3, &mut records), refused(5, 20_480));
@@ -206,6 +206,25 @@ mod tests {
         let bow = [2, 0, 0, 0, 800, 0, 0];
         assert_eq!(station_band(&bow.repeat(32), 100, 3, &mut []), refused(8, 128));
         assert_eq!(station_band(&bow.repeat(33), 100, 3, &mut []), refused(19, 132));
+    }
+
+    #[test]
+    fn degrees_4_and_5_have_refusals_of_their_own() {
+        let refused = |refusal, spot| Answer { refusal, spot, curves: 0, leaves: 0, nodes: 0 };
+        let mut records = [0; 18];
+        for degree in [4, 5] {
+            for m in [1, 2] {
+                assert_eq!(band(&[degree], 2, m, &mut records), refused(20, 0));
+            }
+            assert_eq!(band(&[degree], 2, 3, &mut records), refused(3, 1));
+            // At (0 0), (0 2^20), .. (0 2^20), (0 0).
+            let mut steep = [0, 1_048_576].repeat(degree as usize + 1);
+            steep[1] = 0;
+            *steep.last_mut().expect("there are points") = 0;
+            steep.insert(0, degree);
+            assert_eq!(band(&steep, 2, 3, &mut records), refused(7, 16));
+        }
+        assert_eq!(records, [0; 18]);
     }
 
     const FAR: i32 = 536_870_912;

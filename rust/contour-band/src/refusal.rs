@@ -11,8 +11,13 @@ pub enum Refusal {
     Pieces,
     /// 1: the tolerance is not 2 to 1,048,576.
     Tolerance,
-    /// 2: a degree is not 1, 2 or 3.
+    /// 2: a degree is not 1 to 5.
     Degree {
+        /// The degree's index in the outline.
+        index: usize,
+    },
+    /// 20: a degree is 4 or 5, and m is below 3.
+    TooFewPieces {
         /// The degree's index in the outline.
         index: usize,
     },
@@ -42,7 +47,7 @@ pub enum Refusal {
     TooWide {
         /// The number of the curve, from 0.
         curve: usize,
-        /// The first such node of the walk, 256 to 511.
+        /// The first such node of the walk: 256 to 511, or 16 to 31 where the curve's degree is 4 or 5.
         node: u32,
     },
     /// 8: the lent list has fewer numbers than the leaves need.
@@ -103,6 +108,7 @@ impl Refusal {
             Refusal::Gap { .. } => 17,
             Refusal::Pieces => 18,
             Refusal::TooManyLeaves { .. } => 19,
+            Refusal::TooFewPieces { .. } => 20,
         }
     }
 
@@ -115,7 +121,8 @@ impl Refusal {
             | Refusal::Coordinate { index }
             | Refusal::TooManyCurves { index }
             | Refusal::LeafListNumber { index }
-            | Refusal::Gap { index } => index as u64,
+            | Refusal::Gap { index }
+            | Refusal::TooFewPieces { index } => index as u64,
             Refusal::CutShort { length } | Refusal::LeafListLength { length } => length as u64,
             Refusal::TooWide { curve, node } => 512 * curve as u64 + u64::from(node),
             Refusal::TooFewRecords { leaves } | Refusal::TooManyLeaves { leaves } => leaves as u64,
@@ -149,6 +156,7 @@ impl Refusal {
             17 => Refusal::Gap { index: place },
             18 => Refusal::Pieces,
             19 => Refusal::TooManyLeaves { leaves: place },
+            20 => Refusal::TooFewPieces { index: place },
             _ => panic!("the library answered refusal {number} at {spot}, which does not exist"),
         }
     }
@@ -160,7 +168,8 @@ impl fmt::Display for Refusal {
         match self {
             Refusal::Pieces => write!(f, "the number of pieces is not 1 to 8"),
             Refusal::Tolerance => write!(f, "the tolerance is outside its range"),
-            Refusal::Degree { .. } => write!(f, "a degree is not 1, 2 or 3"),
+            Refusal::Degree { .. } => write!(f, "a degree is not 1 to 5"),
+            Refusal::TooFewPieces { .. } => write!(f, "a curve of degree 4 or 5 takes 3 to 8 pieces"),
             Refusal::CutShort { .. } => write!(f, "the outline ends inside a curve"),
             Refusal::Coordinate { .. } => write!(f, "a coordinate is outside its range"),
             Refusal::TooManyCurves { .. } => write!(f, "the outline has more curves than are taken"),
@@ -200,7 +209,7 @@ mod tests {
     #[test]
     fn number_and_spot_are_what_the_library_answered() {
         let places = [0, 1, 17, 575, 32_767];
-        for number in (2..=10).chain(12..=13).chain([17, 19]) {
+        for number in (2..=10).chain(12..=13).chain([17, 19, 20]) {
             for place in places {
                 // 6 has the spot 0 only.
                 let spot = if number == 6 { 0 } else { place };

@@ -73,6 +73,35 @@ fn curve_a_in_pieces() {
     assert_eq!(written_in(2, &CURVE_A, 94).1, [0, 1, 0, 0, 0, 94, 240, 240, 360, 454, 480, 480, 0, 94]);
 }
 
+/// Curves of degrees 4 and 5 with second differences −20 in y, each with the least tolerance at which it is one
+/// leaf, by m from 3.
+const HIGHER: [(&[i32], [i32; 6]); 2] = [
+    (&[4, 0, 0, 210, 30, 420, 40, 630, 30, 840, 0], [56, 32, 21, 15, 11, 9]),
+    (&[5, 0, 0, 168, 40, 336, 60, 504, 60, 672, 40, 840, 0], [95, 53, 34, 24, 18, 14]),
+];
+
+#[test]
+fn degrees_4_and_5_in_pieces() {
+    for (outline, least) in HIGHER {
+        for (m, tolerance) in (3..=8).zip(least) {
+            let (report, records) = written_in(m, outline, tolerance);
+            assert_eq!(report, Report { curves: 1, leaves: 1, nodes: 1 });
+            assert_eq!(written_in(m, outline, tolerance - 1).0.leaves, 2);
+            assert_eq!(judge(&records, m, 16 * 840, 0), Ok(Judgement::On { leaf: 0, cover: m as usize - 1 }));
+        }
+        for m in 1..=2 {
+            assert_eq!(band(outline, 1_000, m, &mut []), Err(Refusal::TooFewPieces { index: 0 }));
+        }
+    }
+    let quartic = [0, 1, 0, 0, 0, 56, 4480, 4480, 426, 482, 8960, 8960, 426, 482, 13440, 13440, 0, 56];
+    assert_eq!(written(HIGHER[0].0, 56).1, quartic);
+    let quintic = [0, 1, 0, 0, 0, 95, 4480, 4480, 711, 806, 8960, 8960, 711, 806, 13440, 13440, 0, 95];
+    assert_eq!(written(HIGHER[1].0, 95).1, quintic);
+    // Halved four times and no more.
+    let steep = [4, 0, 0, 0, 1_048_576, 0, 1_048_576, 0, 1_048_576, 0, 0];
+    assert_eq!(band(&steep, 2, M, &mut []), Err(Refusal::TooWide { curve: 0, node: 16 }));
+}
+
 #[test]
 fn pieces_out_of_range() {
     let mut lent = [7; 100];
@@ -97,7 +126,7 @@ fn limits_and_refusals() {
     assert_eq!(refused(&CURVE_A, 1), Refusal::Tolerance);
     assert_eq!(refused(&[1, 0, 0, 0, 1_048_577], 2), Refusal::Coordinate { index: 4 });
     assert_eq!(refused(&[], 2), Refusal::EmptyOutline);
-    assert_eq!(refused(&[4; 11], 44), Refusal::Degree { index: 0 });
+    assert_eq!(refused(&[6; 15], 44), Refusal::Degree { index: 0 });
     let steep = [3, 0, 0, 0, 1_048_576, 0, 1_048_576, 0, 0];
     assert_eq!(refused(&steep, 2), Refusal::TooWide { curve: 0, node: 256 });
     assert_eq!(refused(&CURVE_A, 43), Refusal::TooFewRecords { leaves: 2 });

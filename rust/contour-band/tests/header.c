@@ -42,6 +42,19 @@ static void band_and_judge(const int32_t *outline, int32_t *records) {
     print_outcome(contour_band_and_judge(outline, 9, 43, 0, records, 2 * CONTOUR_BAND_RECORD(M), 240, 371));
 }
 
+/* Degrees 4 and 5, and the degree after them. */
+static void higher(int32_t *records) {
+    const int32_t quartic[11] = {4, 0, 0, 210, 30, 420, 40, 630, 30, 840, 0};
+    const int32_t quintic[13] = {CONTOUR_BAND_DEGREE_MAX, 0, 0, 168, 40, 336, 60, 504, 60, 672, 40, 840, 0};
+    const int32_t sextic[1] = {CONTOUR_BAND_DEGREE_MAX + 1};
+    print(contour_band(quartic, 11, 55, M, records, 2 * CONTOUR_BAND_RECORD(M)));
+    print(contour_band(quintic, 13, 95, M, records, 2 * CONTOUR_BAND_RECORD(M)));
+    print(contour_band(quartic, 11, 55, M - 1, records, 2 * CONTOUR_BAND_RECORD(M)));
+    print(contour_band(quintic, 12, 95, M - 1, records, 2 * CONTOUR_BAND_RECORD(M)));
+    print(contour_band(quintic, 12, 95, M, records, 2 * CONTOUR_BAND_RECORD(M)));
+    print(contour_band(sextic, 1, 44, M - 1, records, 2 * CONTOUR_BAND_RECORD(M)));
+}
+
 static void draw(struct contour_band_box first, struct contour_band_box second, size_t length) {
     int32_t vertices[CONTOUR_BAND_VERTEX_ROOM] = {0};
     struct contour_band_drawing drawing = contour_draw(first, second, vertices, length);
@@ -84,6 +97,7 @@ int main(void) {
     print(contour_band(outline, 9, 44, negative, records, CONTOUR_BAND_RECORD(M)));
     judge(records, CONTOUR_BAND_RECORD(M));
     band_and_judge(outline, records);
+    higher(records);
 
     for (uint32_t m = CONTOUR_BAND_PIECES_MIN; m <= CONTOUR_BAND_PIECES_MAX; m++) {
         int32_t whole[CONTOUR_BAND_RECORD(CONTOUR_BAND_PIECES_MAX)] = {0};

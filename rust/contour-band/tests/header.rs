@@ -34,6 +34,12 @@ const EXPECTED: &str = "\
   0 0 0
 18 0 0 0 0
   0 0 0
+0 0 1 2 3
+0 0 1 1 1
+20 0 0 0 0
+20 0 0 0 0
+3 12 0 0 0
+2 0 0 0 0
 0 0 1 1 1
 0 0 1 0 0
 0 0 1 1 1
@@ -82,7 +88,7 @@ fn the_station_takes_little_stack() {
     let bytes: Vec<i32> = printed.lines().map(|line| line.parse().expect("a number is printed")).collect();
     let (least, most) = (bytes.iter().min().expect("some are"), bytes.iter().max().expect("some are"));
     println!("the station's stack: {least} to {most} bytes in {} calls", bytes.len());
-    assert!(*most <= 4_096, "{most} bytes of stack");
+    assert!(*most <= 5_120, "{most} bytes of stack");
 }
 
 #[test]

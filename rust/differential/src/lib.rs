@@ -17,3 +17,4 @@ pub mod refusals;
 pub mod text;
 pub mod texts;
 pub mod together;
+pub mod wide;

@@ -2,6 +2,7 @@
 
 use crate::pieces;
 use crate::random::Random;
+use std::ops::RangeInclusive;
 
 /// The largest coordinate and its negative are in range, 1 more is not.
 pub const EDGE: i32 = 1_048_576;
@@ -36,25 +37,35 @@ pub fn tolerance(random: &mut Random) -> i32 {
     random.magnitude().max(2)
 }
 
-/// A second difference D for each m from 1: with two of them a box at depth j is some 3.5 × 4^(7 − j)
-/// sixteenths high, before it is rounded. It is 16 × G × D / 10000 at depth 0.
-const STEEP: [i32; 8] = [4_740, 18_300, 40_000, 74_500, 117_000, 168_000, 229_000, 296_000];
+/// A second difference D for degrees 3 to 5 and m: where all are D, a box at depth j is some 3.5 × 4^(k − 1 − j)
+/// sixteenths high, before it is rounded, k being the greatest depth. It is 16 × G × D / 10000 at depth 0.
+fn steep(degree: i32, m: u32) -> i32 {
+    match degree {
+        3 => [4_740, 18_300, 40_000, 74_500, 117_000, 168_000, 229_000, 296_000][m as usize - 1],
+        4 => [80, 144, 228, 328, 448, 584][m as usize - 3],
+        5 => [46, 86, 134, 196, 268, 350][m as usize - 3],
+        _ => panic!("there is no D for degree {degree}"),
+    }
+}
 
-/// So many cubics, each from where the one before ends, with 256 leaves of m pieces at a tolerance of 3: their
-/// second differences are 0 and 0 in x, −D and −D in y.
-pub fn deepest(random: &mut Random, curves: usize, m: u32) -> Vec<i32> {
-    let steep = STEEP[m as usize - 1];
-    let highest = EDGE - steep - 20_000;
+/// So many curves of degree 3, 4 or 5, each from where the one before ends, all of whose leaves of m pieces are
+/// at the greatest depth at a tolerance of 3: their second differences are all 0 in x, and all −D in y.
+pub fn deepest(random: &mut Random, degree: i32, curves: usize, m: u32) -> Vec<i32> {
+    let steep = steep(degree, m);
+    // A control point is so much higher than the ends, and the slant adds to it.
+    let highest = EDGE - steep / 2 * (degree * degree / 4) - 20_000;
+    let length = curves * (2 * degree as usize + 3);
     let mut outline: Vec<i32> = Vec::new();
-    while outline.len() < 9 * curves {
+    while outline.len() < length {
         let (x, y) = match outline[..] {
             [.., x, y] => (x, y),
             _ => (random.between(-EDGE, EDGE), random.between(-EDGE, highest)),
         };
         let (u, v) = (random.between(-30_000, 30_000), random.between(-10_000, 10_000));
-        let curve = [3, x, y, x + u, y + v + steep, x + 2 * u, y + 2 * v + steep, x + 3 * u, y + 3 * v];
+        let point = |j: i32| [x + j * u, y + j * v + steep / 2 * j * (degree - j)];
+        let curve: Vec<i32> = [degree].into_iter().chain((0..=degree).flat_map(point)).collect();
         // The end leaves room above for the next.
-        if curve.iter().all(|&n| in_range(n)) && curve[8] <= highest {
+        if curve.iter().all(|&n| in_range(n)) && curve[curve.len() - 1] <= highest {
             outline.extend(curve);
         }
     }
@@ -66,15 +77,16 @@ pub fn in_range(number: i32) -> bool {
     (-EDGE..=EDGE).contains(&number)
 }
 
-/// Mostly 1 to 6 curves, at times up to 64, of mixed degrees and shapes. Each curve begins where the
+/// Mostly 1 to 6 curves, at times up to 64, of mixed shapes and of some degrees. Each curve begins where the
 /// one before ends.
-pub fn outline(random: &mut Random) -> Vec<i32> {
+pub fn outline(random: &mut Random, degrees: RangeInclusive<i32>) -> Vec<i32> {
     let curves = if random.one_in(40) { random.between(7, 64) } else { random.between(1, 6) };
     let same_shape = random.one_in(3).then(|| random.pick(&SHAPES));
     let mut outline = Vec::new();
     for _ in 0..curves {
         let shape = same_shape.unwrap_or_else(|| random.pick(&SHAPES));
-        let mut curve = curve(random, shape);
+        let degree = random.between(*degrees.start(), *degrees.end());
+        let mut curve = curve(random, shape, degree);
         if let [.., x, y] = outline[..] {
             join(random, &mut curve, [x, y]);
         }
@@ -102,8 +114,7 @@ pub fn join(random: &mut Random, curve: &mut [i32], start: [i32; 2]) {
 }
 
 /// One curve: its degree and its points.
-fn curve(random: &mut Random, shape: Shape) -> Vec<i32> {
-    let degree = random.between(1, 3);
+fn curve(random: &mut Random, shape: Shape, degree: i32) -> Vec<i32> {
     let x = values(random, shape, degree);
     let y = match shape {
         Shape::Upright => values(random, Shape::Point, degree),
@@ -147,8 +158,24 @@ fn values(random: &mut Random, shape: Shape, degree: i32) -> Vec<i32> {
 }
 
 /// Numbers that a check must not mistake, wherever they stand.
-pub const AWKWARD: [i32; 15] =
-    [i32::MIN, i32::MIN + 1, -EDGE - 1, -EDGE, -1, 0, 1, 2, 3, 4, 5, EDGE, EDGE + 1, i32::MAX - 1, i32::MAX];
+pub const AWKWARD: [i32; 16] = [
+    i32::MIN,
+    i32::MIN + 1,
+    -EDGE - 1,
+    -EDGE,
+    -1,
+    0,
+    1,
+    2,
+    3,
+    4,
+    5,
+    6,
+    EDGE,
+    EDGE + 1,
+    i32::MAX - 1,
+    i32::MAX,
+];
 
 /// Damages an outline, its tolerance and m in one to three places. What results may still pass.
 pub fn damage(random: &mut Random, outline: &mut Vec<i32>, tolerance: &mut i32, m: &mut u32) {
@@ -181,7 +208,7 @@ pub fn damage(random: &mut Random, outline: &mut Vec<i32>, tolerance: &mut i32, 
 pub fn starts(outline: &[i32]) -> Vec<usize> {
     let mut starts = Vec::new();
     let mut at = 0;
-    while let Some(degree @ 1..=3) = outline.get(at) {
+    while let Some(degree @ 1..=5) = outline.get(at) {
         starts.push(at);
         at += 3 + 2 * *degree as usize;
     }
@@ -217,7 +244,7 @@ mod tests {
         let mut lengths = Vec::new();
         for _ in 0..20_000 {
             let m = pieces::pieces(&mut random);
-            let outline = outline(&mut random);
+            let outline = outline(&mut random, pieces::degrees(m));
             assert!(outline.iter().all(|&n| in_range(n)));
             // At the widest tolerance nothing else is refused than the missing list.
             let refusal = plain::band(&outline, EDGE, m, &mut []).unwrap_err();

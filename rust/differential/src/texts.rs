@@ -41,8 +41,9 @@ const NUMBERS: &[i32] = &[
 #[rustfmt::skip]
 const NOT_FORMS: &[&str] = &[
     "", " ", "\r", "()", "(tolerance)", "(tolerance )", "(tolerance 44) ", "(curve)", "(curve (0 0))",
-    "(curve (0 0) (1 1) (2 2) (3 3) (4 4))", "(curve (0 0)(1 1))", "(curve  (0 0) (1 1))",
-    "(curve (0 0) (1 1)", "(point)", "(point (0 0)))", "(point (0 0) (1 1))", "(point (0))",
+    "(curve (0 0) (1 1) (2 2) (3 3) (4 4))", "(curve (0 0) (1 1) (2 2) (3 3) (4 4) (5 5))",
+    "(curve (0 0)(1 1))", "(curve  (0 0) (1 1))", "(curve (0 0) (1 1)",
+    "(point)", "(point (0 0)))", "(point (0 0) (1 1))", "(point (0))",
     "(point (0 0 0))", "(point 0 0)", "(Point (0 0))", "(done 1 1 1)", "; nothing",
 ];
 
@@ -51,7 +52,8 @@ const FORMS: &[&str] = &["(tolerance 44)", "(tolerance 1)", "(curve (0 0) (1 1))
 
 /// A text that no check of its size and lines refuses.
 pub fn text(random: &mut Random) -> Vec<u8> {
-    let outline = outline(random);
+    // The degrees that a curve line can have.
+    let outline = outline(random, 1..=3);
     let mut text = format!("(tolerance {})\n", tolerance(random)).into_bytes();
     let mut rest = &outline[..];
     while let [degree, numbers @ ..] = rest {

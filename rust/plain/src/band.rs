@@ -1,13 +1,11 @@
 //! Banding: the walk of an outline's curves and the records of its leaves.
 
 use crate::curve::Curve;
+use crate::degree::deepest;
 use crate::enclosure::BoxBounds;
 use crate::outline;
 use crate::pieces::{check_pieces, for_pieces, record_length};
 use crate::refusal::Refusal;
-
-/// The depth of the last halving.
-const DEEPEST: u32 = 8;
 
 /// What banding counted.
 #[derive(Debug, Clone, Copy, PartialEq, Eq)]
@@ -56,7 +54,7 @@ pub fn band_most(
 ) -> Result<Report, Refusal> {
     check_pieces(m)?;
     outline::check_tolerance(tolerance)?;
-    let curves = outline::curves(outline, most.curves)?;
+    let curves = outline::curves(outline, most.curves, m)?;
     for_pieces!(m, band_curves)(&curves, most.leaves, tolerance, records)
 }
 
@@ -98,7 +96,7 @@ impl<const B: usize> Walk<B> {
             self.leaves.push(Leaf::new(number, node, &boxes));
             return Ok(());
         }
-        if depth == DEEPEST {
+        if depth == deepest(curve.degree) {
             return Err(Refusal::TooWide { curve: number, node });
         }
         let (left, right) = curve.halves();

@@ -1,7 +1,7 @@
 //! Curves with exact control values, and their halves.
 
 /// Control values of one coordinate. Those past the degree are 0.
-pub type Values = [i64; 4];
+pub type Values = [i64; 6];
 
 /// A curve, or a part of one that was halved some times. Every control value is a whole number
 /// over 2^`shift`.
@@ -16,7 +16,7 @@ pub struct Curve {
 impl Curve {
     /// A curve from x and y of each control point in turn.
     pub fn new(degree: usize, points: &[i32]) -> Curve {
-        let mut curve = Curve { degree, x: [0; 4], y: [0; 4], shift: 0 };
+        let mut curve = Curve { degree, x: [0; 6], y: [0; 6], shift: 0 };
         for (i, point) in points.chunks_exact(2).enumerate() {
             curve.x[i] = i64::from(point[0]);
             curve.y[i] = i64::from(point[1]);
@@ -38,7 +38,7 @@ impl Curve {
 /// De Casteljau's step at 1/2. Sums stand for averages, so both halves come out scaled by
 /// 2^degree.
 fn halves(values: Values, degree: usize) -> (Values, Values) {
-    let (mut left, mut right) = ([0; 4], [0; 4]);
+    let (mut left, mut right) = ([0; 6], [0; 6]);
     let mut sums = values;
     for last in (0..=degree).rev() {
         left[degree - last] = sums[0] << last;
@@ -53,10 +53,12 @@ fn halves(values: Values, degree: usize) -> (Values, Values) {
 #[cfg(test)]
 mod tests {
     use super::*;
+    use crate::degree::deepest;
 
     /// The Bernstein sum of the values at p/q, times q^degree.
     fn value(values: Values, degree: usize, p: i128, q: i128) -> i128 {
-        const BINOMIALS: [[i128; 4]; 4] = [[1, 0, 0, 0], [1, 1, 0, 0], [1, 2, 1, 0], [1, 3, 3, 1]];
+        const BINOMIALS: [&[i128]; 6] =
+            [&[1], &[1, 1], &[1, 2, 1], &[1, 3, 3, 1], &[1, 4, 6, 4, 1], &[1, 5, 10, 10, 5, 1]];
         let power = |base: i128, times: usize| base.pow(times as u32);
         (0..=degree)
             .map(|i| {
@@ -68,11 +70,11 @@ mod tests {
 
     const EDGE: i64 = 1_048_576;
     const SAMPLES: [Values; 5] = [
-        [0, 30, 30, 0],
-        [EDGE, -EDGE, EDGE, -EDGE],
-        [-EDGE, -EDGE, -EDGE, -EDGE],
-        [7, -1, 3, 12],
-        [-EDGE, EDGE, EDGE - 1, 1],
+        [0, 30, 30, 0, 20, 50],
+        [EDGE, -EDGE, EDGE, -EDGE, EDGE, -EDGE],
+        [-EDGE, -EDGE, -EDGE, -EDGE, -EDGE, -EDGE],
+        [7, -1, 3, 12, -40, 9],
+        [-EDGE, EDGE, EDGE - 1, 1, -EDGE, EDGE],
     ];
 
     fn sample(values: Values, degree: usize) -> Curve {
@@ -84,7 +86,7 @@ mod tests {
     #[test]
     fn halves_trace_the_curve_exactly() {
         let q = 12;
-        for degree in 1..=3 {
+        for degree in 1..=5 {
             for curve in SAMPLES.map(|s| sample(s, degree)) {
                 let (left, right) = curve.halves();
                 assert_eq!((left.shift, right.shift), (degree as u32, degree as u32));
@@ -102,7 +104,7 @@ mod tests {
 
     #[test]
     fn values_past_the_degree_stay_zero() {
-        for degree in 1..=2 {
+        for degree in 1..=4 {
             let (left, right) = sample(SAMPLES[1], degree).halves();
             for half in [left, right] {
                 assert!(half.x[degree + 1..].iter().all(|&c| c == 0));
@@ -116,9 +118,9 @@ mod tests {
         let largest = |v: Values, degree: usize| {
             (2..=degree).map(|i| (v[i - 2] - 2 * v[i - 1] + v[i]).abs()).max().unwrap_or(0)
         };
-        for degree in 2..=3 {
+        for degree in 2..=5 {
             let mut nodes = SAMPLES.map(|s| sample(s, degree)).to_vec();
-            for _ in 0..8 {
+            for _ in 0..deepest(degree) {
                 let mut next = Vec::new();
                 for curve in nodes {
                     let (left, right) = curve.halves();

@@ -15,7 +15,18 @@ pub struct Pair {
 
 /// Every pair of rows, by degree, then by difference, then by m.
 pub fn pairs() -> Vec<Pair> {
-    let tables = [("Degree 2", 2, 0), ("Degree 3, first", 3, 0), ("Degree 3, second", 3, 1)];
+    let tables = [
+        ("Degree 2", 2, 0),
+        ("Degree 3, first", 3, 0),
+        ("Degree 3, second", 3, 1),
+        ("Degree 4, first", 4, 0),
+        ("Degree 4, second", 4, 1),
+        ("Degree 4, third", 4, 2),
+        ("Degree 5, first", 5, 0),
+        ("Degree 5, second", 5, 1),
+        ("Degree 5, third", 5, 2),
+        ("Degree 5, fourth", 5, 3),
+    ];
     let mut pairs = Vec::new();
     for (heading, degree, difference) in tables {
         for lines in table(heading).chunks_exact(2) {
@@ -28,24 +39,28 @@ pub fn pairs() -> Vec<Pair> {
     pairs
 }
 
-/// The page's G, or its allowance, of a degree, from m = 1.
-pub fn by_pieces(degree: usize, word: &str) -> Vec<i128> {
+/// The page's G, or its allowance, of a degree with m pieces.
+pub fn by_pieces(degree: usize, word: &str, m: usize) -> i128 {
     let lines = table("How the low rows were chosen");
     let line = lines.iter().find(|line| line[0] == degree.to_string() && line[1] == word);
-    row(line.expect("the page has it"), word).1
+    number(line.expect("the page has it")[m + 1])
 }
 
-/// The lines of the one table under a heading, without its head, as cells that are not empty.
+/// The lines of the one table under a heading, without its head, as cells.
 fn table(heading: &str) -> Vec<Vec<&'static str>> {
     let section = PAGE.split("\n## ").find(|section| section.starts_with(heading));
     let lines = section.expect("the page has the heading").lines().filter(|line| line.starts_with('|'));
-    let cells = |line: &'static str| line.split('|').map(str::trim).filter(|cell| !cell.is_empty()).collect();
+    let cells = |line: &'static str| line.trim_matches('|').split('|').map(str::trim).collect();
     lines.skip(2).map(cells).collect()
 }
 
 /// The first number of a line, and those after its word.
 fn row(cells: &[&str], word: &str) -> (usize, Vec<i128>) {
     assert_eq!(cells[1], word);
-    let number = |cell: &&str| cell.replace('−', "-").parse().expect("a cell is a number");
-    (cells[0].parse().expect("a line begins with a number"), cells[2..].iter().map(number).collect())
+    let entries = cells[2..].iter().filter(|cell| !cell.is_empty());
+    (number(cells[0]) as usize, entries.map(|cell| number(cell)).collect())
+}
+
+fn number(cell: &str) -> i128 {
+    cell.replace('−', "-").parse().expect("a cell is a number")
 }

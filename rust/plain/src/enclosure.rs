@@ -34,8 +34,19 @@ impl Curve {
     /// The boxes at B break points, or nothing where the diagonal of one of them is longer than the
     /// tolerance.
     pub fn boxes_within<const B: usize>(&self, tolerance: i64) -> Option<[BoxBounds; B]> {
-        let x = Enclosure::<B>::new(&self.x, self.degree, self.shift);
-        let y = Enclosure::<B>::new(&self.y, self.degree, self.shift);
+        // The compiler then knows how many second differences there are.
+        match self.degree {
+            1 => self.boxes::<B, 0>(tolerance),
+            2 => self.boxes::<B, 1>(tolerance),
+            3 => self.boxes::<B, 2>(tolerance),
+            4 => self.boxes::<B, 3>(tolerance),
+            _ => self.boxes::<B, 4>(tolerance),
+        }
+    }
+
+    fn boxes<const B: usize, const D: usize>(&self, tolerance: i64) -> Option<[BoxBounds; B]> {
+        let x = Enclosure::<B, D>::new(&self.x, self.shift);
+        let y = Enclosure::<B, D>::new(&self.y, self.shift);
         let mut boxes = [BoxBounds::default(); B];
         for (i, at) in boxes.iter_mut().enumerate() {
             *at = BoxBounds { x: x.bounds(i), y: y.bounds(i) };
@@ -47,16 +58,16 @@ impl Curve {
     }
 }
 
-/// What the bounds of one coordinate at B break points are made of: control values over 2^`shift`.
-struct Enclosure<const B: usize> {
+/// What the bounds of one coordinate at B break points are made of: control values over 2^`shift`, with D
+/// second differences.
+struct Enclosure<const B: usize, const D: usize> {
     first: i64,
     last: i64,
-    differences: [Difference<B>; 2],
+    differences: [Difference<B>; D],
     shift: u32,
 }
 
 /// A second difference, with the rows that its sign chooses for the low and for the high.
-#[derive(Clone, Copy)]
 struct Difference<const B: usize> {
     value: i64,
     low: &'static [i64; B],
@@ -64,9 +75,6 @@ struct Difference<const B: usize> {
 }
 
 impl<const B: usize> Difference<B> {
-    /// One that a degree does not have.
-    const NONE: Difference<B> = Difference { value: 0, low: &[0; B], high: &[0; B] };
-
     fn new(value: i64, rows: &'static Rows<B>) -> Difference<B> {
         if value > 0 {
             Difference { value, low: &rows.low, high: &rows.high }
@@ -76,21 +84,24 @@ impl<const B: usize> Difference<B> {
     }
 }
 
-impl<const B: usize> Enclosure<B> {
+impl<const B: usize, const D: usize> Enclosure<B, D> {
     /// The number of pieces between the break points.
     const M: i64 = B as i64 - 1;
 
-    fn new(values: &Values, degree: usize, shift: u32) -> Enclosure<B> {
-        let mut differences = [Difference::NONE; 2];
-        for ((place, rows), c) in differences.iter_mut().zip(Rows::of(degree)).zip(values.windows(3)) {
-            *place = Difference::new(c[0] - 2 * c[1] + c[2], rows);
-        }
-        Enclosure { first: values[0], last: values[degree], differences, shift }
+    fn new(values: &Values, shift: u32) -> Enclosure<B, D> {
+        let rows = Rows::of(D + 1);
+        let difference = |k: usize| values[k] - 2 * values[k + 1] + values[k + 2];
+        let differences = std::array::from_fn(|k| Difference::new(difference(k), &rows[k]));
+        Enclosure { first: values[0], last: values[D + 1], differences, shift }
     }
 
     /// The bounds at break point `i`. The document's sum of m-ths and ten-thousandths, times 16, is one
-    /// fraction over 625 × m × 2^shift. At depth 8 a control value is at most 2^44 and a difference at most
-    /// 2^46; m times an entry is below 2^15, so the chord is below 2^61 and the rows add less than 2^62.
+    /// fraction over 625 × m × 2^shift.
+    ///
+    /// It stays within 64 bits. A control value over 2^shift is at most 2^20 in size, so at degree 3 and depth
+    /// 8 it is at most 2^44, and a difference 2^46; m times an entry is below 2^15, so the chord is below 2^61
+    /// and two rows add at most 2^62. At degree 5 and depth 4 they are at most 2^40 and 2^42; m times an entry
+    /// is below 2^16, so the chord is below 2^57 and four rows add at most 2^60. Lower degrees have less.
     fn bounds(&self, i: usize) -> Bounds {
         let along = i as i64;
         let chord = 10_000 * ((Self::M - along) * self.first + along * self.last);
@@ -112,10 +123,14 @@ impl<const B: usize> Enclosure<B> {
 #[cfg(test)]
 mod tests {
     use super::*;
+    use crate::degree::{deepest, fewest_pieces};
     use crate::pieces::for_pieces;
 
-    fn bounds<const B: usize>(values: &Values, degree: usize, shift: u32, i: usize) -> Bounds {
-        Enclosure::<B>::new(values, degree, shift).bounds(i)
+    /// The bounds of one coordinate at every break point.
+    fn bounds<const B: usize>(values: &Values, degree: usize, shift: u32) -> [Bounds; B] {
+        let curve = Curve { degree, x: *values, y: *values, shift };
+        let boxes = curve.boxes_within::<B>(1 << 30).expect("no box is so large");
+        boxes.map(|b| b.x)
     }
 
     /// The document's formula, kept over m × 10000 × 2^shift in wide numbers.
@@ -142,26 +157,30 @@ mod tests {
     #[test]
     fn bounds_are_the_documents_formula() {
         for m in 1..=8 {
-            for_pieces!(m, bounds_are_the_formula)();
+            for degree in (1..=5).filter(|&degree| m >= fewest_pieces(degree)) {
+                for_pieces!(m, bounds_are_the_formula)(degree);
+            }
         }
     }
 
-    fn bounds_are_the_formula<const B: usize>() {
+    fn bounds_are_the_formula<const B: usize>(degree: usize) {
         const EDGE: i64 = 1_048_576;
-        const SOME: [i64; 8] = [-EDGE, -EDGE + 1, -37, -1, 0, 1, 18, EDGE];
-        for degree in 1..=3 {
-            for choice in 0..SOME.len().pow(degree as u32 + 1) {
-                let mut values = [0, 1, 2, 3].map(|place| SOME[choice / SOME.len().pow(place) % SOME.len()]);
-                values[degree + 1..].fill(0);
-                let mut node = Curve { degree, x: values, y: values, shift: 0 };
-                for _ in 0..=8 {
-                    for i in 0..B {
-                        let got = bounds::<B>(&node.x, degree, node.shift, i);
-                        assert_eq!(got, formula::<B>(&node.x, degree, node.shift, i));
-                        assert!(got.low <= got.high);
-                        // A record holds it, and passes check 10.
-                        assert!(got.low.abs().max(got.high.abs()) <= 536_870_912);
-                    }
+        const SOME: [i64; 8] = [-EDGE, -37, 1, EDGE, 18, -EDGE + 1, 0, -1];
+        // The more control values, the fewer numbers for each.
+        let some = &SOME[..if degree <= 3 { 8 } else { 4 }];
+        for choice in 0..some.len().pow(degree as u32 + 1) {
+            let mut values =
+                [0, 1, 2, 3, 4, 5].map(|place| some[choice / some.len().pow(place) % some.len()]);
+            values[degree + 1..].fill(0);
+            let mut node = Curve { degree, x: values, y: values, shift: 0 };
+            for depth in 0..=deepest(degree) {
+                for (i, got) in bounds::<B>(&node.x, degree, node.shift).into_iter().enumerate() {
+                    assert_eq!(got, formula::<B>(&node.x, degree, node.shift, i));
+                    assert!(got.low <= got.high);
+                    // A record holds it, and passes check 10.
+                    assert!(got.low.abs().max(got.high.abs()) <= 536_870_912);
+                }
+                if depth < deepest(degree) {
                     node = node.halves().1;
                 }
             }
@@ -172,7 +191,7 @@ mod tests {
     fn a_low_is_rounded_down_below_zero() {
         // -37.6, 37.6 and -38, over 1875 and over 7500.
         for shift in [0, 2] {
-            let over = Enclosure::<4>::new(&[0; 4], 1, shift);
+            let over = Enclosure::<4, 0>::new(&[0; 6], shift);
             assert_eq!(over.floor(-70_500 << shift), -38);
             assert_eq!(over.floor(70_500 << shift), 37);
             assert_eq!(over.floor(-71_250 << shift), -38);
@@ -182,16 +201,15 @@ mod tests {
     #[test]
     fn each_difference_chooses_its_row_by_its_own_sign() {
         // Differences 1 and -1: one row for the whole sum would give other bounds.
-        let values = [0, 0, 1, 1];
+        let values = [0, 0, 1, 1, 0, 0];
         let tenthousandths = |i: usize| match i {
             0 => (-696, 88),
             1 => (3333 - 4400 + 2962, 3333 - 3703 + 3155),
             2 => (6666 - 3155 + 3703, 6667 - 2962 + 4400),
             _ => (10_000 - 88, 10_000 + 696),
         };
-        for i in 0..4 {
+        for (i, got) in bounds::<4>(&values, 3, 0).into_iter().enumerate() {
             let (low, high) = tenthousandths(i);
-            let got = bounds::<4>(&values, 3, 0, i);
             let expected = ((16_i64 * low).div_euclid(10_000), -(-16_i64 * high).div_euclid(10_000));
             assert_eq!((got.low, got.high), expected);
         }
@@ -206,13 +224,14 @@ mod tests {
 
     fn widest_box_decides<const B: usize>() {
         let mut inside = false;
-        for y in [[0, 10_000, 0, 0], [0, 1_000, 1_000, 0], [0, 100, 100, 0], [0, 0, 100, 0]] {
-            let curve = Curve { degree: 3, x: [0; 4], y, shift: 0 };
-            let width = |i| bounds::<B>(&y, 3, 0, i).width();
-            let widest = (0..B).map(width).max().expect("there are boxes");
+        for inner in [[10_000, 0], [1_000, 1_000], [100, 100], [0, 100]] {
+            let y = [0, inner[0], inner[1], 0, 0, 0];
+            let curve = Curve { degree: 3, x: [0; 6], y, shift: 0 };
+            let widths = bounds::<B>(&y, 3, 0).map(Bounds::width);
+            let widest = widths.into_iter().max().expect("there are boxes");
             assert!(curve.boxes_within::<B>(widest).is_some());
             assert!(curve.boxes_within::<B>(widest - 1).is_none());
-            inside |= widest > width(0).max(width(B - 1));
+            inside |= widest > widths[0].max(widths[B - 1]);
         }
         // A test of the first and last boxes only would miss it.
         assert_eq!(inside, B > 2);

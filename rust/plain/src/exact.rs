@@ -62,8 +62,8 @@ fn over(above: usize, below: usize) -> Fraction {
     Fraction::new(above as i128, below as i128)
 }
 
-/// The records of an outline that no check refuses, or 512 × curve + node of the first node at depth 8 that
-/// does not meet the tolerance.
+/// The records of an outline that no check refuses, or 512 × curve + node of the first node at the greatest
+/// depth, which is 8, or 4 for degrees 4 and 5, that does not meet the tolerance.
 pub fn records(outline: &[i32], tolerance: i32, m: usize) -> Result<Vec<i32>, u64> {
     let rows: Vec<Pair> = pairs().into_iter().filter(|pair| pair.m == m).collect();
     let mut records = Vec::new();
@@ -75,6 +75,7 @@ pub fn records(outline: &[i32], tolerance: i32, m: usize) -> Result<Vec<i32>, u6
             points[first..].iter().step_by(2).map(|&c| Fraction::new(c.into(), 1)).collect()
         };
         let [x, y] = [coordinate(0), coordinate(1)];
+        let greatest_depth = if [4, 5].contains(&degree) { 4 } else { 8 };
         let mut node = 1_usize;
         loop {
             let [x, y] = [&x, &y].map(|values| bounds(&part(values, node), &rows));
@@ -88,7 +89,7 @@ pub fn records(outline: &[i32], tolerance: i32, m: usize) -> Result<Vec<i32>, u6
                 if node == 1 {
                     break;
                 }
-            } else if node >= 256 {
+            } else if node.ilog2() == greatest_depth {
                 return Err(512 * curve as u64 + node as u64);
             } else {
                 node *= 2;

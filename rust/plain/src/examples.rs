@@ -1,7 +1,7 @@
-//! The measured examples of document 01 that banding reaches, the like with other numbers of pieces, and laws
-//! of banding's reports.
+//! The measured examples of document 01 that banding reaches, the like with other numbers of pieces and of
+//! degrees 4 and 5, and laws of banding's reports.
 
-use crate::documented::by_pieces;
+use crate::documented::{by_pieces, pairs};
 use crate::{band, exact, record_length, Refusal, Report};
 
 /// The length of a record of three pieces.
@@ -141,6 +141,89 @@ fn curve_a_in_pieces() {
     }
 }
 
+/// Curves of degrees 4 and 5 whose second differences are 0 in x, and −20 everywhere in y. The parameter and x
+/// go together, and x at every break point is a whole number.
+const CURVE_B: [i32; 11] = [4, 0, 0, 210, 30, 420, 40, 630, 30, 840, 0];
+const CURVE_C: [i32; 13] = [5, 0, 0, 168, 40, 336, 60, 504, 60, 672, 40, 840, 0];
+
+#[test]
+fn curve_b_in_pieces() {
+    // 0.032 times the sum of the three rows at a break point, turned positive.
+    #[rustfmt::skip]
+    let leaves: [Whole; 6] = [
+        // 0.032 × 1729 = 55.328; 0.032 × 13332 = 426.624 and 0.032 × 15061 = 481.952.
+        (3, 56, &[(0, 56), (426, 482)]),
+        // 0.032 × 964 = 30.848; 0.032 × 11248 = 359.936 and 0.032 × 12212 = 390.784; 0.032 × 15000 = 480 and
+        // 0.032 × 15964 = 510.848.
+        (4, 32, &[(0, 31), (359, 391), (480, 511)]),
+        // 0.032 × 611 = 19.552; 0.032 × 9600 = 307.2 and 0.032 × 10211 = 326.752; 0.032 × 14400 = 460.8 and
+        // 0.032 × 15011 = 480.352.
+        (5, 21, &[(0, 20), (307, 327), (460, 481)]),
+        (6, 15, &[(0, 14), (266, 281), (426, 441), (480, 494)]),
+        (7, 11, &[(0, 10), (235, 246), (391, 402), (470, 481)]),
+        (8, 9, &[(0, 8), (209, 218), (359, 368), (449, 458), (480, 488)]),
+    ];
+    whole_and_halved(&CURVE_B, &leaves);
+}
+
+#[test]
+fn curve_c_in_pieces() {
+    // 0.032 times the sum of the four rows at a break point, turned positive.
+    #[rustfmt::skip]
+    let leaves: [Whole; 6] = [
+        // 0.032 × 2955 = 94.56; 0.032 × 22220 = 711.04 and 0.032 × 25175 = 805.6.
+        (3, 95, &[(0, 95), (711, 806)]),
+        // 0.032 × 1622 = 51.904; 0.032 × 18747 = 599.904 and 0.032 × 20369 = 651.808; 0.032 × 24998 = 799.936
+        // and 0.032 × 26620 = 851.84.
+        (4, 53, &[(0, 52), (599, 652), (799, 852)]),
+        // 0.032 × 1031 = 32.992; 0.032 × 15998 = 511.936 and 0.032 × 17029 = 544.928; 0.032 × 23998 = 767.936
+        // and 0.032 × 25029 = 800.928.
+        (5, 34, &[(0, 33), (511, 545), (767, 801)]),
+        (6, 24, &[(0, 23), (444, 468), (711, 734), (799, 823)]),
+        (7, 18, &[(0, 17), (391, 409), (653, 670), (783, 801)]),
+        (8, 14, &[(0, 13), (349, 363), (599, 613), (749, 763), (799, 813)]),
+    ];
+    whole_and_halved(&CURVE_C, &leaves);
+}
+
+/// With an m, the least tolerance at which a curve is one leaf, and the y bounds of the first half of its boxes.
+type Whole<'a> = (u32, i32, &'a [(i32, i32)]);
+
+/// Checks a curve that goes to x 840 and is its own mirror image.
+fn whole_and_halved(outline: &[i32], leaves: &[Whole]) {
+    for &(m, tolerance, first) in leaves {
+        let (report, records) = accepted_in(m, outline, tolerance);
+        assert_eq!(report, Report { curves: 1, leaves: 1, nodes: 1 });
+        let mut leaf = vec![0, 1];
+        for i in 0..=m as usize {
+            let x = 16 * 840 * i as i32 / m as i32;
+            let (low, high) = first[i.min(m as usize - i)];
+            leaf.extend([x, x, low, high]);
+        }
+        assert_eq!(records, leaf);
+        let halved = accepted_in(m, outline, tolerance - 1).0;
+        assert_eq!(halved, Report { curves: 1, leaves: 2, nodes: 3 });
+    }
+}
+
+#[test]
+fn every_row_is_read_off_a_curve() {
+    for pair in pairs() {
+        let (m, d, place) = (pair.m as u32, pair.degree as i32, pair.difference as i32 + 1);
+        // One second difference is 625 × d, the others and both ends are 0: 16 × 625 is ten thousand, so a
+        // bound is d times an entry. Turned round, the low row gives the high.
+        let height = |j: i32| -625 * j.min(place) * (d - j.max(place));
+        for sign in [1, -1] {
+            let y: Vec<i32> = (0..=d).map(|j| sign * height(j)).collect();
+            let (report, records) = accepted_in(m, &upright(&y), 1_048_576);
+            assert_eq!(report.leaves, 1);
+            let rows = pair.low.iter().zip(&pair.high).map(|(&low, &high)| (low as i32, high as i32));
+            let turned = |(low, high)| if sign == 1 { (d * low, d * high) } else { (-d * high, -d * low) };
+            assert_eq!(y_bounds_in(m, &records), rows.map(turned).collect::<Vec<_>>(), "{pair:?}");
+        }
+    }
+}
+
 #[test]
 fn a_quadratic_0_18_0_in_pieces() {
     // 0.0576 times the row, turned positive.
@@ -169,13 +252,26 @@ fn a_line_0_1_in_pieces() {
 
 #[test]
 fn records_are_those_in_exact_fractions() {
-    let edge = 1_048_576;
-    let steep = [3, -edge, edge, edge, -edge, edge, edge, -edge, -edge];
-    let swing = [2, edge, 0, -edge, edge, edge - 1, 1];
-    let outlines = [&CURVE_A[..], &lively(), &steep, &swing];
+    const EDGE: i32 = 1_048_576;
+    #[rustfmt::skip]
+    let outlines: [&[i32]; 9] = [
+        &CURVE_A,
+        &CURVE_B,
+        &CURVE_C,
+        // From one end of the range to the other.
+        &[2, EDGE, 0, -EDGE, EDGE, EDGE - 1, 1],
+        &[3, -EDGE, EDGE, EDGE, -EDGE, EDGE, EDGE, -EDGE, -EDGE],
+        &[4, -EDGE, EDGE, EDGE, -EDGE, -EDGE, 1 - EDGE, EDGE, EDGE, -EDGE, -EDGE],
+        &[5, EDGE, -EDGE, -EDGE, 7, EDGE, EDGE, -EDGE, -EDGE, EDGE - 1, EDGE, -EDGE, 0],
+        // Second differences of either sign.
+        &[4, 0, 0, 100, 40, 200, -40, 310, 40, 400, -30],
+        &[5, 0, 0, 900, 3_000, 3_600, -600, 8_100, 900, 14_400, -1_200, 22_500, 15_000],
+    ];
     for m in 1..=8 {
-        for (outline, tolerance) in outlines.iter().flat_map(|outline| {
-            [2, 3, 7, 16, 45, 1_000, 50_000, 1_048_576].map(|tolerance| (*outline, tolerance))
+        let lively = lively(m);
+        let taken = outlines.into_iter().filter(|outline| m >= 3 || outline[0] <= 3).chain([&lively[..]]);
+        for (outline, tolerance) in taken.flat_map(|outline| {
+            [2, 3, 7, 16, 45, 1_000, 50_000, 1_048_576].map(|tolerance| (outline, tolerance))
         }) {
             let length = record_length(m);
             match exact::records(outline, tolerance, m as usize) {
@@ -201,6 +297,30 @@ fn pieces_out_of_range_are_refused_before_the_tolerance() {
     }
     for m in 1..=8 {
         assert_eq!(number_and_spot(refused_in(m, &[], 1, 0)), (1, 0));
+    }
+}
+
+#[test]
+fn degrees_4_and_5_take_three_pieces_or_more() {
+    let six = [6; 15];
+    let curves: [(&[i32], i32); 2] = [(&CURVE_B, 4), (&CURVE_C, 5)];
+    for (curve, degree) in curves {
+        for m in 3..=8 {
+            accepted_in(m, curve, 1_000);
+            assert_eq!(number_and_spot(refused_in(m, &[degree], 44, 100)), (3, 1));
+        }
+        for m in 1..=2 {
+            assert_eq!(number_and_spot(refused_in(m, curve, 1_000, 100)), (20, 0));
+            // Before check 3, and after 2, 1 and 18.
+            assert_eq!(number_and_spot(refused_in(m, &[degree], 44, 100)), (20, 0));
+            assert_eq!(number_and_spot(refused_in(m, &six, 44, 100)), (2, 0));
+            assert_eq!(number_and_spot(refused_in(m, curve, 1, 100)), (1, 0));
+            let later = [&CURVE_A[..], &[degree]].concat();
+            assert_eq!(number_and_spot(refused_in(m, &later, 44, 100)), (20, 9));
+        }
+        for m in [0, 9, u32::MAX] {
+            assert_eq!(number_and_spot(refused_in(m, curve, 1_000, 100)), (18, 0));
+        }
     }
 }
 
@@ -245,10 +365,10 @@ fn coordinates_at_and_past_the_limit() {
 }
 
 #[test]
-fn an_empty_outline_and_degree_4() {
+fn an_empty_outline_and_degree_6() {
     assert_eq!(number_and_spot(refused(&[], 2, 18)), (6, 0));
-    let degree_4 = [4, 0, 0, 0, 0, 0, 0, 0, 0, 0, 0];
-    assert_eq!(number_and_spot(refused(&degree_4, 44, 18)), (2, 0));
+    let degree_6 = [6, 0, 0, 0, 0, 0, 0, 0, 0, 0, 0, 0, 0, 0, 0];
+    assert_eq!(number_and_spot(refused(&degree_6, 44, 18)), (2, 0));
 }
 
 #[test]
@@ -261,6 +381,52 @@ fn a_curve_too_wide_after_its_last_halving() {
     assert_eq!(number_and_spot(refused(&second, 2, 0)), (7, 512 + 256));
 }
 
+/// The outline of a curve of a degree with x all 0 and every second difference of y −2 × `half`.
+fn arch(degree: i32, half: i32) -> Vec<i32> {
+    let height = |j| half * j * (degree - j);
+    upright(&(0..=degree).map(height).collect::<Vec<_>>())
+}
+
+#[test]
+fn curves_of_degrees_4_and_5_are_halved_four_times() {
+    let edge = 1_048_576;
+    for (m, degree) in (3..=8).flat_map(|m| [(m, 4), (m, 5)]) {
+        let mut steep = vec![edge; degree + 1];
+        (steep[0], steep[degree]) = (0, 0);
+        assert_eq!(number_and_spot(refused_in(m, &upright(&steep), 2, 38 * 16)), (7, 16));
+        // Before the lent records, and with the number of its curve.
+        let second = [upright(&[5, 0]), upright(&steep)].concat();
+        assert_eq!(number_and_spot(refused_in(m, &second, 2, 0)), (7, 512 + 16));
+        // One that bends more and more, so that a later node is the first.
+        let mut late = vec![0; degree + 1];
+        late[degree] = 4_000;
+        let spot = refused_in(m, &upright(&late), 3, 0).spot();
+        assert!((17..32).contains(&spot));
+        assert_eq!(exact::records(&upright(&late), 3, m as usize), Err(spot));
+    }
+}
+
+#[test]
+fn leaves_at_both_greatest_depths() {
+    // Before it is rounded, a box of a curve whose second differences are all D is 16 × G × D / 10000 high
+    // at most, and a quarter of that at each next depth. Here that is 3.5 at depth 7, and at depth 3.
+    for m in 3..=8 {
+        let g = |degree| by_pieces(degree, "G", m as usize) as i32;
+        let outline = [arch(3, 17_920_000 / g(3)), arch(4, 70_000 / g(4)), arch(5, 70_000 / g(5))].concat();
+        let (report, records) = accepted_in(m, &outline, 3);
+        assert_eq!(report, Report { curves: 3, leaves: 256 + 16 + 16, nodes: 511 + 31 + 31 });
+        let leaves: Vec<(i32, i32)> =
+            records.chunks_exact(record_length(m)).map(|leaf| (leaf[0], leaf[1])).collect();
+        let expected = (256..512).map(|node| (0, node)).chain((16..32).map(|node| (1, node)));
+        assert_eq!(leaves, expected.chain((16..32).map(|node| (2, node))).collect::<Vec<_>>());
+        // Four times as steep, those of degrees 4 and 5 are refused.
+        for degree in [4, 5] {
+            let outline = arch(degree, 280_000 / g(degree as usize));
+            assert_eq!(number_and_spot(refused_in(m, &outline, 3, 0)), (7, 16));
+        }
+    }
+}
+
 #[test]
 fn a_list_one_number_short_is_refused_with_all_leaves_counted() {
     assert_eq!(number_and_spot(refused(&CURVE_A, 43, 35)), (8, 2));
@@ -270,12 +436,16 @@ fn a_list_one_number_short_is_refused_with_all_leaves_counted() {
     assert_ne!(exact[35], UNTOUCHED);
 }
 
-/// Curves of each degree, one after the other, whose leaves stand at many depths.
-fn lively() -> Vec<i32> {
+/// Curves of each degree that takes m pieces, one after the other, whose leaves stand at many depths.
+fn lively(m: u32) -> Vec<i32> {
     let mut outline = vec![3, 0, 0, 9_000, 14_000, -700, -12_000, 8_000, 5];
     outline.extend([1, 8_000, 5, 0, 0]);
     outline.extend([2, 0, 0, 30_000, 77, 0, 0]);
     outline.extend(CURVE_A);
+    if m >= 3 {
+        outline.extend([4, 30, 0, 50, 9, 66, -9, 99, 0, 110, 20]);
+        outline.extend([5, 110, 20, 100, 0, 80, 0, 66, 11, 40, 11, 20, 30]);
+    }
     outline
 }
 
@@ -294,8 +464,8 @@ fn settings() -> impl Iterator<Item = (u32, i32)> {
 #[test]
 fn nodes_are_twice_the_leaves_less_the_curves() {
     for (m, tolerance) in settings() {
-        let (report, _) = accepted_in(m, &lively(), tolerance);
-        assert_eq!(report.curves, 4);
+        let (report, _) = accepted_in(m, &lively(m), tolerance);
+        assert_eq!(report.curves, if m < 3 { 4 } else { 6 });
         assert_eq!(report.nodes, 2 * report.leaves - report.curves);
     }
 }
@@ -303,7 +473,7 @@ fn nodes_are_twice_the_leaves_less_the_curves() {
 #[test]
 fn leaves_follow_one_another_by_the_documents_rule() {
     for (m, tolerance) in settings() {
-        let (_, records) = accepted_in(m, &lively(), tolerance);
+        let (report, records) = accepted_in(m, &lively(m), tolerance);
         let (mut curve, mut node) = (0, 1);
         for leaf in records.chunks_exact(record_length(m)) {
             assert_eq!(leaf[0], curve);
@@ -317,25 +487,26 @@ fn leaves_follow_one_another_by_the_documents_rule() {
                 curve += 1;
             }
         }
-        assert_eq!((curve, node), (4, 1));
+        assert_eq!((curve as u64, node), (report.curves, 1));
     }
 }
 
 #[test]
 fn no_leaf_is_deeper_than_its_second_differences_say() {
     for (m, tolerance) in settings() {
-        let (_, records) = accepted_in(m, &lively(), tolerance);
+        let (_, records) = accepted_in(m, &lively(m), tolerance);
         // The degree of each curve, and its largest second difference over both coordinates.
-        let curves: [(usize, i128); 4] = [(3, 40_000), (1, 0), (2, 60_000), (3, 30)];
+        let curves: [(usize, i128); 6] = [(3, 40_000), (1, 0), (2, 60_000), (3, 30), (4, 27), (5, 20)];
         for leaf in records.chunks_exact(record_length(m)) {
             let depth = (leaf[1] as u32).ilog2();
             let (degree, largest) = curves[leaf[0] as usize];
-            let g = if degree == 1 { 0 } else { by_pieces(degree, "G")[m as usize - 1] };
+            let g = if degree == 1 { 0 } else { by_pieces(degree, "G", m as usize) };
             let allows = |j: u32| {
                 let bound = 16 * g * largest + 20_000 * 4_i128.pow(j);
                 2 * bound.pow(2) <= (10_000 * i128::from(tolerance) * 4_i128.pow(j)).pow(2)
             };
-            let least = (0..=8).find(|&j| allows(j)).unwrap_or(8);
+            let deepest = if degree <= 3 { 8 } else { 4 };
+            let least = (0..=deepest).find(|&j| allows(j)).unwrap_or(deepest);
             assert!(depth <= least, "depth {depth} of curve {} at {tolerance}, m {m}", leaf[0]);
         }
     }

@@ -142,6 +142,29 @@ mod tests {
     }
 
     #[test]
+    fn points_of_curves_of_degrees_4_and_5_are_on() {
+        // At the middle 16 and 32 times the curve are sums of control values by 1 4 6 4 1 and 1 5 10 10 5 1.
+        let quartic = [4, 0, 0, 30, 90, -20, 7, 66, -50, 100, 1];
+        let quintic = [5, 0, 0, 30, 90, -20, 7, 66, -50, 99, 20, 41, 2];
+        let points: [(&[i32], [i32; 2], [i32; 2]); 2] =
+            [(&quartic, [364, 203], [1600, 16]), (&quintic, [573, 61], [656, 32])];
+        for (outline, middle, end) in points {
+            for m in 3..=8 {
+                for tolerance in [20, 100, 1_000, 100_000] {
+                    let leaves = records(outline, tolerance, m);
+                    for [x, y] in [[0, 0], middle, end] {
+                        let judged = judge(&leaves, m, x, y);
+                        assert!(
+                            matches!(judged, Ok(Judgement::On { .. })),
+                            "({x} {y}) at {tolerance}, m {m}"
+                        );
+                    }
+                }
+            }
+        }
+    }
+
+    #[test]
     fn records_need_no_order_and_no_link_to_a_curve() {
         // The same curve and node twice, and boxes that no curve has.
         let far = [63, 511, 9, 9, 9, 9, -9, -9, 9, 9, -9, -9, -9, -9, 9, 9, -9, -9];

@@ -4,15 +4,16 @@
 //! [`band`] encloses an outline of Bézier curves in boxes, with m pieces to a leaf, and [`station_band`] a small
 //! one; [`judge`] says whether a point lies on what they cover, [`band_and_judge`] does both, and [`draw`] draws
 //! the hull of two boxes.
-//! [`text::answer`] is the text program. The modules follow the documents: the checks of an outline and of
-//! m, halving, the rows and the enclosure, the walk; the checks of a leaf list and a point, covers, judging;
-//! drawing; the lines of a text, its answer.
+//! [`text::answer`] is the text program. The modules follow the documents: the checks of an outline, of a
+//! degree and of m, halving, the rows and the enclosure, the walk; the checks of a leaf list and a point,
+//! covers, judging; drawing; the lines of a text, its answer.
 
 #![forbid(unsafe_code)]
 
 mod band;
 mod cover;
 mod curve;
+mod degree;
 #[cfg(test)]
 mod documented;
 mod enclosure;

@@ -1,6 +1,7 @@
 //! The checks of a tolerance and an outline, and the outline's curves.
 
 use crate::curve::Curve;
+use crate::degree::check_degree;
 use crate::refusal::Refusal;
 use std::ops::RangeInclusive;
 
@@ -9,9 +10,6 @@ const TOLERANCES: RangeInclusive<i32> = 2..=1_048_576;
 
 /// Coordinates that are taken, in stage units.
 const COORDINATES: RangeInclusive<i32> = -1_048_576..=1_048_576;
-
-/// Degrees that are taken.
-const DEGREES: RangeInclusive<i32> = 1..=3;
 
 /// How many curves an outline that is given as a list may have.
 pub const MOST_CURVES: usize = 4_096;
@@ -25,8 +23,9 @@ pub fn check_tolerance(tolerance: i32) -> Result<(), Refusal> {
     }
 }
 
-/// The curves of an outline that may have `most`, after checks 6 and, curve by curve, 5, 2, 3, 4 and 17.
-pub fn curves(outline: &[i32], most: usize) -> Result<Vec<Curve>, Refusal> {
+/// The curves of an outline that may have `most`, for m pieces, after checks 6 and, curve by curve, 5, 2, 20, 3, 4
+/// and 17.
+pub fn curves(outline: &[i32], most: usize, m: u32) -> Result<Vec<Curve>, Refusal> {
     if outline.is_empty() {
         return Err(Refusal::EmptyOutline);
     }
@@ -37,7 +36,7 @@ pub fn curves(outline: &[i32], most: usize) -> Result<Vec<Curve>, Refusal> {
         if curves.len() == most {
             return Err(Refusal::TooManyCurves { index });
         }
-        let degree = degree(outline[index]).ok_or(Refusal::Degree { index })?;
+        let degree = check_degree(outline[index], m, index)?;
         let first = index + 1;
         let next = first + 2 * (degree + 1);
         let length = outline.len();
@@ -55,10 +54,6 @@ pub fn curves(outline: &[i32], most: usize) -> Result<Vec<Curve>, Refusal> {
     Ok(curves)
 }
 
-fn degree(number: i32) -> Option<usize> {
-    DEGREES.contains(&number).then_some(number as usize)
-}
-
 #[cfg(test)]
 mod tests {
     use super::*;
@@ -68,9 +63,9 @@ mod tests {
     /// A line of no length, which meets itself.
     const STILL: [i32; 5] = [1, 0, 1, 0, 1];
 
-    /// How many curves an outline of a list has.
+    /// How many curves an outline of a list has with three pieces, which every degree takes.
     fn count(outline: &[i32]) -> Result<usize, Refusal> {
-        curves(outline, MOST_CURVES).map(|curves| curves.len())
+        curves(outline, MOST_CURVES, 3).map(|curves| curves.len())
     }
 
     fn refusal(outline: &[i32]) -> Refusal {
@@ -88,14 +83,14 @@ mod tests {
     }
 
     #[test]
-    fn a_degree_is_1_to_3() {
-        for bad in [i32::MIN, -1, 0, 4, i32::MAX] {
+    fn a_degree_is_1_to_5() {
+        for bad in [i32::MIN, -1, 0, 6, i32::MAX] {
             assert_eq!(refusal(&[bad]), Refusal::Degree { index: 0 });
             let mut outline = LINE.to_vec();
             outline.push(bad);
             assert_eq!(refusal(&outline), Refusal::Degree { index: 5 });
         }
-        for degree in 1..=3 {
+        for degree in 1..=5 {
             let mut outline = vec![0; 3 + 2 * degree];
             outline[0] = degree as i32;
             assert_eq!(count(&outline), Ok(1));
@@ -136,8 +131,8 @@ mod tests {
         for most in [1, 2, 64, MOST_CURVES] {
             let mut outline = STILL.repeat(most);
             let index = outline.len();
-            let refusal = |outline: &[i32]| curves(outline, most).expect_err("the outline is faulty");
-            assert_eq!(curves(&outline, most).map(|curves| curves.len()), Ok(most));
+            let refusal = |outline: &[i32]| curves(outline, most, 3).expect_err("the outline is faulty");
+            assert_eq!(curves(&outline, most, 3).map(|curves| curves.len()), Ok(most));
             outline.push(9);
             assert_eq!(refusal(&outline), Refusal::TooManyCurves { index });
             outline.extend([5, 5, 5, 5]);
@@ -166,12 +161,14 @@ mod tests {
 
     #[test]
     fn a_curve_begins_at_the_last_point_of_the_curve_before() {
-        for (first, second) in (1..=3).flat_map(|first| (1..=3).map(move |second| (first, second))) {
+        for (first, second) in (1..=5).flat_map(|first| (1..=5).map(move |second| (first, second))) {
             let index = 3 + 2 * first as usize;
             let after = |start| count(&[curve(first, [3, 4], [5, 6]), curve(second, start, [8, 9])].concat());
             assert_eq!(after([5, 6]), Ok(2));
-            // Off by one, the first point of the curve before, the point before the last, the padding.
-            for start in [[4, 6], [6, 6], [5, 5], [5, 7], [3, 4], [70, 80], [72, 82], [0, 0], [6, 5]] {
+            // Off by one, the first point of the curve before, points before the last, the padding.
+            let inner = (1..first).map(|i| [70 + i, 80 + i]);
+            let others = [[4, 6], [6, 6], [5, 5], [5, 7], [3, 4], [0, 0], [6, 5]];
+            for start in others.into_iter().chain(inner) {
                 assert_eq!(after(start), Err(Refusal::Gap { index }));
             }
         }
@@ -191,5 +188,30 @@ mod tests {
         assert_eq!(refusal(&[1, 0, 0, 0, 1, 1, 5, 5, 5, far]), Refusal::Coordinate { index: 9 });
         assert_eq!(refusal(&[1, 0, 0, 0, 1, 1, 5, 5, 5, 5, 7]), Refusal::Gap { index: 5 });
         assert_eq!(refusal(&[1, 0, 0, 0, 1, 1, 5, 5, 5]), Refusal::CutShort { length: 9 });
+    }
+
+    #[test]
+    fn degrees_4_and_5_with_fewer_than_3_pieces_are_refused_after_5_and_2_and_before_3() {
+        for (m, degree) in (1..=8).flat_map(|m| [(m, 4), (m, 5)]) {
+            let refusal =
+                |outline: &[i32]| curves(outline, MOST_CURVES, m).expect_err("the outline is faulty");
+            // The curve is cut short as well, has a coordinate out of range, or does not meet the one before.
+            let faulty = [
+                (vec![degree], Refusal::CutShort { length: 1 }),
+                (vec![degree, 1_048_577, 0], Refusal::CutShort { length: 3 }),
+                ([&[degree, i32::MIN][..], &[0; 11]].concat(), Refusal::Coordinate { index: 1 }),
+            ];
+            for (outline, later) in faulty {
+                assert_eq!(refusal(&outline), if m < 3 { Refusal::TooFewPieces { index: 0 } } else { later });
+            }
+            let apart = [&STILL[..], &[degree], &[0; 12][..2 * degree as usize + 2]].concat();
+            let later = Refusal::Gap { index: 5 };
+            assert_eq!(refusal(&apart), if m < 3 { Refusal::TooFewPieces { index: 5 } } else { later });
+            // A curve before it is named first, and so is that it is one too many.
+            assert_eq!(refusal(&[1, 0, i32::MAX, 0, 0, degree]), Refusal::Coordinate { index: 2 });
+            assert_eq!(refusal(&[6, degree]), Refusal::Degree { index: 0 });
+            let many = [&STILL.repeat(MOST_CURVES)[..], &[degree]].concat();
+            assert_eq!(refusal(&many), Refusal::TooManyCurves { index: 5 * MOST_CURVES });
+        }
     }
 }

@@ -6,7 +6,7 @@
 pub enum Refusal {
     /// 1: the tolerance is outside its range.
     Tolerance,
-    /// 2: a degree is not 1 to 3.
+    /// 2: a degree is not 1 to 5.
     Degree {
         /// Where the degree stands in the outline.
         index: usize,
@@ -91,6 +91,11 @@ pub enum Refusal {
         /// How many leaves the outline has.
         leaves: usize,
     },
+    /// 20: a degree is 4 or 5, and the number of pieces is below 3.
+    TooFewPieces {
+        /// Where the degree stands in the outline.
+        index: usize,
+    },
 }
 
 impl Refusal {
@@ -116,6 +121,7 @@ impl Refusal {
             Refusal::Gap { .. } => 17,
             Refusal::Pieces => 18,
             Refusal::TooManyLeaves { .. } => 19,
+            Refusal::TooFewPieces { .. } => 20,
         }
     }
 
@@ -128,7 +134,8 @@ impl Refusal {
             | Refusal::Coordinate { index }
             | Refusal::TooManyCurves { index }
             | Refusal::LeafListNumber { index }
-            | Refusal::Gap { index } => index,
+            | Refusal::Gap { index }
+            | Refusal::TooFewPieces { index } => index,
             Refusal::CutShort { length } | Refusal::LeafListLength { length } => length,
             Refusal::TooWide { curve, node } => 512 * curve + node,
             Refusal::TooFewRecords { leaves } | Refusal::TooManyLeaves { leaves } => leaves,

@@ -4,7 +4,7 @@ use lib.ListN.{length-set}
 use borrow.Author.Needs.{needs}
 use Rattle.integers.proofs.Machine.{fits!, is! }
 use Rattle.bound_coordinate.proofs.Coordinates.{bounded}
-use Rattle.band_records.specs.Inside.{boxBy}
+use Rattle.band_records.specs.Inside.{boxFrom}
 use Rattle.band_records.proofs.Writing.{four-sets}
 use Rattle.band_records.proofs.put_box.Statement.{statement}
 use Rattle.band_records.proofs.put_box.Tie as tie
@@ -31,7 +31,7 @@ slice-set-from-records-4 : tie.Need-slice-set-from-records-4
 slice-set-from-records-4 c = simp length-set (omega arith)
 
 returns : tie.Need-returns
-unfolding boxBy
+unfolding boxFrom
 returns c =
     let a = c .before .before .before .before .args in
     four-sets (a .records .now) (a .at)

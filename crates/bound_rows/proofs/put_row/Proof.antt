@@ -38,8 +38,8 @@ pub put-row-spec : {M : Type 1} → statement M
 put-row-spec =
     tie.close
     (tie.spec Inv-loop μ-loop (λ c. search needs) (λ c. (omega arith, put-none))
-    (λ c. search needs) (λ c. search needs) (λ c. search needs) (λ c. fits! (search products depth 40) tt)
-    (λ c. search needs) (λ c. search needs) (λ c. search needs) (λ c. search needs) (λ c. search needs) (λ c. fits! (search products depth 40) tt)
+    (λ c. search needs) (λ c. search needs) (λ c. search needs) (λ c. fits! (search products depth 40) tt) (λ c. fits! (search products depth 40) tt)
+    (λ c. search needs) (λ c. search needs) (λ c. search needs) (λ c. search needs) (λ c. search needs) (λ c. fits! (search products depth 40) tt) (λ c. fits! (search products depth 40) tt)
     (λ c. search needs) (λ c. search needs) (λ c. search needs) (λ c. search needs)
     (λ c. search needs) (λ c. search needs) (λ c. search needs) (λ c. search needs) (λ c. simp length-set (omega arith))
     (λ c. search needs) (λ c. search needs) (λ c. search needs) (λ c. search needs) (λ c. simp length-set (omega arith))

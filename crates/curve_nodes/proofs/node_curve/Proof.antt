@@ -1,10 +1,12 @@
 -- The curve of a node, along its bits from the highest on. The loop's invariant: with i bits left, the curve so far is that of node >> i, which
 -- is a node. The measure is i.
 use mathlib.Core.Path.{_≡_, sym, _∙_, ap}
-use Prim.Native.Nat.{ℕ, _+_, _-_, _*_, _/_, _%_, _^_, _≤_, _<_}
-use native.Mathlib.Nat.{div-le-self, div-one}
+use Prim.Native.Nat.{ℕ, suc, _+_, _-_, _*_, _/_, _%_, _^_, _≤_, _<_}
+use native.Mathlib.Nat.{le-trans, lt-of-le-of-lt, div-le-self, div-one}
 use native.Mathlib.Omega.{arith}
 use borrow.Author.Needs.{needs}
+use Rattle.setting.specs.Setting.{deepest}
+use Rattle.setting.proofs.Depths.{deepest-most}
 use Rattle.curve_nodes.specs.declared.Curve.{Curve}
 use Rattle.curve_nodes.specs.Nodes.{halfOf, nodeCurve}
 use Rattle.curve_nodes.specs.Inside.{Halvable}
@@ -21,8 +23,8 @@ record Reached (root : Curve) (node : ℕ) (curve : Curve) (i : ℕ) : Type 0 wh
   is : curve ≡ nodeCurve root (node / 2 ^ i)
 
 module _ {root : Curve} {node : ℕ} {curve : Curve} {i : ℕ} (r : Reached root node curve i) where
-  reached-halvable : Sized 0 root → node < 512 → Halvable curve
-  reached-halvable h l = rw (r .is) (node-halvable h (node / 2 ^ i) (r .some) (omega (arith, div-le-self node (2 ^ i))))
+  reached-halvable : Sized 0 root → node < 2 ^ suc (deepest (root .degree)) → Halvable curve
+  reached-halvable h l = rw (r .is) (node-halvable h (node / 2 ^ i) (r .some) (lt-of-le-of-lt (div-le-self node (2 ^ i)) l))
 
   -- one bit on, to the half that it names
   reached-half : (b : ℕ) → 0 < i → b < 2 → node / 2 ^ (i - 1) % 2 ≡ b → Reached root node (halfOf b curve) (i - 1)
@@ -45,7 +47,7 @@ loop-holds c =
     let node = c .before .args .node in
     let top = depth-bit node (c .before .pre .0) in
     rw (c .depth .ensures) (record {
-      few = depth-under node 8 (c .before .pre .0) (c .before .pre .1);
+      few = le-trans (depth-under node (deepest (root .degree)) (c .before .pre .0) (c .before .pre .1)) (deepest-most (root .degree));
       some = omega arith;
       is = sym (node-one root) ∙ ap (nodeCurve root) (sym top);
     })

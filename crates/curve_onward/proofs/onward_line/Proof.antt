@@ -1,15 +1,17 @@
 -- One coordinate of a line carried on: it rises as before.
-use mathlib.Core.Path.{sym, _∙_, ap}
+use native.Mathlib.Nat.{one-mul}
 use borrow.Author.Needs.{needs}
 use Rattle.integers.proofs.Machine.{fits! }
-use Rattle.curve_halves.specs.Halves.{padded}
 use Rattle.curve_halves.proofs.Halving.{coordinate, coordinates, are! }
-use Rattle.curve_onward.proofs.Onward.{line-onward}
+use Rattle.curve_onward.specs.Onward.{risen, onwardAt, onward}
 use Rattle.curve_onward.proofs.onward_line.Statement.{statement}
 use Rattle.curve_onward.proofs.onward_line.Tie as tie
 
 returns : tie.Need-returns
-returns c = are! (search (coordinates, c .before .before .pre .1) depth 40) tt ∙ sym (ap padded (line-onward (c .before .before .args .k) _))
+unfolding risen onwardAt onward
+returns c =
+    let s = c .before .before in
+    rw (one-mul (s .args .k)) (are! (search (coordinates, s .pre .1) depth 40 fits 9999) tt)
 
 pub onward-line-spec : {M : Type 1} → statement M
 onward-line-spec =

@@ -51,53 +51,53 @@ no-fault none e = refl
 no-fault (some q) e = clash (cc)
 
 -- ---- `count` curves are read, up to index `at`
-record Read (ns : List ℤ) (most at count : ℕ) : Type 0 where
+record Read (ns : List ℤ) (most m at count : ℕ) : Type 0 where
   few : count ≤ most
-  is : checkedOf (outlined most ns) ≡ counted count (outlineFrom (most - count) ns at)
+  is : checkedOf (outlined most m ns) ≡ counted count (outlineFrom (most - count) m ns at)
 
-empty : (ns : List ℤ) (most : ℕ) → length ns ≡ 0 → Faulty EmptyOutline ≡ checkedOf (outlined most ns)
+empty : (ns : List ℤ) (most m : ℕ) → length ns ≡ 0 → Faulty EmptyOutline ≡ checkedOf (outlined most m ns)
 unfolding outlined
-empty [] most e = refl
-empty (z ∷ ns) most e = absurd (omega arith)
+empty [] most m e = refl
+empty (z ∷ ns) most m e = absurd (omega arith)
 
-begun : (ns : List ℤ) (most : ℕ) → (length ns ≡ 0 → ⊥) → Read ns most 0 0
+begun : (ns : List ℤ) (most m : ℕ) → (length ns ≡ 0 → ⊥) → Read ns most m 0 0
 unfolding outlined
-begun [] most e = absurd (e refl)
-begun (z ∷ ns) most e = record { few = omega arith; is = rw sub-zero (counted-none (outlineFrom most (z ∷ ns) 0)) }
+begun [] most m e = absurd (e refl)
+begun (z ∷ ns) most m e = record { few = omega arith; is = rw sub-zero (counted-none (outlineFrom most m (z ∷ ns) 0)) }
 
-module _ {ns : List ℤ} {most at count : ℕ} (r : Read ns most at count) where
-  too-many : count ≡ most → at < length ns → Faulty (TooManyCurves at) ≡ checkedOf (outlined most ns)
-  too-many e h = let n : most - count ≡ 0 = omega arith in sym (r .is ∙ rw n (ap (counted count) (outline-full ns at h)))
+module _ {ns : List ℤ} {most m at count : ℕ} (r : Read ns most m at count) where
+  too-many : count ≡ most → at < length ns → Faulty (TooManyCurves at) ≡ checkedOf (outlined most m ns)
+  too-many e h = let n : most - count ≡ 0 = omega arith in sym (r .is ∙ rw n (ap (counted count) (outline-full m ns at h)))
 
-  over : length ns ≤ at → Curves count ≡ checkedOf (outlined most ns)
-  over h = sym (r .is ∙ ap (counted count) (outline-ended ns at (most - count) h) ∙ ap Curves (add-zero count))
+  over : length ns ≤ at → Curves count ≡ checkedOf (outlined most m ns)
+  over h = sym (r .is ∙ ap (counted count) (outline-ended m ns at (most - count) h) ∙ ap Curves (add-zero count))
 
   module _ (d : count ≡ most → ⊥) where
     room : most - count ≡ suc (most - (count + 1))
-    room = let m = r .few in omega arith
+    room = let l = r .few in omega arith
 
-    stopped : (f : Refusal) → at < length ns → faultAt ns at ≡ some f → Faulty f ≡ checkedOf (outlined most ns)
-    stopped f h e = sym (r .is ∙ rw room (ap (counted count) (outline-faulty ns at (most - (count + 1)) f h e)))
+    stopped : (f : Refusal) → at < length ns → faultAt m ns at ≡ some f → Faulty f ≡ checkedOf (outlined most m ns)
+    stopped f h e = sym (r .is ∙ rw room (ap (counted count) (outline-faulty m ns at (most - (count + 1)) f h e)))
 
-    gone-on : faultAt ns at ≡ none → Read ns most (nextAt ns at) (count + 1)
+    gone-on : faultAt m ns at ≡ none → Read ns most m (nextAt ns at) (count + 1)
     gone-on e = record {
-      few = let m = r .few in omega arith;
+      few = let l = r .few in omega arith;
       is = r .is
-          ∙ rw room (ap (counted count) (outline-step ns at (most - (count + 1)) e))
-          ∙ counted-one count (curveAt ns at) (outlineFrom (most - (count + 1)) ns (nextAt ns at));
+          ∙ rw room (ap (counted count) (outline-step m ns at (most - (count + 1)) e))
+          ∙ counted-one count (curveAt ns at) (outlineFrom (most - (count + 1)) m ns (nextAt ns at));
     }
 
 abbrev Inv-loop : tie.InvT-loop
-Inv-loop ns most at₀ count₀ at count = Read ns most at count
+Inv-loop ns most m at₀ count₀ at count = Read ns most m at count
 
 abbrev μ-loop : tie.MeasureT-loop
-μ-loop ns most at₀ count₀ at count = length ns - at
+μ-loop ns most m at₀ count₀ at count = length ns - at
 
 returns : tie.Need-returns Inv-loop μ-loop
-returns c = empty (c .before .args .ns .now) (c .before .args .most) (c .if1 .taken)
+returns c = empty (c .before .args .ns .now) (c .before .args .most) (c .before .args .m) (c .if1 .taken)
 
 loop-holds : tie.Need-loop-holds Inv-loop μ-loop
-loop-holds c = begun (c .before .args .ns .now) (c .before .args .most) (c .if1 .left)
+loop-holds c = begun (c .before .args .ns .now) (c .before .args .most) (c .before .args .m) (c .if1 .left)
 
 returns-2 : tie.Need-returns-2 Inv-loop μ-loop
 returns-2 c = too-many (c .before .before .loop .inv) (c .if2 .taken) (c .before .loop-test .taken)
@@ -111,11 +111,11 @@ returns-3 c =
 
 -- where the curve has no fault
 clear : (c : tie.After-enum-told Inv-loop μ-loop)
-    → faultAt (c .before .before .before .before .before .before .before .args .ns .now) (c .before .before .before .before .before .loop .at) ≡ none
+    → let s = c .before .before .before .before .before in faultAt (s .before .before .args .m) (s .before .before .args .ns .now) (s .loop .at) ≡ none
 clear c = no-fault _ (sym (c .before .before .fault-at .ensures) ∙ c .enum-told .given .1)
 
 next-at-requires : tie.Need-next-at-requires Inv-loop μ-loop
-next-at-requires c κs = faultless _ _ (clear c) .degree
+next-at-requires c κs = faultless _ _ _ (clear c) .degree
 
 add-count : tie.Need-add-count Inv-loop μ-loop
 add-count c = let few = c .before .before .before .before .before .before .loop .inv .few in omega arith

@@ -45,6 +45,8 @@ fn band(engine: &str, input: &str, times: usize) -> Option<()> {
         Some(("cubics", curves)) => outlines::rounds(curves.parse().ok()?),
         Some(("arches", depth)) => outlines::arches(depth.parse().ok()?),
         None if name == "nominal" => outlines::nominal(),
+        None if name == "quartics" => outlines::quartics(),
+        None if name == "quintics" => outlines::quintics(),
         _ => return None,
     };
     let tolerance = tolerance.parse().ok()?;

@@ -21,14 +21,16 @@ enum Fault {
     Curves(usize),
     /// 2: this degree.
     Degree(usize, i32),
+    /// 20: a curve of this degree, 4 or 5, where m is below 3.
+    High(usize, i32),
     /// 3: so many numbers of the last curve are left.
     Cut(usize),
     /// 4: at this number of the curve, 1 to its length, this coordinate.
     Coordinate(usize, usize, i32),
     /// 17: this first point, from the end of the curve before.
     Gap(usize, [i32; 2]),
-    /// 7: a curve too wide after its last halving.
-    Wide(usize),
+    /// 7: a curve of this degree, 3 to 5, that is too wide after its last halving.
+    Wide(usize, i32),
     /// 8: a list without room, empty or one number short.
     Lent(bool),
 }
@@ -45,29 +47,54 @@ impl Fault {
             Coordinate(..) => 4,
             Curves(_) => 5,
             Empty => 6,
-            Wide(_) => 7,
+            Wide(..) => 7,
             Lent(_) => 8,
             Gap(..) => 17,
+            High(..) => 20,
         }
     }
 }
 
 /// Every fault's number.
-const NUMBERS: [u32; 10] = [1, 2, 3, 4, 5, 6, 7, 8, 17, 18];
+const NUMBERS: [u32; 11] = [1, 2, 3, 4, 5, 6, 7, 8, 17, 18, 20];
 
 /// Curves that are accepted at every tolerance from 3 with every m, each from where the one before ends; the first is
 /// from where the last ends.
-const CURVES: [&[i32]; 4] = [
+const LOW: [&[i32]; 4] = [
     &[3, 0, 0, 10, 30, 20, 30, 30, 0],
     &[1, 30, 0, 40, 7],
     &[2, 40, 7, 90, 300, -20, 5],
     &[3, -20, 5, 800, -700, -600, 500, 0, 0],
 ];
 
-/// A curve with the ends of another whose first node at depth 8 does not meet 3 with any m.
-fn wide(curve: &[i32]) -> Vec<i32> {
+/// The like of every degree, with every m from 3.
+const ALL: [&[i32]; 5] = [
+    &[4, 0, 0, 20, 30, 30, 0, 9, 12, 30, 0],
+    &[1, 30, 0, 40, 7],
+    &[5, 40, 7, 30, 20, 25, 0, 0, -9, 9, 9, -20, 5],
+    &[2, -20, 5, 90, 300, 50, 0],
+    &[3, 50, 0, 800, -700, -600, 500, 0, 0],
+];
+
+/// The curves that outlines with m pieces are made of.
+fn of_pieces(m: u32) -> &'static [&'static [i32]] {
+    if m < 3 {
+        &LOW
+    } else {
+        &ALL
+    }
+}
+
+/// The curve at a place of an outline.
+fn curve_at(curves: &[&'static [i32]], place: usize) -> &'static [i32] {
+    curves[place % curves.len()]
+}
+
+/// A curve of a degree with the ends of another, and inner points far above.
+fn wide(curve: &[i32], degree: i32) -> Vec<i32> {
     let ([_, x, y, ..], [.., end_x, end_y]) = (curve, curve) else { panic!("a curve has two points") };
-    vec![3, *x, *y, *x, EDGE, *x, EDGE, *end_x, *end_y]
+    let inner = [*x, EDGE].repeat(degree as usize - 1);
+    [&[degree, *x, *y][..], &inner, &[*end_x, *end_y]].concat()
 }
 
 /// An outline with faults planted, and the answer that the documents' table gives for it.
@@ -92,29 +119,30 @@ fn plant(count: usize, m: u32, faults: &[Fault]) -> Option<Planted> {
     if empty && faults.iter().any(|fault| !matches!(fault, Empty | Tolerance(_) | Pieces(_))) {
         return None;
     }
-    let (mut count, mut tolerance, mut m, mut room) = (if empty { 0 } else { count }, 3, m, Room::Enough);
+    let (mut count, mut tolerance, mut room) = (if empty { 0 } else { count }, 3, Room::Enough);
     for &fault in faults {
         match fault {
             Tolerance(bad) => tolerance = bad,
-            Pieces(bad) => m = bad,
             Curves(many) => count = many,
             Lent(one_short) => room = if one_short { Room::OneShort } else { Room::None },
             _ => {}
         }
     }
-    let curves = damaged(count, faults)?;
+    let curves = damaged(of_pieces(m), count, faults)?;
+    let m =
+        faults.iter().find_map(|fault| if let Pieces(bad) = fault { Some(*bad) } else { None }).unwrap_or(m);
     let outline = curves.concat();
     let expected = first(&curves, faults, outline.len());
     Some(Planted { outline, tolerance, m, room, expected })
 }
 
 /// So many curves with the faults that stand in one of them.
-fn damaged(count: usize, faults: &[Fault]) -> Option<Vec<Vec<i32>>> {
-    let mut curves: Vec<Vec<i32>> = (0..count).map(|i| CURVES[i % CURVES.len()].to_vec()).collect();
-    // A curve is made wide before anything else in it is damaged, and cut before its degree is.
+fn damaged(of: &[&'static [i32]], count: usize, faults: &[Fault]) -> Option<Vec<Vec<i32>>> {
+    let mut curves: Vec<Vec<i32>> = (0..count).map(|i| curve_at(of, i).to_vec()).collect();
+    // A curve gets its degree before anything else in it is damaged, and is cut before its degree is damaged.
     let mut faults = faults.to_vec();
     faults.sort_by_key(|fault| match fault {
-        Wide(_) => 0,
+        Wide(..) | High(..) => 0,
         Gap(..) => 1,
         Coordinate(..) => 2,
         Cut(_) => 3,
@@ -122,10 +150,13 @@ fn damaged(count: usize, faults: &[Fault]) -> Option<Vec<Vec<i32>>> {
     });
     for &fault in &faults {
         match fault {
-            Wide(at) => *curves.get_mut(at)? = wide(curves.get(at)?),
+            Wide(at, degree) | High(at, degree) => {
+                // Not two of them at one place.
+                let curve = curves.get_mut(at).filter(|curve| *curve == curve_at(of, at))?;
+                *curve = wide(curve, degree);
+            }
             Gap(at, [x, y]) => {
-                let before = CURVES[(at - 1) % CURVES.len()];
-                let [.., end_x, end_y] = before else { return None };
+                let [.., end_x, end_y] = curve_at(of, at - 1) else { return None };
                 curves.get_mut(at)?.get_mut(1..3)?.copy_from_slice(&[end_x + x, end_y + y]);
             }
             Coordinate(at, number, coordinate) => *curves.get_mut(at)?.get_mut(number)? = coordinate,
@@ -165,6 +196,9 @@ fn first(curves: &[Vec<i32>], faults: &[Fault], length: usize) -> Option<(u32, u
         if has(&|f| matches!(f, Degree(place, _) if *place == at)) {
             return Some((2, index as u64));
         }
+        if has(&|f| matches!(f, High(place, _) if *place == at)) {
+            return Some((20, index as u64));
+        }
         if at + 1 == curves.len() && has(&|f| matches!(f, Cut(_))) {
             return Some((3, length as u64));
         }
@@ -181,7 +215,7 @@ fn first(curves: &[Vec<i32>], faults: &[Fault], length: usize) -> Option<(u32, u
         index += curve.len();
     }
     let wide = faults.iter().filter_map(|f| match f {
-        Wide(place) => Some(512 * place + 256),
+        Wide(place, degree) => Some(512 * place + if *degree == 3 { 256 } else { 16 }),
         _ => None,
     });
     wide.min().map(|spot| (7, spot as u64))
@@ -212,16 +246,17 @@ fn check(comparison: &mut Comparison, planted: &Planted) {
     );
 }
 
-/// Faults at every place of an outline of `count` curves.
-fn faults(count: usize, places: &[usize]) -> Vec<Fault> {
+/// Faults at every place of an outline of `count` curves with m pieces.
+fn faults(count: usize, places: &[usize], m: u32) -> Vec<Fault> {
+    let of = of_pieces(m);
     let mut faults = vec![Empty, Lent(true), Lent(false)];
     faults.extend([i32::MIN, -1, 0, 1, EDGE + 1, i32::MAX].map(Tolerance));
     faults.extend(WRONG.map(Pieces));
     faults.extend([MOST_CURVES + 1, MOST_CURVES + 2].map(Curves));
-    faults.extend((1..9).map(Cut));
+    faults.extend((1..13).map(Cut));
     for &at in places {
-        faults.extend([i32::MIN, -1, 0, 4, i32::MAX].map(|degree| Degree(at, degree)));
-        let length = CURVES[at % CURVES.len()].len();
+        faults.extend([i32::MIN, -1, 0, 6, i32::MAX].map(|degree| Degree(at, degree)));
+        let length = curve_at(of, at).len();
         for number in [1, 2, length - 2, length - 1] {
             for coordinate in [i32::MIN, -EDGE - 1, EDGE + 1, i32::MAX] {
                 faults.push(Coordinate(at, number, coordinate));
@@ -229,12 +264,13 @@ fn faults(count: usize, places: &[usize]) -> Vec<Fault> {
         }
         if at > 0 {
             // The last is the first point of the curve before.
-            let [.., end_x, end_y] = CURVES[(at - 1) % CURVES.len()] else { panic!("a curve has points") };
-            let first = &CURVES[(at - 1) % CURVES.len()][1..3];
+            let before = curve_at(of, at - 1);
+            let [_, first @ .., end_x, end_y] = before else { panic!("a curve has points") };
             let back = [first[0] - end_x, first[1] - end_y];
             faults.extend([[1, 0], [-1, 0], [0, 1], [0, -1], [7, -9], back].map(|by| Gap(at, by)));
         }
-        faults.push(Wide(at));
+        faults.push(Wide(at, 3));
+        faults.extend([4, 5].map(|degree| if m < 3 { High(at, degree) } else { Wide(at, degree) }));
     }
     faults.retain(|fault| !matches!(fault, Curves(curves) if *curves <= count));
     faults
@@ -244,10 +280,10 @@ fn faults(count: usize, places: &[usize]) -> Vec<Fault> {
 fn every_fault_alone() {
     let mut comparison = Comparison::new("banding, every fault alone", 501);
     for (m, (count, places)) in (1..=8).flat_map(|m| {
-        [(4, &[0, 1, 2, 3][..]), (1, &[0]), (64, &[0, 1, 33, 62, 63])].map(|outline| (m, outline))
+        [(5, &[0, 1, 2, 3, 4][..]), (1, &[0]), (64, &[0, 1, 33, 62, 63])].map(|outline| (m, outline))
     }) {
         check(&mut comparison, &plant(count, m, &[]).unwrap());
-        for fault in faults(count, places) {
+        for fault in faults(count, places, m) {
             if let Some(planted) = plant(count, m, &[fault]) {
                 let expected = planted.expected.map_or(8, |(number, _)| number);
                 assert_eq!(expected, fault.number());
@@ -263,11 +299,13 @@ fn every_fault_alone() {
 fn every_two_faults() {
     let mut comparison = Comparison::new("banding, every two faults", 502);
     let mut pairs = BTreeSet::new();
-    // Each m in turn.
-    let mut turns = (1..=8).cycle();
-    // Four curves, and one or two too many with faults before, in and after the first of these.
-    for (count, places) in [(4, &[0, 1, 2, 3][..]), (MOST_CURVES, &[0, 1, 4_094, 4_095, 4_096, 4_097])] {
-        let faults = faults(count, places);
+    // Five curves, and one or two too many with faults before, in and after the first of these.
+    let outlines = [(5, &[0, 1, 2, 3, 4][..]), (MOST_CURVES, &[0, 1, 4_094, 4_095, 4_096, 4_097])];
+    for (pieces, (count, places)) in [1..=2, 3..=8].into_iter().flat_map(|m| outlines.map(|o| (m.clone(), o)))
+    {
+        let faults = faults(count, places, *pieces.start());
+        // Each m in turn.
+        let mut turns = pieces.cycle();
         for &one in &faults {
             for &other in &faults {
                 // The long outlines are for 5 only.
@@ -292,7 +330,7 @@ fn every_two_faults() {
         }
     }
     // The faults that can stand at two places.
-    assert!([(2, 2), (4, 4), (7, 7), (17, 17)].iter().all(|twice| pairs.contains(twice)));
+    assert!([(2, 2), (4, 4), (7, 7), (17, 17), (20, 20)].iter().all(|twice| pairs.contains(twice)));
     comparison.report();
 }
 
@@ -308,9 +346,11 @@ fn other_side(outline: &[i32], at: usize) -> Option<usize> {
 #[test]
 fn awkward_numbers_everywhere() {
     let mut comparison = Comparison::new("banding, awkward numbers everywhere", 503);
-    let outline = CURVES.concat();
-    let mut turns = (1..=8).cycle();
-    for tolerance in AWKWARD.into_iter().chain([44, 700]) {
+    for (tolerance, pieces) in
+        AWKWARD.into_iter().chain([44, 700]).flat_map(|tolerance| [(tolerance, 1..=2), (tolerance, 3..=8)])
+    {
+        let outline = of_pieces(*pieces.start()).concat();
+        let mut turns = pieces.cycle();
         for at in 0..outline.len() {
             for number in AWKWARD {
                 let mut outline = outline.clone();
@@ -336,12 +376,9 @@ fn awkward_numbers_everywhere() {
 #[test]
 fn every_length_of_an_outline() {
     let mut comparison = Comparison::new("banding, every length of an outline", 504);
-    let mut outline: Vec<i32> = Vec::new();
-    for i in 0..70 {
-        outline.extend(CURVES[i % CURVES.len()]);
-    }
-    for length in 0..=outline.len() {
-        for m in 1..=8 {
+    for m in 1..=8 {
+        let outline: Vec<i32> = (0..70).flat_map(|i| curve_at(of_pieces(m), i)).copied().collect();
+        for length in 0..=outline.len() {
             comparison.tally.outlines += 1;
             comparison.band_into_every_length(&outline[..length], 44, m);
         }

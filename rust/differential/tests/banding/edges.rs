@@ -2,7 +2,7 @@
 
 use differential::banding::{Answer, Comparison};
 use differential::outlines::{outline, EDGE};
-use differential::pieces::pieces;
+use differential::pieces::{degrees, pieces};
 use differential::random::Random;
 use plain::record_length;
 
@@ -23,8 +23,8 @@ fn tolerances_that_a_node_just_meets_and_one_less() {
     let mut comparison = Comparison::new("banding, tolerances at the diagonals of nodes, seed 301", seed);
     let mut random = Random::new(seed);
     for _ in 0..OUTLINES {
-        let outline = outline(&mut random);
         let m = pieces(&mut random);
+        let outline = outline(&mut random, degrees(m));
         comparison.tally.outlines += 1;
         // From the greatest tolerance downwards: the least that a leaf meets, then one less, which splits it.
         let mut tolerance = EDGE;

@@ -3,7 +3,7 @@
 use differential::banding::Answer::{Accepted, Refused};
 use differential::banding::Comparison;
 use differential::outlines::{deepest, EDGE};
-use differential::pieces::pieces;
+use differential::pieces::{degrees, pieces, settings};
 use differential::random::Random;
 
 #[test]
@@ -11,19 +11,22 @@ fn the_most_leaves() {
     let seed = 601;
     let mut comparison = Comparison::new("banding, the most leaves, seed 601", seed);
     let mut random = Random::new(seed);
-    for m in 1..=8 {
-        let mut outline = deepest(&mut random, 64, m);
+    for (degree, m) in settings().filter(|&(degree, _)| degree >= 3) {
+        let mut outline = deepest(&mut random, degree, 64, m);
         comparison.tally.outlines += 1;
         let answer = comparison.band_into_every_length(&outline, 3, m);
-        assert_eq!(answer, Accepted { curves: 64, leaves: 16_384, nodes: 32_704 });
+        // The leaves of a curve, which is also the first node at the greatest depth.
+        let each = if degree == 3 { 256 } else { 16 };
+        assert_eq!(answer, Accepted { curves: 64, leaves: 64 * each, nodes: 128 * each - 64 });
         // The last curve alone is too wide: that comes before the list, however short.
-        let last = outline.len() - 9;
-        let (x, y) = (outline[last + 1], outline[last + 2]);
+        let last = outline.len() - 2 * (degree as usize + 1);
+        let y = outline[last + 1];
         let far = if y > 0 { -EDGE } else { EDGE };
-        outline[last..].copy_from_slice(&[3, x, y, x, far, x, far, x, y]);
+        let inner = last + 2..outline.len() - 2;
+        outline[inner].iter_mut().skip(1).step_by(2).for_each(|y| *y = far);
         comparison.tally.outlines += 1;
         let answer = comparison.band_into_every_length(&outline, 3, m);
-        assert_eq!(answer, Refused(7, 512 * 63 + 256));
+        assert_eq!(answer, Refused(7, 512 * 63 + each));
     }
     comparison.report();
 }
@@ -39,9 +42,11 @@ fn many_leaves_of_every_degree() {
         if random.one_in(3) {
             near[random.below(2)] = 0;
         }
+        let m = pieces(&mut random);
         for _ in 0..random.between(50, 64) {
-            let degree = random.between(1, 3);
-            let size = random.between(1, 12_000);
+            let degree = random.between(1, *degrees(m).end());
+            // Four halvings fewer make a box 256 times as large.
+            let size = random.between(1, if degree <= 3 { 12_000 } else { 12_000 / 256 });
             outline.push(degree);
             outline.extend(near);
             for _ in 0..degree {
@@ -52,7 +57,7 @@ fn many_leaves_of_every_degree() {
         }
         comparison.tally.outlines += 1;
         let tolerance = random.between(2, 9);
-        comparison.band_into_every_length(&outline, tolerance, pieces(&mut random));
+        comparison.band_into_every_length(&outline, tolerance, m);
     }
     comparison.report();
 }

@@ -1,6 +1,7 @@
 //! The proved engine against the plain one: banding.
 
 mod damaged;
+mod degrees;
 mod edges;
 mod examples;
 mod largest;

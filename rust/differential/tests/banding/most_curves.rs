@@ -30,7 +30,7 @@ fn faults(curves: &[Vec<i32>], number: usize) -> Vec<(Vec<i32>, Answer)> {
     };
     let wide = [&[3][..], &curve[1..3], &[0, EDGE, 0, EDGE], &curve[last - 1..]].concat();
     let planted = [
-        (with(0, 3), Refused(2, index)),
+        (with(0, 5), Refused(2, index)),
         (with(last, EDGE + 1_001), Refused(4, index + last as u64)),
         (with(1, -2 * EDGE), Refused(4, index + 1)),
         (with(1, 1), Refused(17, index)),

@@ -2,7 +2,7 @@
 
 use differential::banding::{Answer, Comparison};
 use differential::outlines::{damage, outline, tolerance};
-use differential::pieces::pieces;
+use differential::pieces::{degrees, pieces};
 use differential::random::Random;
 use plain::record_length;
 
@@ -14,9 +14,9 @@ fn whole(name: &'static str, seed: u64) {
     let mut comparison = Comparison::new(name, seed);
     let mut random = Random::new(seed);
     for _ in 0..EACH {
-        let outline = outline(&mut random);
-        let tolerance = tolerance(&mut random);
         let m = pieces(&mut random);
+        let outline = outline(&mut random, degrees(m));
+        let tolerance = tolerance(&mut random);
         comparison.tally.outlines += 1;
         let Answer::Refused(8, leaves) = comparison.band(&outline, tolerance, m, 0) else {
             continue;
@@ -37,14 +37,14 @@ fn broken(name: &'static str, seed: u64) {
     let mut comparison = Comparison::new(name, seed);
     let mut random = Random::new(seed);
     for _ in 0..EACH {
-        let mut outline = outline(&mut random);
-        let mut tolerance = tolerance(&mut random);
         let mut m = pieces(&mut random);
+        let mut outline = outline(&mut random, degrees(m));
+        let mut tolerance = tolerance(&mut random);
         damage(&mut random, &mut outline, &mut tolerance, &mut m);
         comparison.tally.outlines += 1;
         comparison.band_into_every_length(&outline, tolerance, m);
     }
-    assert!((1..=8).chain([17, 18]).all(|number| comparison.tally.refused[number] > 0));
+    assert!((1..=8).chain([17, 18, 20]).all(|number| comparison.tally.refused[number] > 0));
     comparison.report();
 }
 

@@ -5,7 +5,7 @@ use differential::outlines::EDGE;
 use differential::pieces::WRONG;
 use plain::record_length;
 
-const NUMBERS: [i32; 10] = [i32::MIN, -EDGE - 1, -EDGE, 0, 1, 2, 3, 4, EDGE + 1, i32::MAX];
+const NUMBERS: [i32; 12] = [i32::MIN, -EDGE - 1, -EDGE, 0, 1, 2, 3, 4, 5, 6, EDGE + 1, i32::MAX];
 
 #[test]
 fn every_short_list() {

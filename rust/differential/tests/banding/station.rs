@@ -3,7 +3,7 @@
 use differential::banding::Answer::{Accepted, Refused};
 use differential::banding::{Answer, Caller, Comparison};
 use differential::outlines::{damage, deepest, outline, tolerance, EDGE};
-use differential::pieces::pieces;
+use differential::pieces::{degrees, pieces};
 use differential::random::Random;
 use plain::record_length;
 
@@ -61,7 +61,7 @@ impl Both {
 
 /// So many curves of four leaves, then so many lines, each from where the one before ends.
 fn bows_and_lines(random: &mut Random, bows: usize, lines: usize, m: u32) -> Vec<i32> {
-    let mut outline = deepest(random, bows, m);
+    let mut outline = deepest(random, 3, bows, m);
     let [x, y] = if let [.., x, y] = outline[..] { [x, y] } else { [0, 0] };
     outline.extend([1, x, y, x, y].repeat(lines));
     outline
@@ -88,7 +88,7 @@ fn about_128_leaves() {
             assert_eq!(both.band_into_every_length(&outline, FOUR_LEAVES, m), expected);
         }
         // As many leaves as 64 curves can have.
-        let outline = deepest(&mut random, 64, m);
+        let outline = deepest(&mut random, 3, 64, m);
         assert_eq!(both.band_into_every_length(&outline, 3, m), [Refused(19, 16_384); 5]);
     }
     assert!([8, 19].iter().all(|&number| both.station.tally.refused[number] > 0));
@@ -165,14 +165,14 @@ fn random() {
     let mut both = Both::new("station, random outlines, seed 634", seed);
     let mut random = Random::new(seed);
     for i in 0..30_000 {
-        let (mut outline, mut tolerance, mut m) =
-            (outline(&mut random), tolerance(&mut random), pieces(&mut random));
+        let mut m = pieces(&mut random);
+        let (mut outline, mut tolerance) = (outline(&mut random, degrees(m)), tolerance(&mut random));
         if i % 3 == 0 {
             damage(&mut random, &mut outline, &mut tolerance, &mut m);
         }
         both.band_into_every_length(&outline, tolerance, m);
     }
     assert!(both.station.tally.accepted.iter().all(|&accepted| accepted > 500));
-    assert!((1..=8).chain([17, 18, 19]).all(|number| both.station.tally.refused[number] > 0));
+    assert!((1..=8).chain(17..=20).all(|number| both.station.tally.refused[number] > 0));
     both.report();
 }

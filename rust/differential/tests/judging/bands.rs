@@ -6,14 +6,14 @@ use differential::curves::{curves, gcd};
 use differential::judging::{Band, Comparison};
 use differential::leaf_lists::LeafList;
 use differential::outlines::{in_range, outline, starts, tolerance, EDGE};
-use differential::pieces::pieces;
+use differential::pieces::{degrees, pieces};
 use differential::random::Random;
 use plain::record_length;
 
-/// The band of an outline with some m, at the first of some tolerance, twice that and so on at which it is
+/// The band of an outline with m pieces, at the first of some tolerance, twice that and so on at which it is
 /// accepted.
-fn band<'a>(random: &mut Random, outline: &'a [i32]) -> Band<'a> {
-    let (mut tolerance, m) = (tolerance(random), pieces(random));
+fn band<'a>(random: &mut Random, outline: &'a [i32], m: u32) -> Band<'a> {
+    let mut tolerance = tolerance(random);
     loop {
         match Band::new(outline, tolerance, m) {
             Ok(band) => return band,
@@ -40,8 +40,9 @@ fn random_outlines() {
     let mut comparison = Comparison::new("judging, bands of random outlines, seed 721");
     let mut random = Random::new(721);
     for _ in 0..20_000 {
-        let outline = outline(&mut random);
-        let band = band(&mut random, &outline);
+        let m = pieces(&mut random);
+        let outline = outline(&mut random, degrees(m));
+        let band = band(&mut random, &outline, m);
         let list = LeafList::new(band.records.clone(), band.m);
         for _ in 0..4 {
             let (x, y) = list.point(&mut random);
@@ -62,31 +63,38 @@ fn random_outlines() {
     comparison.report();
 }
 
-/// A curve that is whole in sixteenths at every parameter p/q: its coordinates differ by multiples of
-/// q^degree / 16, or of what is left of it.
-fn whole_curve(random: &mut Random, q: i32) -> Vec<i32> {
-    let degree = random.between(1, 3);
+/// q^degree / 16, or what is left of it.
+fn step(q: i32, degree: i32) -> i128 {
     let parts = i128::from(q).pow(degree as u32);
-    let step = (parts / gcd(parts, 16)) as i32;
+    parts / gcd(parts, 16)
+}
+
+/// A curve that is whole in sixteenths at every parameter p/q, of a degree that takes m pieces: its coordinates
+/// differ by multiples of the step.
+fn whole_curve(random: &mut Random, q: i32, m: u32) -> Vec<i32> {
+    // Those for which there is room for two steps.
+    let degrees: Vec<i32> = degrees(m).filter(|&degree| step(q, degree) <= i128::from(EDGE / 2)).collect();
+    let degree = random.pick(&degrees);
+    let step = step(q, degree) as i32;
     let most = random.magnitude().min(EDGE / step);
     let base = [0, 1].map(|_| random.between(-(EDGE - step * most), EDGE - step * most));
     let flat = random.one_in(6);
     let mut curve = vec![degree];
     for i in 0..=degree {
         // Evenly along a line, or anywhere.
-        let mut steps = || if flat { i * most / 3 } else { random.between(-most, most) };
+        let mut steps = || if flat { i * most / degree } else { random.between(-most, most) };
         curve.extend(base.map(|base| base + step * steps()));
     }
     curve
 }
 
 /// One to three of them, each from where the one before ends.
-fn whole_outline(random: &mut Random, q: i32) -> Vec<i32> {
-    let mut outline = whole_curve(random, q);
+fn whole_outline(random: &mut Random, q: i32, m: u32) -> Vec<i32> {
+    let mut outline = whole_curve(random, q, m);
     let curves = random.between(1, 3);
     while (starts(&outline).len() as i32) < curves {
         let end = [outline[outline.len() - 2], outline[outline.len() - 1]];
-        let mut curve = whole_curve(random, q);
+        let mut curve = whole_curve(random, q, m);
         let by = [end[0] - curve[1], end[1] - curve[2]];
         curve[1..].iter_mut().zip(by.into_iter().cycle()).for_each(|(number, by)| *number += by);
         if curve.iter().all(|&n| in_range(n)) {
@@ -101,8 +109,9 @@ fn points_between_curves() {
     let mut comparison = Comparison::new("judging, points between curves, seed 723");
     let mut random = Random::new(723);
     for _ in 0..10_000 {
-        let outline = outline(&mut random);
-        let band = band(&mut random, &outline);
+        let m = pieces(&mut random);
+        let outline = outline(&mut random, degrees(m));
+        let band = band(&mut random, &outline, m);
         for (number, curve) in curves(&outline).iter().enumerate().skip(1) {
             let (x, y) = curve.whole_point(0, 1).expect("control points are whole");
             comparison.judge_of_curve(&band, (x, y));
@@ -127,9 +136,9 @@ fn points_of_curves() {
     let mut random = Random::new(722);
     let parts = [1, 2, 3, 4, 5, 6, 7, 8, 9, 10, 11, 12, 15, 16, 17, 20, 24, 32, 48, 50, 60, 64, 96, 100, 128];
     for _ in 0..2_500 {
-        let q = random.pick(&parts);
-        let outline = whole_outline(&mut random, q);
-        let band = band(&mut random, &outline);
+        let (q, m) = (random.pick(&parts), pieces(&mut random));
+        let outline = whole_outline(&mut random, q, m);
+        let band = band(&mut random, &outline, m);
         for curve in curves(&outline) {
             for p in 0..=q {
                 let point = curve.whole_point(p.into(), q.into()).expect("the curve is whole there");

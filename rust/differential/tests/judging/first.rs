@@ -5,7 +5,7 @@ use differential::judging::Answer::{Off, On};
 use differential::judging::{Band, Comparison};
 use differential::leaf_lists::{leaf_list, LeafList};
 use differential::outlines::{outline, tolerance};
-use differential::pieces::pieces;
+use differential::pieces::{degrees, pieces};
 use differential::random::Random;
 use plain::record_length;
 
@@ -75,9 +75,10 @@ fn bands_in_either_order() {
     let mut comparison = Comparison::new("judging, bands in either order, seed 732");
     let mut random = Random::new(732);
     for _ in 0..4_000 {
-        let outline = outline(&mut random);
+        let m = pieces(&mut random);
+        let outline = outline(&mut random, degrees(m));
         let tolerance = tolerance(&mut random);
-        let Ok(band) = Band::new(&outline, tolerance, pieces(&mut random)) else { continue };
+        let Ok(band) = Band::new(&outline, tolerance, m) else { continue };
         let back = reversed(&band.records, band.m);
         let list = LeafList::new(band.records, band.m);
         for leaves in [&list.numbers, &back] {

@@ -4,6 +4,7 @@ use differential::curves::curves;
 use differential::judging::{Answer, Band, Comparison};
 use differential::leaf_lists::LeafList;
 use differential::outlines::deepest;
+use differential::pieces::settings;
 use differential::random::Random;
 use plain::record_length;
 
@@ -11,10 +12,11 @@ use plain::record_length;
 fn the_most_leaves() {
     let mut comparison = Comparison::new("judging, the most leaves, seed 731");
     let mut random = Random::new(731);
-    for m in 1..=8 {
-        let outline = deepest(&mut random, 64, m);
+    for (degree, m) in settings().filter(|&(degree, _)| degree >= 3) {
+        let outline = deepest(&mut random, degree, 64, m);
         let band = Band::new(&outline, 3, m).expect("the outline is accepted");
-        assert_eq!(band.records.len(), record_length(m) * 16_384);
+        let leaves = if degree == 3 { 64 * 256 } else { 64 * 16 };
+        assert_eq!(band.records.len(), record_length(m) * leaves);
         let list = LeafList::new(band.records.clone(), m);
         for _ in 0..20 {
             let (x, y) = list.point(&mut random);

@@ -29,7 +29,7 @@ fn judge(leaves: &[i32], x: i32, y: i32) -> Answer {
 
 #[test]
 fn the_most_records() {
-    let outline = deepest(&mut Random::new(732), MOST_CURVES, M);
+    let outline = deepest(&mut Random::new(732), 3, MOST_CURVES, M);
     let (mut records, mut by_plain) = (vec![7; RECORD * LEAVES], vec![7; RECORD * LEAVES]);
     let report =
         on_a_small_stack(|| contour_band::band(&outline, 3, M, &mut records)).expect("it is accepted");

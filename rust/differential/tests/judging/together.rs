@@ -3,12 +3,13 @@
 use differential::judging::{Answer, Band};
 use differential::leaf_lists::{LeafList, AWKWARD, FARTHEST};
 use differential::outlines::{self, outline, tolerance};
-use differential::pieces::{pieces, WRONG};
+use differential::pieces::{degrees, pieces, WRONG};
 use differential::random::Random;
 use differential::together::{Comparison, Outcome};
 use plain::record_length;
 
 const CURVE_A: [i32; 9] = [3, 0, 0, 10, 30, 20, 30, 30, 0];
+const QUARTIC: [i32; 11] = [4, 0, 0, 210, 30, 420, 40, 630, 30, 840, 0];
 
 #[test]
 fn examples() {
@@ -30,28 +31,35 @@ fn examples() {
 #[test]
 fn orders() {
     const STEEP: [i32; 9] = [3, 0, 0, 0, 1_048_576, 0, 1_048_576, 0, 0];
+    const STEEP_QUARTIC: [i32; 11] = [4, 0, 0, 0, 1_048_576, 0, 1_048_576, 0, 1_048_576, 0, 0];
     const ENDS: [i32; 7] = [i32::MIN, -FARTHEST - 1, -FARTHEST, 0, FARTHEST, FARTHEST + 1, i32::MAX];
     let many = [1, 0, 0, 0, 0].repeat(4_097);
     let apart = [1, 0, 0, 0, 1].repeat(2);
-    let calls: [(&[i32], i32, u32, usize, Option<(u32, u64)>); 18] = [
+    let calls: [(&[i32], i32, u32, usize, Option<(u32, u64)>); 24] = [
         (&CURVE_A, 44, 0, 18, Some((18, 0))),
         (&CURVE_A, 1, 9, 18, Some((18, 0))),
         (&[], 44, u32::MAX, 0, Some((18, 0))),
         (&CURVE_A, 1, 3, 18, Some((1, 0))),
         (&[], 44, 3, 18, Some((6, 0))),
         (&many, 44, 3, 18, Some((5, 20_480))),
-        (&[4], 44, 3, 18, Some((2, 0))),
+        (&[6], 44, 3, 18, Some((2, 0))),
+        (&QUARTIC, 44, 2, 18, Some((20, 0))),
+        (&[5], 44, 1, 18, Some((20, 0))),
+        (&[5], 44, 3, 18, Some((3, 1))),
         (&CURVE_A[..8], 44, 3, 18, Some((3, 8))),
         (&[1, 0, 0, 1_048_577, 0], 44, 3, 18, Some((4, 3))),
         (&apart, 44, 3, 18, Some((17, 5))),
         (&STEEP, 2, 3, 18, Some((7, 256))),
         (&STEEP, 2, 3, 0, Some((7, 256))),
+        (&STEEP_QUARTIC, 2, 3, 18, Some((7, 16))),
         (&CURVE_A, 43, 3, 0, Some((8, 2))),
         (&CURVE_A, 43, 3, 35, Some((8, 2))),
         (&CURVE_A, 43, 3, 36, None),
         (&CURVE_A, 43, 3, 54, None),
         (&CURVE_A, 359, 1, 20, None),
         (&CURVE_A, 6, 8, 76, None),
+        (&QUARTIC, 55, 3, 36, None),
+        (&QUARTIC, 8, 8, 76, None),
     ];
     let mut comparison = Comparison::new("judging, together with banding, orders of refusals", 744);
     for (outline, tolerance, m, length, of_banding) in calls {
@@ -84,9 +92,9 @@ fn outlines(name: &'static str, seed: u64, damaged: bool) {
     let mut comparison = Comparison::new(name, seed);
     let mut random = Random::new(seed);
     for _ in 0..12_000 {
-        let mut outline = outline(&mut random);
-        let mut tolerance = tolerance(&mut random);
         let mut m = pieces(&mut random);
+        let mut outline = outline(&mut random, degrees(m));
+        let mut tolerance = tolerance(&mut random);
         if damaged {
             outlines::damage(&mut random, &mut outline, &mut tolerance, &mut m);
         }
@@ -103,7 +111,7 @@ fn outlines(name: &'static str, seed: u64, damaged: bool) {
     let refused = &comparison.tally.refused;
     assert!(comparison.tally.on > 0 && comparison.tally.off > 0);
     assert!(refused[7] > 0 && refused[8] > 0 && refused[11] > 0 && refused[9] == 0 && refused[10] == 0);
-    assert!(!damaged || (1..=8).chain([17, 18]).all(|number| refused[number] > 0));
+    assert!(!damaged || (1..=8).chain([17, 18, 20]).all(|number| refused[number] > 0));
     comparison.report();
 }
 

@@ -20,7 +20,7 @@ use Rattle.band.proofs.outline_band.band_by.Tie as tie
 counted : (c : tie.After-known-told2) →
     let s = c .before .before .before .before in
     Total (c .before .leaves .given .0 .0)
-    ≡ countedOf (lists (s .args .pieces .m)) (s .args .t) (curvesOf (outlineFrom (s .args .curves) (s .args .ns .now) 0))
+    ≡ countedOf (lists (s .args .pieces .m)) (s .args .t) (curvesOf (outlineFrom (s .args .curves) (s .args .pieces .m) (s .args .ns .now) 0))
 counted c =
     let s = c .before .before .before .before in
     rw (toZ-ofZ (s .fits .t)) at (sym (c .before .leaves .given .1) ∙ c .before .before .before .count .ensures)
@@ -30,7 +30,7 @@ returns c =
     let k = c .before in
     let s = k .before .before .before .before in
     let a = s .args in (
-      answer-too-many (limited (a .curves) (a .most) (a .pieces .m)) (a .t) (curvesOf (outlineFrom (a .curves) (a .ns .now) 0)) (counted k) _
+      answer-too-many (limited (a .curves) (a .most) (a .pieces .m)) (a .t) (curvesOf (outlineFrom (a .curves) (a .pieces .m) (a .ns .now) 0)) (counted k) _
           (c .if1 .taken),
       search needs,
     )
@@ -50,8 +50,8 @@ mul-if2 c =
     let k = c .before in
     let s = k .before .before .before .before in
     let r = s .pre .1 in
-    let few = answer-few (lists (s .args .pieces .m)) (s .args .t) (curvesOf (outlineFrom (s .args .curves) (s .args .ns .now) 0)) (counted k)
-    (omega (arith, read-count r, r .few)) in
+    let cs = curvesOf (outlineFrom (s .args .curves) (s .args .pieces .m) (s .args .ns .now) 0) in
+    let few = answer-few (lists (s .args .pieces .m)) (s .args .t) cs (counted k) (omega (arith, read-count (lists (s .args .pieces .m)) r, r .few)) in
     omega (arith, numbers-few (s .pre .0 .has .most) few)
 
 -- the test of the room, in the numbers of a record
@@ -61,7 +61,7 @@ returns-2 c =
     let s = k .before .before .before .before in
     let a = s .args in
     let m = a .pieces .m in (
-      answer-too-few (limited (a .curves) (a .most) m) (a .t) (curvesOf (outlineFrom (a .curves) (a .ns .now) 0)) (counted k) (taken (c .before))
+      answer-too-few (limited (a .curves) (a .most) m) (a .t) (curvesOf (outlineFrom (a .curves) (a .pieces .m) (a .ns .now) 0)) (counted k) (taken (c .before))
           (rw (record-length-is m) at (c .if2 .taken)),
       search needs,
     )
@@ -76,21 +76,21 @@ write-all-requires c κs =
     let k = c .before .before .before in
     let s = k .before .before .before .before in (
       s .pre .0,
-      rw (toZ-ofZ (s .fits .t)) (fillable (s .pre .1) (lists (s .args .pieces .m)) (s .args .t) (counted k) (enough (c .before))),
+      rw (toZ-ofZ (s .fits .t)) (fillable (lists (s .args .pieces .m)) (s .pre .1) (s .args .t) (counted k) (enough (c .before))),
     )
 
 sub-nodes : tie.Need-sub-nodes
 sub-nodes c =
     let k = c .before .before .before .before .before in
     let s = k .before .before .before .before in
-    let cs = curvesOf (outlineFrom (s .args .curves) (s .args .ns .now) 0) in
-    omega (arith, answer-nodes (lists (s .args .pieces .m)) (s .args .t) cs (counted k), read-count (s .pre .1))
+    let cs = curvesOf (outlineFrom (s .args .curves) (s .args .pieces .m) (s .args .ns .now) 0) in
+    omega (arith, answer-nodes (lists (s .args .pieces .m)) (s .args .t) cs (counted k), read-count (lists (s .args .pieces .m)) (s .pre .1))
 
 returns-3 : tie.Need-returns-3
 returns-3 c =
     let s = c .before .before .before .before in
     let a = s .args in (
-      answer-too-wide (limited (a .curves) (a .most) (a .pieces .m)) (a .t) (curvesOf (outlineFrom (a .curves) (a .ns .now) 0)) _
+      answer-too-wide (limited (a .curves) (a .most) (a .pieces .m)) (a .t) (curvesOf (outlineFrom (a .curves) (a .pieces .m) (a .ns .now) 0)) _
           (rw (toZ-ofZ (s .fits .t)) at (sym (c .before .refusal .given .1) ∙ c .before .before .before .count .ensures)),
       search needs,
     )
@@ -103,9 +103,9 @@ returns-4 c =
     let m = a .pieces .m in
     let e = counted k in
     let h = enough (c .before .before .before) in (
-      report-done (s .pre .1) (limited (a .curves) (a .most) m) (a .t) e (taken (c .before .before .before .before)) h,
+      report-done (limited (a .curves) (a .most) m) (s .pre .1) (a .t) e (taken (c .before .before .before .before)) h,
       (rw (toZ-ofZ (s .fits .t)) at (c .before .write-all .ensures))
-          ∙ answer-list (lists m) (a .t) (curvesOf (outlineFrom (a .curves) (a .ns .now) 0)) e (a .records .now) h,
+          ∙ answer-list (lists m) (a .t) (curvesOf (outlineFrom (a .curves) (a .pieces .m) (a .ns .now) 0)) e (a .records .now) h,
     )
 
 pub band-by-spec : {M : Type 1} → statement M

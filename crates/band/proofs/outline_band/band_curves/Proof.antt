@@ -42,13 +42,14 @@ put-rows-requires c κs =
     let h = c .before .pre .0 in
     let e : toZ w64 m ≡ pos m = toZ-pos w64 (omega (arith, h .most)) in
     let small : natAbs (toZ w64 m) ≤ 5000 * m = rw e (omega arith) in
-    (h, refl, filled (toZ w64 m) small 108)
+    (h, refl, filled (toZ w64 m) small 297)
 
 band-by-requires : tie.Need-band-by-requires
 band-by-requires c κs =
     let r = c .before .before .before .before .before in
     let s = r .before .before in
-    (ready (s .pre .0) (c .before .before .pieces-of .ensures) (r .put-rows .ensures), s .pre .1)
+    let p = c .before .before .pieces-of .ensures in
+    (ready (s .pre .0) p (r .put-rows .ensures), rw (number-is p) (s .pre .1))
 
 returns : tie.Need-returns
 returns c =

@@ -10,7 +10,6 @@ use mir.Facts.{toZ-ofZ}
 use Rattle.integers.proofs.Ranges.{stored}
 use Rattle.setting.specs.Setting.{lists}
 use Rattle.outline.specs.Curves.{curveAt}
-use Rattle.outline.proofs.Faultless.{faultless}
 use Rattle.walk_curve.specs.declared.Walked.the-variants.{Leaves}
 use Rattle.walk_curve.specs.Inside.{walkedOf}
 use Rattle.band_passes.proofs.Outlines.{rest-next}
@@ -28,12 +27,16 @@ loop-holds : tie.Need-loop-holds Inv-loop μ-loop
 loop-holds c = passed-start (c .pre .1)
 
 curve-at-requires : tie.Need-curve-at-requires Inv-loop μ-loop
-curve-at-requires c κs = rest-next (c .before .loop .inv .rest) (c .before .loop .inv .ahead) (c .loop-test .taken) .no-fault
+curve-at-requires c κs =
+    let p = c .before .loop .inv in
+    let f = rest-next (p .rest) (p .ahead) (c .loop-test .taken) .no-fault in
+    (f .degree, f .ends)
 
 walk-requires : tie.Need-walk-requires Inv-loop μ-loop
 walk-requires c κs =
     let p = c .before .before .loop .inv in
-    rw (c .curve-at .ensures) (c .before .before .before .pre .0, rest-next (p .rest) (p .ahead) (c .before .loop-test .taken) .sized)
+    let x = rest-next (p .rest) (p .ahead) (c .before .loop-test .taken) in
+    rw (c .curve-at .ensures) (c .before .before .before .pre .0, x .sized, x .takes)
 
 cast-t14 : tie.Need-cast-t14 Inv-loop μ-loop
 cast-t14 c = omega (arith, c .before .before .before .before .before .before .before .pre .1 .few)
@@ -67,8 +70,7 @@ add-leaves c =
 next-at-requires : tie.Need-next-at-requires Inv-loop μ-loop
 next-at-requires c κs =
     let l = c .before .before .before .before .before .before in
-    faultless (l .before .args .ns .now) (l .loop .at)
-    (rest-next (l .loop .inv .rest) (l .loop .inv .ahead) (c .before .before .before .before .before .loop-test .taken) .no-fault) .degree
+    rest-next (l .loop .inv .rest) (l .loop .inv .ahead) (c .before .before .before .before .before .loop-test .taken) .no-fault .degree
 
 add-k : tie.Need-add-k Inv-loop μ-loop
 add-k c = omega (arith, c .before .before .before .before .before .before .before .before .pre .1 .few)

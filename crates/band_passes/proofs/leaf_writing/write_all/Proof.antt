@@ -6,7 +6,6 @@ use mir.Syntax.{w64}
 use mir.Val.{toZ}
 use mir.Facts.{toZ-ofZ}
 use Rattle.setting.specs.Setting.{lists}
-use Rattle.outline.proofs.Faultless.{faultless}
 use Rattle.band_passes.proofs.Outlines.{rest-next}
 use Rattle.band_passes.proofs.Filling.{Filled, filled-start, filled-length, filled-ready, filled-room, filled-on, filled-done}
 use Rattle.band_passes.proofs.leaf_writing.write_all.Statement.{statement}
@@ -26,7 +25,10 @@ cast-write-curve : tie.Need-cast-write-curve Inv-loop μ-loop
 cast-write-curve c = omega (arith, c .before .before .before .pre .1 .readable .few)
 
 curve-at-requires : tie.Need-curve-at-requires Inv-loop μ-loop
-curve-at-requires c κs = let f = c .before .before .loop .inv in rest-next (f .rest) (f .ahead) (c .before .loop-test .taken) .no-fault
+curve-at-requires c κs =
+    let f = c .before .before .loop .inv in
+    let r = rest-next (f .rest) (f .ahead) (c .before .loop-test .taken) .no-fault in
+    (r .degree, r .ends)
 
 write-curve-requires : tie.Need-write-curve-requires Inv-loop μ-loop
 write-curve-requires c κs =
@@ -37,10 +39,8 @@ write-curve-requires c κs =
 
 next-at-requires : tie.Need-next-at-requires Inv-loop μ-loop
 next-at-requires c κs =
-    let l = c .before .before .before .before .before in
-    let f = l .loop .inv in
-    faultless (l .before .args .ns .now) (l .loop .at)
-    (rest-next (f .rest) (f .ahead) (c .before .before .before .before .loop-test .taken) .no-fault) .degree
+    let f = c .before .before .before .before .before .loop .inv in
+    rest-next (f .rest) (f .ahead) (c .before .before .before .before .loop-test .taken) .no-fault .degree
 
 add-k : tie.Need-add-k Inv-loop μ-loop
 add-k c = omega (arith, c .before .before .before .before .before .before .before .pre .1 .readable .few)

@@ -1,8 +1,9 @@
 -- The records of a curve's leaves. The loop's invariant: the walk stands at this part of the curve, and the list holds the records of the leaves that
 -- it passed. The measure is the node's rank.
-use mathlib.Core.Path.{_≡_, sym, _∙_, ap}
+use mathlib.Core.Path.{_≡_, refl, sym, _∙_, ap}
 use mathlib.Core.Bool.{true, false}
-use Prim.Native.Nat.{_+_, _≤_, _<_}
+use mathlib.Core.Logic.{⊎-elim}
+use Prim.Native.Nat.{_+_, _^_, _≤_, _<_}
 use native.Mathlib.Omega.{arith}
 use mir.Syntax.{w64}
 use mir.Val.{toZ}
@@ -15,7 +16,7 @@ use Rattle.setting.proofs.Pieces.{record-length-is}
 use Rattle.band_passes.specs.Inside.{EndsMeet}
 use Rattle.walk_curve.specs.Inside.{PartOf}
 use Rattle.walk_curve.specs.Walked.{nodeMeets}
-use Rattle.walk_curve.proofs.Parts.{part-whole, part-sized, part-shallow, part-meets, part-left}
+use Rattle.walk_curve.proofs.Parts.{part-whole, part-degree, part-sized, part-low, part-high, part-pieces, part-halvable, part-meets, part-left}
 use Rattle.band_records.specs.Records.{recordOf}
 use Rattle.walk_tree.proofs.Rank.{rank}
 use Rattle.walk_tree.proofs.Walking.{walking-halvable, half-falls, leaf-falls}
@@ -48,31 +49,58 @@ ready c = rw (toZ-ofZ (c .fits .t)) (c .pre .1)
 room : (c : tie.At-loop Inv-loop μ-loop) → c .loop .place + recordLength (lists (c .before .args .pieces .m)) ≤ length (c .loop .records)
 room c = recorded-room (c .loop .inv .0) (rw (toZ-ofZ (c .before .fits .t)) (c .before .pre .3))
 
+-- ---- the test of the node, of degree 1 to 3 or 4 and 5
 depth-requires : tie.Need-depth-requires Inv-loop μ-loop
-depth-requires c κs = c .before .loop .inv .1 .some
+depth-requires c κs = c .before .before .before .loop .inv .1 .some
 
 meets-requires : tie.Need-meets-requires Inv-loop μ-loop
 meets-requires c κs =
-    let p = c .before .before .loop .inv .1 in
-    rw (c .depth .ensures) (c .before .before .before .pre .0, part-sized p, part-shallow p)
+    let l = c .before .before .before .before in
+    let p = l .loop .inv .1 in
+    let low : l .loop .part .curve .degree ≤ 3 = omega (arith, c .before .if1 .taken) in
+    rw (c .depth .ensures) (l .before .pre .0, part-sized p, low, part-low p low)
+
+same-requires : tie.Need-same-requires Inv-loop μ-loop
+same-requires c κs = part-halvable (c .before .before .before .loop .inv .1)
+
+depth-requires-2 : tie.Need-depth-requires-2 Inv-loop μ-loop
+depth-requires-2 c κs = c .before .before .before .before .loop .inv .1 .some
+
+meets-requires-2 : tie.Need-meets-requires-2 Inv-loop μ-loop
+meets-requires-2 c κs =
+    let l = c .before .before .before .before .before in
+    let p = l .loop .inv .1 in
+    let high : 3 < l .loop .part .curve .degree = omega (arith, c .before .before .if1 .left) in
+    rw (c .depth2 .ensures, c .before .same .ensures)
+    (l .before .pre .0, part-pieces p (l .before .pre .1 .takes) high, part-sized p, high, part-high p high)
+
+met : (c : tie.Joined1 Inv-loop μ-loop)
+    → let l = c .before .before .before in
+    let a = l .before .args in
+    c .if1 .met ≡ nodeMeets (lists (a .pieces .m)) (stored w64 (a .t)) (a .curve) (l .loop .part .node)
+met c =
+    let l = c .before .before .before in
+    let a = l .before .args in
+    let p = l .loop .inv .1 in
+    ⊎-elim
+    (λ w. part-meets p (lists (a .pieces .m)) (stored w64 (a .t)) (w .1 .ensures) refl (w .3 ∙ w .2 .ensures))
+    (λ w. part-meets p (lists (a .pieces .m)) (stored w64 (a .t)) (w .2 .ensures) (w .1 .ensures) (w .4 ∙ w .3 .ensures))
+    (c .if1 .came)
 
 -- ---- a leaf
-passes : (c : tie.Then1 Inv-loop μ-loop)
+passes : (c : tie.Then2 Inv-loop μ-loop)
     → let l = c .before .before .before .before in
     let a = l .before .args in
     nodeMeets (lists (a .pieces .m)) (stored w64 (a .t)) (a .curve) (l .loop .part .node) ≡ true
-passes c =
-    let l = c .before .before .before .before in
-    let a = l .before .args in
-    part-meets (l .loop .inv .1) (lists (a .pieces .m)) (stored w64 (a .t)) (c .before .before .depth .ensures) (c .before .meets .ensures)
-    (c .if1 .taken)
+passes c = sym (met (c .before)) ∙ c .if2 .taken
 
 put-record-requires : tie.Need-put-record-requires Inv-loop μ-loop
 put-record-requires c κs =
     let l = c .before .before .before .before .before in
     let p = l .loop .inv .1 in
     let r = l .before .pre .0 in
-    (room l, l .before .pre .2, p .deep, p .some, r .has, r .copied, part-sized p)
+    let d = part-degree p in
+    (room l, l .before .pre .2, rw d (p .deep), p .some, r .has, r .copied, part-sized p, rw d (l .before .pre .1 .takes))
 
 add-place : tie.Need-add-place Inv-loop μ-loop
 add-place c = let l = c .before .before .before .before .before .before .before in omega (arith, room l, recorded-length (l .loop .inv .0))
@@ -106,13 +134,13 @@ returns c =
     let l = r .before .before .before .before .before .before in
     rw (toZ-ofZ (l .before .fits .t)) at
     (recorded-done (l .loop .inv .0) (record-length-is (l .before .args .pieces .m)) (passes (r .before .before))
-    (sym (c .before .before .after .ensures .node) ∙ c .if2 .taken) (written r))
+    (sym (c .before .before .after .ensures .node) ∙ c .if3 .taken) (written r))
 
 loop-less : tie.Need-loop-less Inv-loop μ-loop
 loop-less c =
     let e = c .before .before .after .ensures .node in
     let l = c .before .before .before .before .before .before .before .before .before .before .loop .inv in
-    rw e (leaf-falls (l .0 .walking) (λ o. c .if2 .left (e ∙ o)))
+    rw e (leaf-falls (l .0 .walking) (λ o. c .if3 .left (e ∙ o)))
 
 loop-again : tie.Need-loop-again Inv-loop μ-loop
 loop-again c =
@@ -120,30 +148,27 @@ loop-again c =
     let r = c .before .before .before .before in
     let s = r .before .before .before .before .before .before in
     let l = s .loop .inv in (
-      rw e (recorded-leaf (l .0) (record-length-is (s .before .args .pieces .m)) (passes (r .before .before)) (λ o. c .if2 .left (e ∙ o))
+      rw e (recorded-leaf (l .0) (record-length-is (s .before .args .pieces .m)) (passes (r .before .before)) (λ o. c .if3 .left (e ∙ o))
           (written r)),
-      c .before .before .after .ensures .of (l .1) (c .if2 .left),
+      c .before .before .after .ensures .of (l .1) (c .if3 .left),
     )
 
 -- ---- a node that does not pass
-fails : (c : tie.Else1 Inv-loop μ-loop)
+fails : (c : tie.Else2 Inv-loop μ-loop)
     → let l = c .before .before .before .before in
     let a = l .before .args in
     nodeMeets (lists (a .pieces .m)) (stored w64 (a .t)) (a .curve) (l .loop .part .node) ≡ false
-fails c =
-    let l = c .before .before .before .before in
-    let a = l .before .args in
-    part-meets (l .loop .inv .1) (lists (a .pieces .m)) (stored w64 (a .t)) (c .before .before .depth .ensures) (c .before .meets .ensures)
-    (c .if1 .left)
+fails c = sym (met (c .before)) ∙ c .if2 .left
 
 -- it has halves
-halved : (c : tie.Else1 Inv-loop μ-loop) → c .before .before .before .before .loop .part .node < 256
+halved : (c : tie.Else2 Inv-loop μ-loop)
+    → let l = c .before .before .before .before in l .loop .part .node < 2 ^ deepest (l .before .args .curve .degree)
 halved c =
     let l = c .before .before .before .before in
     walking-halvable (l .loop .inv .0 .walking) (none-passing _ _ (ready (l .before) .passing)) (fails c)
 
 left-requires : tie.Need-left-requires Inv-loop μ-loop
-left-requires c κs = ((_, c .before .before .before .before .loop .inv .1), halved c)
+left-requires c κs = let p = c .before .before .before .before .loop .inv .1 in ((_, p), rw (part-degree p) (halved c))
 
 loop-less-2 : tie.Need-loop-less-2 Inv-loop μ-loop
 loop-less-2 c = rw (c .left .ensures) (half-falls (c .before .before .before .before .before .loop .inv .0 .walking) (halved (c .before)))
@@ -156,5 +181,5 @@ loop-again-2 c =
 pub write-curve-spec : {M : Type 1} → statement M
 write-curve-spec =
     tie.close
-    (tie.spec Inv-loop μ-loop mul-record-length add-record-length loop-holds depth-requires meets-requires put-record-requires
-    add-place after-requires same-length returns loop-less loop-again left-requires loop-less-2 loop-again-2)
+    (tie.spec Inv-loop μ-loop mul-record-length add-record-length loop-holds depth-requires meets-requires same-requires depth-requires-2
+    meets-requires-2 put-record-requires add-place after-requires same-length returns loop-less loop-again left-requires loop-less-2 loop-again-2)

@@ -5,7 +5,7 @@ use borrow.Author.Needs.{needs}
 use Rattle.integers.proofs.Machine.{fits! }
 use Rattle.bound_coordinate.specs.Terms.{highBy}
 use Rattle.bound_coordinate.proofs.Coordinates.{bounded, pieces}
-use Rattle.bound_coordinate.proofs.Numerators.{less-fits, raised-fits, high-size, high-computed}
+use Rattle.bound_coordinate.proofs.Numerators.{dividend, less-fits, raised-fits, high-size, high-computed}
 use Rattle.bound_coordinate.proofs.break_points.high_at.Statement.{statement}
 use Rattle.bound_coordinate.proofs.break_points.high_at.Tie as tie
 
@@ -20,14 +20,14 @@ sub-more c =
     let s = c .before .before .before in
     let a = s .args in
     let t = a .t in
-    less-fits (a .rows .now) (t .row0 + 3 * a .i) (t .row1 + 3 * a .i) (s .pre .0) (s .pre .1) (c .numerator .ensures)
+    less-fits (dividend (a .rows .now) (t .row0 + 3 * a .i) (t .row1 + 3 * a .i) (s .pre .0) (s .pre .1) (omega arith) (omega arith)) (c .numerator .ensures)
 
 add-rounded-down : tie.Need-add-rounded-down
 add-rounded-down c =
     let s = c .before .before .before in
     let a = s .args in
     let t = a .t in
-    raised-fits (a .rows .now) (t .row0 + 3 * a .i) (t .row1 + 3 * a .i) (s .pre .0) (s .pre .1) (c .numerator .ensures)
+    raised-fits (dividend (a .rows .now) (t .row0 + 3 * a .i) (t .row1 + 3 * a .i) (s .pre .0) (s .pre .1) (omega arith) (omega arith)) (c .numerator .ensures)
 
 rounded-down-requires : tie.Need-rounded-down-requires
 rounded-down-requires c κs =
@@ -35,7 +35,8 @@ rounded-down-requires c κs =
     let h = s .pre .0 in
     let a = s .args in
     let t = a .t in
-    (high-size (a .rows .now) (t .row0 + 3 * a .i) (t .row1 + 3 * a .i) h (s .pre .1) (c .numerator .ensures), h .shallow, h .scaled, h .most)
+    let d = dividend (a .rows .now) (t .row0 + 3 * a .i) (t .row1 + 3 * a .i) h (s .pre .1) (omega arith) (omega arith) in
+    (high-size d (c .numerator .ensures), h .shallow, h .scaled, h .most)
 
 returns : tie.Need-returns
 unfolding highBy
@@ -43,7 +44,7 @@ returns c =
     let s = c .before .before .before .before in
     let a = s .args in
     let t = a .t in
-    high-computed (a .rows .now) (t .row0 + 3 * a .i) (t .row1 + 3 * a .i) (s .pre .0) (s .pre .1)
+    high-computed (dividend (a .rows .now) (t .row0 + 3 * a .i) (t .row1 + 3 * a .i) (s .pre .0) (s .pre .1) (omega arith) (omega arith))
     (c .before .numerator .ensures) (c .rounded-down .ensures)
 
 pub high-at-spec : {M : Type 1} → statement M

@@ -3,7 +3,7 @@ use Prim.Native.Nat.{_+_, _*_}
 use native.Mathlib.Omega.{arith}
 use borrow.Author.Needs.{needs}
 use Rattle.bound_coordinate.specs.Terms.{lowBy}
-use Rattle.bound_coordinate.proofs.Numerators.{low-size, low-computed}
+use Rattle.bound_coordinate.proofs.Numerators.{dividend, low-size, low-computed}
 use Rattle.bound_coordinate.proofs.break_points.low_at.Statement.{statement}
 use Rattle.bound_coordinate.proofs.break_points.low_at.Tie as tie
 
@@ -19,8 +19,8 @@ rounded-down-requires c κs =
     let h = s .pre .0 in
     let a = s .args in
     let t = a .t in
-    let size = low-size (a .rows .now) (t .row0 + (3 * a .i + 1)) (t .row1 + (3 * a .i + 1)) h (s .pre .1) (c .numerator .ensures) in
-    (size, h .shallow, h .scaled, h .most)
+    let d = dividend (a .rows .now) (t .row0 + (3 * a .i + 1)) (t .row1 + (3 * a .i + 1)) h (s .pre .1) (omega arith) (omega arith) in
+    (low-size d (c .numerator .ensures), h .shallow, h .scaled, h .most)
 
 returns : tie.Need-returns
 unfolding lowBy
@@ -28,7 +28,7 @@ returns c =
     let s = c .before .before .before .before in
     let a = s .args in
     let t = a .t in
-    low-computed (a .rows .now) (t .row0 + (3 * a .i + 1)) (t .row1 + (3 * a .i + 1)) (s .pre .0) (s .pre .1)
+    low-computed (dividend (a .rows .now) (t .row0 + (3 * a .i + 1)) (t .row1 + (3 * a .i + 1)) (s .pre .0) (s .pre .1) (omega arith) (omega arith))
     (c .before .numerator .ensures) (c .rounded-down .ensures)
 
 pub low-at-spec : {M : Type 1} → statement M

@@ -11,7 +11,11 @@ returns-2 : tie.Need-returns-2
 returns-2 c = simp (lt-ltb 1 (c .before .before .args .degree) (c .before .if1 .left), lt-ltb _ _ (c .if2 .taken))
 
 returns-3 : tie.Need-returns-3
-returns-3 c = simp (lt-ltb 1 (c .before .before .args .degree) (c .before .if1 .left), le-ltb _ _ (c .if2 .left))
+returns-3 c = simp (
+  lt-ltb 1 (c .before .before .args .degree) (c .before .if1 .left),
+  le-ltb _ _ (c .if2 .left),
+  lt-ltb (c .before .before .args .degree) 4 (omega arith),
+)
 
 pub first-place-spec : {M : Type 1} → statement M
 first-place-spec = tie.close (tie.spec returns returns-2 returns-3)

@@ -2,8 +2,9 @@
 use native.Mathlib.Omega.{arith}
 use borrow.Author.Needs.{needs}
 use Rattle.integers.proofs.Machine.{fits!, is! }
+use Rattle.bound_rows.proofs.Copying.{low-place}
 use Rattle.bound_coordinate.proofs.Coordinates.{bounded, pieces, stored-is}
-use Rattle.bound_coordinate.proofs.Chosen.{place-under, last-computed, terms-are}
+use Rattle.bound_coordinate.proofs.Chosen.{last-computed, terms-are}
 use Rattle.bound_coordinate.proofs.terms.terms_of.Statement.{statement}
 use Rattle.bound_coordinate.proofs.terms.terms_of.Tie as tie
 
@@ -27,11 +28,11 @@ mul-t16 c =
 
 row-for-requires : tie.Need-row-for-requires
 row-for-requires c κs = let s = c .before .before .before .before .before in
-    omega (arith, c .first-place .ensures, place-under (s .args .degree) 0 (omega arith))
+    omega (arith, c .first-place .ensures, low-place (s .args .degree) 0 (s .pre .0 .most) (omega arith))
 
 row-for-requires-2 : tie.Need-row-for-requires-2
 row-for-requires-2 c κs = let s = c .before .before .before .before .before .before .before in
-    omega (arith, c .second-place .ensures, place-under (s .args .degree) 1 (omega arith))
+    omega (arith, c .second-place .ensures, low-place (s .args .degree) 1 (s .pre .0 .most) (omega arith))
 
 returns : tie.Need-returns
 returns c =

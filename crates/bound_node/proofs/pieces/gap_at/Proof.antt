@@ -24,7 +24,7 @@ cast-result c =
     let rows = s .args .rows .now in
     let at = from .result + 3 * s .args .i in
     unsigned! (stored w64 (stored w64 (entry rows at) -ℤ stored w64 (entry rows (at + 1))))
-    (search (rows-most (p .0) (p .1), bounded) depth 40) tt (gap-nonneg (p .0) (p .1) (p .2) (p .3) (p .4) (from .ensures .0))
+    (search (rows-most (p .0) (p .1), bounded) depth 40) tt (gap-nonneg (p .0) (p .1) (p .2) (p .3) (p .5) (p .4) (from .ensures .0))
 
 returns : tie.Need-returns
 returns c =
@@ -34,10 +34,10 @@ returns c =
     let from = c .before .before .start-of in
     let rows = a .rows .now in
     let at = from .result + 3 * a .i in
-    by! (λ z. (natAbs z / a .m ≡ gapAt (a .m) (a .degree) (a .k) (a .i)) × (natAbs z / a .m ≤ 10000))
+    by! (λ z. (natAbs z / a .m ≡ gapAt (a .m) (a .degree) (a .k) (a .i)) × (natAbs z / a .m ≤ 18000))
     {z = stored w64 (stored w64 (entry rows at) -ℤ stored w64 (entry rows (at + 1)))} (search (rows-most (p .0) (p .1), bounded) depth 40) tt (
-      gap-is (p .0) (p .1) (p .2) (p .3) (p .4) (from .ensures .0),
-      gap-under (p .0) (p .1) (p .2) (p .3) (p .4) (from .ensures .0),
+      gap-is (p .0) (p .1) (p .2) (p .3) (p .5) (p .4) (from .ensures .0),
+      gap-under (p .0) (p .1) (p .2) (p .3) (p .5) (p .4) (from .ensures .0),
     )
 
 pub gap-at-spec : {M : Type 1} → statement M

@@ -8,28 +8,34 @@ use Rattle.bound_node.proofs.pieces.pieces_of.Tie as tie
 returns : tie.Need-returns
 returns c =
     let g = c .before .before in
-    let single = g .before in
+    let quintic = g .before in
+    let quartic = quintic .before in
+    let single = quartic .before in
     let b1 = single .before in
     let b0 = b1 .before in
     let a1 = b0 .before in
     let a0 = a1 .before in
     c .pieces-by .ensures ∙ pieces-second (a0 .before .pre .0) (single .gap-at5 .ensures .0) (a0 .gap-at .ensures .0) (a1 .gap-at2 .ensures .0)
-    (b0 .gap-at3 .ensures .0) (b1 .gap-at4 .ensures .0) (g .larger .ensures) (c .before .if1 .taken)
+    (b0 .gap-at3 .ensures .0) (b1 .gap-at4 .ensures .0) (g .larger .ensures) (quartic .gap-of .ensures) (quintic .gap-of2 .ensures)
+    (c .before .if1 .taken)
 
 returns-2 : tie.Need-returns-2
 returns-2 c =
     let g = c .before .before in
-    let single = g .before in
+    let quintic = g .before in
+    let quartic = quintic .before in
+    let single = quartic .before in
     let b1 = single .before in
     let b0 = b1 .before in
     let a1 = b0 .before in
     let a0 = a1 .before in
     c .pieces-by2 .ensures ∙ pieces-first (a0 .before .pre .0) (single .gap-at5 .ensures .0) (a0 .gap-at .ensures .0) (a1 .gap-at2 .ensures .0)
-    (b0 .gap-at3 .ensures .0) (b1 .gap-at4 .ensures .0) (g .larger .ensures) (c .before .if1 .left)
+    (b0 .gap-at3 .ensures .0) (b1 .gap-at4 .ensures .0) (g .larger .ensures) (quartic .gap-of .ensures) (quintic .gap-of2 .ensures)
+    (c .before .if1 .left)
 
 pub pieces-of-spec : {M : Type 1} → statement M
 pieces-of-spec =
     tie.close
-    (tie.spec (λ c κs. search needs) (λ c κs. search needs) (λ c κs. search needs) (λ c κs. search needs)
-    (λ c κs. search needs) (λ c. search needs) (λ c. search needs) (λ c κs. search needs) (λ c κs. search needs)
+    (tie.spec (λ c κs. search needs) (λ c κs. search needs) (λ c κs. search needs) (λ c κs. search needs) (λ c κs. search needs)
+    (λ c κs. search needs) (λ c κs. search needs) (λ c. search needs) (λ c. search needs) (λ c κs. search needs) (λ c κs. search needs)
     (λ c κs. search needs) returns returns-2)

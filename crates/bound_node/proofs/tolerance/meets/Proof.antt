@@ -12,7 +12,7 @@ use Rattle.integers.proofs.Machine.{fits!, flag! }
 use Rattle.bound_coordinate.specs.Inside.{Small}
 use Rattle.bound_coordinate.proofs.Coordinates.{bounded, small!, shift-small}
 use Rattle.bound_node.specs.Boxes.{meets}
-use Rattle.bound_node.proofs.Boxes.{boundable-x, boundable-y}
+use Rattle.bound_node.proofs.Boxes.{low-takes, boundable-x, boundable-y}
 use Rattle.bound_node.proofs.Apart.{below-meets, above-meets, tolerance-small}
 use Rattle.bound_node.proofs.Corners.{close-meets, wider-fails}
 use Rattle.bound_node.proofs.SpreadLaws.{unit-is, unit-some, unit-less, sums-under}
@@ -32,41 +32,41 @@ abbrev shift : tie.After-ys → ℕ
 shift c = begin c .args .curve .degree * begin c .args .depth
 
 shift-under : (c : tie.After-ys) → shift c ≤ 24
-shift-under c = shift-small (begin c .pre .1 .most) (begin c .pre .2)
+shift-under c = shift-small (begin c .pre .2) (begin c .pre .3)
 
 returns : tie.Need-returns
 returns c =
     let s = c .before in
     sym (below-meets (lists (s .args .pieces .m)) (s .pre .0 .has) (s .args .t) (s .args .depth) (s .args .curve) (s .pre .1)
-    (lt-yes (flag! (c .if1 .taken) (search (s .fits .t, bounded) depth 40) tt)))
+    (low-takes (s .args .curve .degree) (s .args .pieces .m) (s .pre .2)) (lt-yes (flag! (c .if1 .taken) (search (s .fits .t, bounded) depth 40) tt)))
 
 returns-2 : tie.Need-returns-2
 returns-2 c =
     let s = c .before .before in
     sym (above-meets (lists (s .args .pieces .m)) (s .pre .0 .has) (s .args .t) (s .args .depth) (s .args .curve) (s .pre .1)
-    (lt-yes (flag! (c .if2 .taken) (search (s .fits .t, bounded) depth 40) tt)))
+    (low-takes (s .args .curve .degree) (s .args .pieces .m) (s .pre .2)) (lt-yes (flag! (c .if2 .taken) (search (s .fits .t, bounded) depth 40) tt)))
 
 mul-square : tie.Need-mul-square
 mul-square c = fits! (search (small c, bounded) depth 40) tt
 
 sums-requires : tie.Need-sums-requires
-sums-requires c κs = let p = begin c .pre in (p .0 .has, p .0 .is, boundable-x (p .1) (p .2))
+sums-requires c κs = let p = begin c .pre in (p .0 .has, p .0 .is, boundable-x (p .1) (p .2) (p .3))
 
 sums-requires-2 : tie.Need-sums-requires-2
-sums-requires-2 c κs = let p = begin (c .before) .pre in (p .0 .has, p .0 .is, boundable-y (p .1) (p .2))
+sums-requires-2 c κs = let p = begin (c .before) .pre in (p .0 .has, p .0 .is, boundable-y (p .1) (p .2) (p .3))
 
 whole-requires : tie.Need-whole-requires
 whole-requires c κs =
     let y = c .before in
     let s = y .before .before in
-    let under = sums-under (begin s .pre .0 .has) (begin s .pre .1) (y .before .sums .ensures) (y .sums2 .ensures) in
+    let under = sums-under (begin s .pre .0 .has) (begin s .pre .1) (begin s .pre .2) (y .before .sums .ensures) (y .sums2 .ensures) in
     (omega (arith, under, c .larger .ensures), unit-less (shift-under s), shift-under s)
 
 whole-requires-2 : tie.Need-whole-requires-2
 whole-requires-2 c κs =
     let y = c .before .before .before in
     let s = y .before .before in
-    let under = sums-under (begin s .pre .0 .has) (begin s .pre .1) (y .before .sums .ensures) (y .sums2 .ensures) in
+    let under = sums-under (begin s .pre .0 .has) (begin s .pre .1) (begin s .pre .2) (y .before .sums .ensures) (y .sums2 .ensures) in
     (omega (arith, under, c .larger2 .ensures), unit-less (shift-under s), shift-under s)
 
 is-longer-requires : tie.Need-is-longer-requires
@@ -82,7 +82,7 @@ returns-3 c =
     let y = w .before .before in
     let x = y .before in
     let s = begin (x .before) in
-    sym (close-meets (lists (s .args .pieces .m)) (s .pre .0 .has) (s .args .t) (s .pre .1) (x .sums .ensures) (y .sums2 .ensures)
+    sym (close-meets (lists (s .args .pieces .m)) (s .pre .0 .has) (s .args .t) (s .pre .1) (s .pre .2) (x .sums .ensures) (y .sums2 .ensures)
     (w .before .larger .ensures) (h .before .larger2 .ensures)
     (flag! (sym (n .is-longer .ensures) ∙ not-true (n .is-longer .result) (c .if3 .taken))
     (search (w .whole .ensures, h .whole2 .ensures, small (x .before .before .before), bounded) depth 40) tt))
@@ -91,7 +91,7 @@ whole-requires-3 : tie.Need-whole-requires-3
 whole-requires-3 c κs =
     let y = c .before .before .before .before .before .before .before .before .before in
     let s = y .before .before in
-    let under = sums-under (begin s .pre .0 .has) (begin s .pre .1) (y .before .sums .ensures) (y .sums2 .ensures) in
+    let under = sums-under (begin s .pre .0 .has) (begin s .pre .1) (begin s .pre .2) (y .before .sums .ensures) (y .sums2 .ensures) in
     (⊎-elim (λ w. omega (arith, under)) (λ w. omega (arith, under)) (c .if5 .came), unit-less (shift-under s), shift-under s)
 
 is-longer-requires-2 : tie.Need-is-longer-requires-2
@@ -108,7 +108,7 @@ returns-4 c =
     let x = y .before in
     let s = begin (x .before) in
     let exact = sym (j .before .before .is-exact .ensures) ∙ j .before .if4 .taken in
-    sym (wider-fails (lists (s .args .pieces .m)) (s .pre .0 .has) (s .args .t) (s .pre .1) (x .sums .ensures) (y .sums2 .ensures) exact
+    sym (wider-fails (lists (s .args .pieces .m)) (s .pre .0 .has) (s .args .t) (s .pre .1) (s .pre .2) (x .sums .ensures) (y .sums2 .ensures) exact
     (w .before .larger .ensures) (⊎-elim (λ l. inl (l .0 .taken, l .1)) (λ l. inr (l .0 .left, l .1)) (j .if5 .came))
     (flag! (sym (n .is-longer2 .ensures) ∙ c .if6 .taken)
     (search (w .whole .ensures, n .before .whole3 .ensures, small (x .before .before .before), bounded) depth 40) tt))
@@ -118,7 +118,7 @@ boxes-meet-requires c κs =
     let y = c .before .before .before .before .before .before .before .before .before .before .before .before in
     let e = y .before .before .before .before in
     let p = e .before .before .pre in
-    (p .0, p .1, p .2, small! (search (small e, bounded) depth 40) tt)
+    (p .0, p .1, p .2, p .3, small! (search (small e, bounded) depth 40) tt)
 
 returns-5 : tie.Need-returns-5
 returns-5 c =
@@ -131,7 +131,7 @@ boxes-meet-requires-2 c κs =
     let y = c .before .before .before .before .before .before .before .before in
     let e = y .before .before .before .before in
     let p = e .before .before .pre in
-    (p .0, p .1, p .2, small! (search (small e, bounded) depth 40) tt)
+    (p .0, p .1, p .2, p .3, small! (search (small e, bounded) depth 40) tt)
 
 returns-6 : tie.Need-returns-6
 returns-6 c =

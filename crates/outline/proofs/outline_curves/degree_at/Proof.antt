@@ -1,7 +1,8 @@
--- `outline::outline_curves::degree_at` meets its contract: a degree from 1 to 3 stands inside the list and is a natural.
+-- `outline::outline_curves::degree_at` meets its contract: a degree from 1 to 5 stands inside the list and is a natural.
 use borrow.Author.Needs.{needs}
 use native.Mathlib.Omega.{arith}
 use mir.Syntax.{w32}
+use Rattle.setting.specs.Setting.{mostDegree}
 use Rattle.integers.specs.Entry.{entry}
 use Rattle.integers.proofs.Ranges.{stored}
 use Rattle.integers.proofs.Size.{Size}
@@ -20,7 +21,7 @@ cast-result : tie.Need-cast-result
 cast-result c =
     let ns = c .before .args .ns .now in
     let at = c .before .args .at in
-    let small : Size (entry ns at) = record { bound = 3; under = degree-most ns at (c .before .pre) } in
+    let small : Size (entry ns at) = record { bound = mostDegree; under = degree-most ns at (c .before .pre) } in
     unsigned! (stored w32 (entry ns at)) (search (machine, small) depth 40) tt (degree-nonneg ns at (c .before .pre))
 
 returns : tie.Need-returns

@@ -1,4 +1,4 @@
--- `outline::outline_curves::next_at` meets its contract: the degree is at most 3, and its index is inside the list, so that the sum has room.
+-- `outline::outline_curves::next_at` meets its contract: the degree is at most 5, and its index is inside the list, so that the sum has room.
 use native.Mathlib.Omega.{arith}
 use borrow.Author.Needs.{needs}
 use Rattle.outline.proofs.Degrees.{degree-most, degree-inside}

@@ -1,0 +1,75 @@
+-- The same for degrees 4 and 5, which have three and four second differences; the rows of a fourth that degree 4 does
+-- not have are zeros. Only the contracts of functions inside cite what stands here; nothing of it is part of a public
+-- promise.
+use mathlib.Core.Path.{_≡_}
+use mathlib.Core.List.{List}
+use Prim.Native.Nat.{ℕ, _+_, _*_, _^_, _≤_}
+use lib.ListN.{length}
+use lib.IntN.{ℤ, pos, natAbs, _+ℤ_, _-ℤ_, _*ℤ_}
+use Rattle.integers.specs.Entry.{entry}
+use Rattle.integers.specs.Rounding.{floor, ceiling}
+use Rattle.curve_halves.specs.Sizes.{Each}
+use Rattle.curve_nodes.specs.Differences.{difference}
+use Rattle.bound_rows.specs.Inside.{placeOf}
+use Rattle.bound_coordinate.specs.declared.higher.Higher.{Higher}
+use Rattle.bound_coordinate.specs.Terms.{chosen, chordAt, pairOf, denominatorOf}
+
+-- the terms of a coordinate of degree d for m pieces
+unfoldable pub higherOf : (m d : ℕ) → List ℤ → Higher
+higherOf m d cs = record {
+  start = pos 10000 *ℤ (pos m *ℤ entry cs 0);
+  step = pos 10000 *ℤ (entry cs d -ℤ entry cs 0);
+  difference0 = difference cs 0;
+  difference1 = difference cs 1;
+  difference2 = difference cs 2;
+  difference3 = difference cs 3;
+  row0 = chosen (difference cs 0) (placeOf d 0);
+  row1 = chosen (difference cs 1) (placeOf d 1);
+  row2 = chosen (difference cs 2) (placeOf d 2);
+  row3 = chosen (difference cs 3) (placeOf d 3);
+}
+
+-- the terms of m pieces, over 2^s, of a coordinate within 2^20
+pub record HigherWithin (m s : ℕ) (t : Higher) : Type 0 where
+  pub start : natAbs (t .start) ≤ 10000 * (m * (2 ^ 20 * 2 ^ s))
+  pub step : natAbs (t .step) ≤ 20000 * (2 ^ 20 * 2 ^ s)
+  pub chord : (i : ℕ) → i ≤ m → natAbs (chordAt (t .start) (t .step) i) ≤ 10000 * (m * (2 ^ 20 * 2 ^ s))
+  pub difference0 : natAbs (t .difference0) ≤ 4 * (2 ^ 20 * 2 ^ s)
+  pub difference1 : natAbs (t .difference1) ≤ 4 * (2 ^ 20 * 2 ^ s)
+  pub difference2 : natAbs (t .difference2) ≤ 4 * (2 ^ 20 * 2 ^ s)
+  pub difference3 : natAbs (t .difference3) ≤ 4 * (2 ^ 20 * 2 ^ s)
+  pub row0 : t .row0 ≤ 271
+  pub row1 : t .row1 ≤ 271
+  pub row2 : t .row2 ≤ 271
+  pub row3 : t .row3 ≤ 271
+
+-- the bounds of m pieces over 2^s can be computed from these rows and terms; c is 840 / m
+pub record HigherComputable (m s c : ℕ) (rows : List ℤ) (t : Higher) : Type 0 where
+  pub each : Each (9000 * m) rows
+  pub whole : length rows ≡ 297
+  pub within : HigherWithin m s t
+  pub shallow : s ≤ 20
+  pub scaled : c * m ≡ 840
+  pub most : m ≤ 8
+
+-- the same at break point i, for some number of pieces
+pub record HigherComputableAt (i : ℕ) (rows : List ℤ) (t : Higher) : Type 0 where
+  pub m : ℕ
+  pub s : ℕ
+  pub c : ℕ
+  pub computable : HigherComputable m s c rows t
+  pub point : i ≤ m
+
+-- the number that is divided at break point i: the chord and the sums of two pairs, for rows read `at` places on
+abbrev pub higherNumerator : List ℤ → Higher → (at i : ℕ) → ℤ
+higherNumerator rows t at i =
+    chordAt (t .start) (t .step) i
+    +ℤ (pairOf rows (t .row0 + at) (t .row1 + at) (t .difference0) (t .difference1)
+    +ℤ pairOf rows (t .row2 + at) (t .row3 + at) (t .difference2) (t .difference3))
+
+-- the low and the high at break point i
+unfoldable pub higherLow : (m s : ℕ) → List ℤ → Higher → ℕ → ℤ
+higherLow m s rows t i = floor (higherNumerator rows t (3 * i + 1) i) (denominatorOf m s)
+
+unfoldable pub higherHigh : (m s : ℕ) → List ℤ → Higher → ℕ → ℤ
+higherHigh m s rows t i = ceiling (higherNumerator rows t (3 * i) i) (denominatorOf m s)
