@@ -1,8 +1,8 @@
 -- A walk that writes a record at each leaf: what the list holds at each step, from place `at` on.
 use mathlib.Core.Path.{_≡_, refl, sym, _∙_, ap, ap₂}
-use mathlib.Core.Bool.{true, false}
+use mathlib.Core.Bool.{Bool, true, false}
 use mathlib.Core.List.{List, [], _∷_, _++_}
-use Prim.Native.Nat.{ℕ, _+_, _*_, _≤_}
+use Prim.Native.Nat.{ℕ, _+_, _*_, _^_, _≤_, _<_}
 use native.Mathlib.Nat.{mul-le-mul-left}
 use native.Mathlib.Omega.{arith}
 use lib.ListN.{length, length-append}
@@ -11,63 +11,75 @@ use lib.IntN.{ℤ}
 use Rattle.setting.specs.Setting.{Setting, breakPoints, recordLength, deepest}
 use Rattle.integers.proofs.Stores.{sets-append}
 use Rattle.curve_nodes.specs.declared.Curve.{Curve}
-use Rattle.curve_nodes.specs.Nodes.{depth, nodeCurve, after}
+use Rattle.curve_nodes.specs.Nodes.{depth}
+use Rattle.walk_curve.specs.declared.Part.{Part}
+use Rattle.walk_curve.specs.Inside.{leftPart, AfterOf}
 use Rattle.walk_curve.specs.Walked.{nodeMeets, endsOf}
+use Rattle.walk_curve.proofs.Parts.{part}
+use Rattle.walk_curve.proofs.Walks.{WalkOf, walk-start, walk-left, walk-after}
 use Rattle.band_records.specs.Records.{boxesTo, nodeNumbers, recordOf, recordsOf}
 use Rattle.band_records.proofs.Lengths.{records-length, records-snoc}
 use Rattle.band_passes.specs.Inside.{EndsMeet}
 use Rattle.walk_tree.proofs.Failing.{none-passing}
-use Rattle.walk_tree.proofs.Walking.{Walking, walking-start, walking-half, walking-halvable, walking-leaf, walking-done, fewer-passed}
+use Rattle.walk_tree.proofs.Walking.{walking-halvable, walking-done, fewer-passed}
 
--- ---- the list at each step: it was l, and holds the records of the leaves passed
-pub record Recorded (σ : Setting) (T : ℤ) (c : Curve) (k : ℕ) (l : List ℤ) (at n place : ℕ) (l′ : List ℤ) : Type 0 where
+-- the walk stands at part p; the list was l, and holds the records of the leaves passed
+pub record Recorded (σ : Setting) (T : ℤ) (c : Curve) (k : ℕ) (l : List ℤ) (at : ℕ) (p : Part) (place : ℕ) (l′ : List ℤ) : Type 0 where
   pub passed : List ℕ
-  pub walking : Walking (nodeMeets σ T c) (deepest (c .degree)) passed n
+  pub walk : WalkOf σ T c passed p
   pub here : place ≡ at + recordLength σ * length passed
   pub list : l′ ≡ sets l at (recordsOf σ k c passed)
 
 module _ {σ : Setting} {T : ℤ} {c : Curve} {k : ℕ} {l : List ℤ} {at : ℕ} where
-  pub recorded-start : Recorded σ T c k l at 1 at l
+  pub recorded-start : EndsMeet σ T c → Recorded σ T c k l at (part 1 c) at l
   unfolding recordsOf
-  recorded-start = record { passed = []; walking = walking-start (nodeMeets σ T c) (deepest (c .degree)); here = omega arith; list = refl }
+  recorded-start h = record { passed = []; walk = walk-start (h .sized); here = omega arith; list = refl }
 
-  module _ {n place : ℕ} {l′ : List ℤ} (r : Recorded σ T c k l at n place l′) where
+  module _ {p : Part} {place : ℕ} {l′ : List ℤ} (r : Recorded σ T c k l at p place l′) where
     pub recorded-length : length l′ ≡ length l
     recorded-length = ap length (r .list) ∙ length-sets l at (recordsOf σ k c (r .passed))
 
     pub recorded-room : at + recordLength σ * length (endsOf σ T c) ≤ length l → place + recordLength σ ≤ length l′
-    recorded-room h = omega (arith, recorded-length, r .here, mul-le-mul-left (recordLength σ) (fewer-passed (r .walking)))
+    recorded-room h = omega (arith, recorded-length, r .here, mul-le-mul-left (recordLength σ) (fewer-passed (r .walk .walking)))
 
-    pub recorded-half : EndsMeet σ T c → nodeMeets σ T c n ≡ false → Recorded σ T c k l at (2 * n) place l′
-    recorded-half h e = record {
-      passed = r .passed;
-      walking = walking-half (r .walking) e (walking-halvable (r .walking) (none-passing (nodeMeets σ T c) (endsOf σ T c) (h .passing)) e);
-      here = r .here;
-      list = r .list;
-    }
+    -- a node that does not meet T has halves, since every end does
+    module _ (h : EndsMeet σ T c) where
+      pub recorded-halves : nodeMeets σ T c (p .node) ≡ false → p .node < 2 ^ deepest (c .degree)
+      recorded-halves = walking-halvable (r .walk .walking) (none-passing (nodeMeets σ T c) (endsOf σ T c) (h .passing))
 
-    -- one record more
-    more : {l″ : List ℤ} → l″ ≡ sets l′ place (recordOf σ k c n) → l″ ≡ sets l at (recordsOf σ k c (r .passed ++ n ∷ []))
-    more e =
-        e ∙ ap₂ (λ x p. sets x p (recordOf σ k c n)) (r .list) (r .here ∙ ap (λ m. at + m) (sym (records-length σ k c (r .passed))))
-        ∙ sym (sets-append l at (recordsOf σ k c (r .passed)) (recordOf σ k c n))
-        ∙ ap (sets l at) (sym (records-snoc σ k c (r .passed) n))
+      pub recorded-last : 2 ^ deepest (c .degree) ≤ p .node → nodeMeets σ T c (p .node) ≡ true
+      recorded-last o = go (nodeMeets σ T c (p .node)) refl
+        where
+          go : (b : Bool) → nodeMeets σ T c (p .node) ≡ b → b ≡ true
+          go true e = refl
+          go false e = absurd (omega (arith, recorded-halves e))
 
-    on : place + recordLength σ ≡ at + recordLength σ * length (r .passed ++ n ∷ [])
-    on = omega (arith, r .here, ap (λ m. recordLength σ * m) (length-append (r .passed) (n ∷ [])))
+      pub recorded-left : nodeMeets σ T c (p .node) ≡ false → Recorded σ T c k l at (leftPart p) place l′
+      recorded-left e = record { passed = r .passed; walk = walk-left (r .walk) e (recorded-halves e); here = r .here; list = r .list }
 
-    -- the code goes on by as many numbers as a record has
-    module _ {step : ℕ} (whole : step ≡ recordLength σ) {l″ : List ℤ} where
-      pub recorded-leaf : nodeMeets σ T c n ≡ true → (after n ≡ 1 → ⊥) → l″ ≡ sets l′ place (recordOf σ k c n)
-          → Recorded σ T c k l at (after n) (place + step) l″
-      recorded-leaf e h f = record { passed = r .passed ++ n ∷ []; walking = walking-leaf (r .walking) e h; here = rw whole on; list = more f }
+    -- one that does is a leaf, and the code has written its record
+    module _ {l″ : List ℤ} (f : l″ ≡ sets l′ place (nodeNumbers k (p .node) (boxesTo σ (breakPoints σ) (depth (p .node)) (p .curve)))) where
+      written : l″ ≡ sets l′ place (recordOf σ k c (p .node))
+      unfolding recordOf
+      written = f ∙ ap (λ q. sets l′ place (nodeNumbers k (p .node) (boxesTo σ (breakPoints σ) (depth (p .node)) q))) (r .walk .of .is)
 
-      pub recorded-done : nodeMeets σ T c n ≡ true → after n ≡ 1 → l″ ≡ sets l′ place (recordOf σ k c n)
-          → (place + step ≡ at + recordLength σ * length (endsOf σ T c)) × (l″ ≡ sets l at (recordsOf σ k c (endsOf σ T c)))
-      recorded-done e h f = rw (whole, walking-done (r .walking) e h) (on, more f)
+      pub recorded-kept : length l″ ≡ length l
+      recorded-kept = ap length written ∙ length-sets l′ place (recordOf σ k c (p .node)) ∙ recorded-length
 
--- ---- from what the code called
-pub put : (σ : Setting) (l : List ℤ) (place k : ℕ) (c : Curve) (n : ℕ) {p : Curve} {l′ : List ℤ} → p ≡ nodeCurve c n
-    → l′ ≡ sets l place (nodeNumbers k n (boxesTo σ (breakPoints σ) (depth n) p)) → l′ ≡ sets l place (recordOf σ k c n)
-unfolding recordOf
-put σ l place k c n e f = f ∙ ap (λ p. sets l place (nodeNumbers k n (boxesTo σ (breakPoints σ) (depth n) p))) e
+      more : l″ ≡ sets l at (recordsOf σ k c (r .passed ++ p .node ∷ []))
+      more =
+          written ∙ ap₂ (λ x q. sets x q (recordOf σ k c (p .node))) (r .list) (r .here ∙ ap (λ m. at + m) (sym (records-length σ k c (r .passed))))
+          ∙ sym (sets-append l at (recordsOf σ k c (r .passed)) (recordOf σ k c (p .node)))
+          ∙ ap (sets l at) (sym (records-snoc σ k c (r .passed) (p .node)))
+
+      on : place + recordLength σ ≡ at + recordLength σ * length (r .passed ++ p .node ∷ [])
+      on = omega (arith, r .here, ap (λ m. recordLength σ * m) (length-append (r .passed) (p .node ∷ [])))
+
+      -- the code goes on by as many numbers as a record has
+      module _ (e : nodeMeets σ T c (p .node) ≡ true) {step : ℕ} (whole : step ≡ recordLength σ) {q : Part} (a : AfterOf p q) where
+        pub recorded-after : (q .node ≡ 1 → ⊥) → Recorded σ T c k l at q (place + step) l″
+        recorded-after o = record { passed = r .passed ++ p .node ∷ []; walk = walk-after (r .walk) a o e; here = rw whole on; list = more }
+
+        pub recorded-done : q .node ≡ 1
+            → (place + step ≡ at + recordLength σ * length (endsOf σ T c)) × (l″ ≡ sets l at (recordsOf σ k c (endsOf σ T c)))
+        recorded-done o = rw (whole, walking-done (r .walk .walking) e (sym (a .node) ∙ o)) (on, more)

@@ -9,6 +9,8 @@ ghost use Rattle.walk_curve.specs.Walked.{endsOf};
 ghost use Rattle.band_records.specs.Records.{recordsOf, allRecords};
 ghost use Rattle.band_passes.specs.Inside.{curvesIn, EndsMeet, Fillable};
 use band_records::put_record;
+use band_records::put_record_higher;
+use bound_node::higher::Verdict;
 use bound_node::pieces::Pieces;
 use curve_nodes::Curve;
 use outline::curve_values::curve_at;
@@ -33,6 +35,30 @@ pub fn write_curve(
     ensures { λ r. ⌜ now (records .exit) ≡ sets (now (records .entry)) at
         (recordsOf (lists (pieces .m)) number curve (endsOf (lists (pieces .m)) t curve)) ⌝ }
 {
+    if 3 < curve.degree {
+        write_higher(records, at, rows, pieces, number, curve, t)
+    } else {
+        write_low(records, at, rows, pieces, number, curve, t)
+    }
+}
+
+// Those of a curve of degree 1 to 3.
+fn write_low(
+    records: &mut [i32],
+    at: usize,
+    rows: &[i64],
+    pieces: Pieces,
+    number: u32,
+    curve: Curve,
+    t: i64,
+) -> usize
+    requires { ⌜ (Ready pieces (now rows)) × (EndsMeet (lists (pieces .m)) t curve) × (number < 2 ^ 31)
+        × (at + recordLength (lists (pieces .m)) * length (endsOf (lists (pieces .m)) t curve)
+        ≤ length (now records)) × (curve .degree ≤ 3) ⌝ }
+    ensures { λ r. ⌜ r ≡ at + recordLength (lists (pieces .m)) * length (endsOf (lists (pieces .m)) t curve) ⌝ }
+    ensures { λ r. ⌜ now (records .exit) ≡ sets (now (records .entry)) at
+        (recordsOf (lists (pieces .m)) number curve (endsOf (lists (pieces .m)) t curve)) ⌝ }
+{
     let m = pieces.m;
     let record_length = 6 + 4 * m;
     let mut part = Part { node: 1, curve };
@@ -40,13 +66,55 @@ pub fn write_curve(
     loop {
         let node = part.node;
         let own = part.curve;
-        let met = if own.degree < 4 {
-            bound_node::tolerance::meets(rows, pieces, own, curve_nodes::depth(node), t)
+        if bound_node::tolerance::meets(rows, pieces, own, curve_nodes::depth(node), t) {
+            put_record(records, place, number, node, rows, m, own);
+            place += record_length;
+            part = part.after();
+            if part.node == 1 {
+                return place;
+            }
         } else {
-            bound_node::higher::meets(rows, pieces, own.same(), curve_nodes::depth(node), t)
+            part = part.left();
+        }
+    }
+}
+
+// Those of a curve of degree 4 or 5. A node at the last depth is a leaf, or the first pass would have refused.
+fn write_higher(
+    records: &mut [i32],
+    at: usize,
+    rows: &[i64],
+    pieces: Pieces,
+    number: u32,
+    curve: Curve,
+    t: i64,
+) -> usize
+    requires { ⌜ (Ready pieces (now rows)) × (EndsMeet (lists (pieces .m)) t curve) × (number < 2 ^ 31)
+        × (at + recordLength (lists (pieces .m)) * length (endsOf (lists (pieces .m)) t curve)
+        ≤ length (now records)) × (3 < curve .degree) ⌝ }
+    ensures { λ r. ⌜ r ≡ at + recordLength (lists (pieces .m)) * length (endsOf (lists (pieces .m)) t curve) ⌝ }
+    ensures { λ r. ⌜ now (records .exit) ≡ sets (now (records .entry)) at
+        (recordsOf (lists (pieces .m)) number curve (endsOf (lists (pieces .m)) t curve)) ⌝ }
+{
+    let m = pieces.m;
+    let record_length = 6 + 4 * m;
+    let mut part = Part { node: 1, curve };
+    let mut place = at;
+    loop {
+        let node = part.node;
+        let own = part.curve;
+        let depth = curve_nodes::depth(node);
+        let met = if 16 <= node {
+            true
+        } else {
+            match bound_node::higher::verdict_of(pieces, own, depth, t) {
+                Verdict::Narrow => true,
+                Verdict::Wide => false,
+                Verdict::Open => bound_node::higher::boxes_meet(rows, pieces, own.same(), depth, t),
+            }
         };
         if met {
-            put_record(records, place, number, node, rows, m, own);
+            put_record_higher(records, place, number, node, rows, pieces, own);
             place += record_length;
             part = part.after();
             if part.node == 1 {

@@ -3,11 +3,11 @@ use mathlib.Core.Path.{_≡_, refl, sym, _∙_, ap, ap₂}
 use mathlib.Core.List.{List, [], _∷_, _++_}
 use mathlib.Core.Bool.{true}
 use Prim.Native.Nat.{ℕ, zero, suc, _+_, _*_, _≤_, _<_}
-use native.Mathlib.Nat.{le-refl, le-of-suc-le-suc}
+use native.Mathlib.Nat.{le-refl, le-of-suc-le-suc, lt-irrefl}
 use native.Mathlib.Omega.{arith}
 use native.Mathlib.Numerals.{add-one, add-two, add-three}
-use lib.ListN.{length, set, length-append}
-use lib.Seq.{sets, length-sets}
+use lib.ListN.{length, set, length-append, length-set}
+use lib.Seq.{sets, length-sets, set-comm}
 use lib.IntN.{ℤ, pos}
 use Rattle.setting.specs.Setting.{Setting, HasRows, breakPoints, degreePieces}
 use Rattle.setting.proofs.Pieces.{degree-takes}
@@ -18,11 +18,11 @@ use Rattle.bound_rows.specs.Inside.{Copied}
 use Rattle.bound_coordinate.specs.declared.terms.Terms.{Terms}
 use Rattle.bound_coordinate.specs.Terms.{termsOf}
 use Rattle.bound_coordinate.specs.declared.higher.Higher.{Higher}
-use Rattle.bound_coordinate.specs.Higher.{higherOf}
+use Rattle.bound_coordinate.specs.Higher.{higherOf, higherLow, higherHigh}
 use Rattle.bound_coordinate.proofs.LowHigh.{low-is, high-is, higher-low-is, higher-high-is}
 use Rattle.bound_node.specs.Boxes.{boxAt}
 use Rattle.band_records.specs.Records.{boxNumbers, boxesTo, nodeNumbers}
-use Rattle.band_records.specs.Inside.{boxFrom, boxBy, higherBoxBy}
+use Rattle.band_records.specs.Inside.{boxFrom, boxBy, putPairs, putPairsBy}
 
 -- stores keep the length
 pub kept : (l : List ℤ) (at : ℕ) (vs : List ℤ) {l′ : List ℤ} → l′ ≡ sets l at vs → length l′ ≡ length l
@@ -63,19 +63,58 @@ module _ (f : ℕ → List ℤ) (four : (i : ℕ) → length (f i) ≡ 4) where
       four-more n = omega arith
 
   -- one more
-  pub joined-more : (l : List ℤ) (at i : ℕ) {u l′ : List ℤ} → u ≡ sets l at (joinedTo i f) → l′ ≡ sets u (at + 4 * i) (f i)
-      → l′ ≡ sets l at (joinedTo (i + 1) f)
-  joined-more l at i e g =
-      g ∙ ap (λ u. sets u (at + 4 * i) (f i)) e
-      ∙ ap (λ j. sets (sets l at (joinedTo i f)) (at + j) (f i)) (sym (joined-length i))
-      ∙ sym (sets-append l at (joinedTo i f) (f i))
-      ∙ ap (λ n. sets l at (joinedTo n f)) (sym (add-one i))
+  module _ (l : List ℤ) (at i : ℕ) {u l′ : List ℤ} (e : u ≡ sets l at (joinedTo i f)) (g : l′ ≡ sets u (at + 4 * i) (f i)) where
+    joined-suc : l′ ≡ sets l at (joinedTo (suc i) f)
+    joined-suc =
+        g ∙ ap (λ u. sets u (at + 4 * i) (f i)) e
+        ∙ ap (λ j. sets (sets l at (joinedTo i f)) (at + j) (f i)) (sym (joined-length i))
+        ∙ sym (sets-append l at (joinedTo i f) (f i))
 
--- ---- from the terms to the curve
+    pub joined-more : l′ ≡ sets l at (joinedTo (i + 1) f)
+    joined-more = joined-suc ∙ ap (λ n. sets l at (joinedTo n f)) (sym (add-one i))
+
 pub box-four : (a b c d : ℕ → ℤ) (i : ℕ) → length (boxFrom a b c d i) ≡ 4
 unfolding boxFrom
 box-four a b c d i = refl
 
+-- ---- pairs, four places apart, and boxes of two of them
+pub pairs-length : (l : List ℤ) (at : ℕ) (f g : ℕ → ℤ) (n : ℕ) → length (putPairs l at f g n) ≡ length l
+pairs-length l at f g zero = refl
+pairs-length l at f g (suc n) = simp length-set (pairs-length l at f g n)
+
+-- one more
+pub pairs-more : (l : List ℤ) (at : ℕ) (f g : ℕ → ℤ) (i : ℕ) {u : List ℤ} {a b : ℤ} → u ≡ putPairs l at f g i → a ≡ f i → b ≡ g i
+    → set (set u (at + 4 * i) a) (at + 4 * i + 1) b ≡ putPairs l at f g (i + 1)
+pairs-more l at f g i e ea eb = (λ j. set (set (e j) (at + 4 * i) (ea j)) (at + 4 * i + 1) (eb j)) ∙ ap (putPairs l at f g) (sym (add-one i))
+
+-- a store behind the pairs may come before them
+pairs-set : (l : List ℤ) (at : ℕ) (f g : ℕ → ℤ) (n p : ℕ) (a : ℤ) → at + 4 * n ≤ p + 2
+    → putPairs (set l p a) at f g n ≡ set (putPairs l at f g n) p a
+pairs-set l at f g zero p a h = refl
+pairs-set l at f g (suc n) p a h =
+    let q = at + 4 * n in
+    let u = putPairs l at f g n in
+    ap (λ v. set (set v q (f n)) (q + 1) (g n)) (pairs-set l at f g n p a (omega arith))
+    ∙ ap (λ v. set v (q + 1) (g n)) (set-comm u p q a (f n) (λ e. lt-irrefl p (omega arith)))
+    ∙ set-comm (set u q (f n)) p (q + 1) a (g n) (λ e. lt-irrefl p (omega arith))
+
+-- the pairs of both coordinates are boxes
+module _ (a b c d : ℕ → ℤ) where
+  pub pairs-boxes : (l : List ℤ) (at n : ℕ) → putPairs (putPairs l at a b n) (at + 2) c d n ≡ sets l at (joinedTo n (boxFrom a b c d))
+  unfolding boxFrom
+  pairs-boxes l at zero = refl
+  pairs-boxes l at (suc n) =
+      let q = at + 4 * n in
+      let u = putPairs l at a b n in
+      joined-suc (boxFrom a b c d) (box-four a b c d) l at n (pairs-boxes l at n)
+      (ap (λ v. set (set v (at + 2 + 4 * n) (c n)) (at + 2 + 4 * n + 1) (d n))
+      (pairs-set (set u q (a n)) (at + 2) c d n (q + 1) (b n) (omega arith)
+      ∙ ap (λ v. set v (q + 1) (b n)) (pairs-set u (at + 2) c d n q (a n) (omega arith)))
+      ∙ ap₂ (λ y z. set (set (set (set (putPairs u (at + 2) c d n) q (a n)) (q + 1) (b n)) y (c n)) z (d n)) {y = q + 2} {v = q + 3}
+      (omega arith) (omega arith)
+      ∙ four-sets (putPairs u (at + 2) c d n) q refl refl refl refl)
+
+-- ---- from the terms to the curve
 module _ (σ : Setting) (k : ℕ) (c : Curve) {f : ℕ → List ℤ} (box-is : (i : ℕ) → i ≤ σ .pieces → f i ≡ boxNumbers (boxAt σ k c i)) where
   boxes-are : (n : ℕ) → n ≤ breakPoints σ → joinedTo n f ≡ boxesTo σ n k c
   boxes-are zero h = refl
@@ -104,16 +143,28 @@ module _ (σ : Setting) (has : HasRows (σ .pieces)) (k : ℕ) (c : Curve) (size
         ∷ [])
 
   -- degrees 4 and 5
-  module _ (many : 3 < c .degree) (three : 3 ≤ σ .pieces) where
+  module _ (many : 3 < c .degree) (three : 3 ≤ σ .pieces) {x y : Higher}
+      (ex : x ≡ higherOf (σ .pieces) (c .degree) (c .degree * k) (c .x)) (ey : y ≡ higherOf (σ .pieces) (c .degree) (c .degree * k) (c .y)) where
     higher-takes : degreePieces (c .degree) (σ .pieces) ≡ true
     higher-takes = degree-takes (c .degree) (σ .pieces) .1 (λ h. three)
 
-    pub higher-box-is : {x y : Higher} → x ≡ higherOf (σ .pieces) (c .degree) (c .x) → y ≡ higherOf (σ .pieces) (c .degree) (c .y)
-        → (i : ℕ) → i ≤ σ .pieces → higherBoxBy (σ .pieces) (c .degree * k) rows x y i ≡ boxNumbers (boxAt σ k c i)
+    pub higher-box-is : (i : ℕ) → i ≤ σ .pieces
+        → boxFrom (higherLow (σ .pieces) (c .degree * k) rows x) (higherHigh (σ .pieces) (c .degree * k) rows x)
+        (higherLow (σ .pieces) (c .degree * k) rows y) (higherHigh (σ .pieces) (c .degree * k) rows y) i
+        ≡ boxNumbers (boxAt σ k c i)
     unfolding boxFrom boxAt
-    higher-box-is ex ey i hi = rw (ex, ey) (λ j.
+    higher-box-is i hi = rw (ex, ey) (λ j.
         higher-low-is σ has (sized .most) higher-takes (c .x) hi k copied many j
         ∷ higher-high-is σ has (sized .most) higher-takes (c .x) hi k copied many j
         ∷ higher-low-is σ has (sized .most) higher-takes (c .y) hi k copied many j
         ∷ higher-high-is σ has (sized .most) higher-takes (c .y) hi k copied many j
         ∷ [])
+
+    -- the pairs of both coordinates, one after the other
+    pub both-written : (l : List ℤ) (at : ℕ) {u l′ : List ℤ} → u ≡ putPairsBy l at (σ .pieces) (c .degree * k) rows x (breakPoints σ)
+        → l′ ≡ putPairsBy u (at + 2) (σ .pieces) (c .degree * k) rows y (breakPoints σ)
+        → l′ ≡ sets l at (boxesTo σ (breakPoints σ) k c)
+    both-written l at e g = all-written σ k c higher-box-is l at refl
+        (g ∙ ap (λ v. putPairsBy v (at + 2) (σ .pieces) (c .degree * k) rows y (breakPoints σ)) e
+        ∙ pairs-boxes (higherLow (σ .pieces) (c .degree * k) rows x) (higherHigh (σ .pieces) (c .degree * k) rows x)
+        (higherLow (σ .pieces) (c .degree * k) rows y) (higherHigh (σ .pieces) (c .degree * k) rows y) l at (breakPoints σ))

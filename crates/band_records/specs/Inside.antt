@@ -1,7 +1,8 @@
--- For contracts inside the engine alone, no part of a public promise: a box as the code computes it.
+-- For contracts inside the engine alone, no part of a public promise: boxes as the code computes and stores them.
 use mathlib.Core.List.{List, [], _∷_}
-use Prim.Native.Nat.{ℕ}
+use Prim.Native.Nat.{ℕ, zero, suc, _+_, _*_}
 use lib.IntN.{ℤ}
+use lib.ListN.{set}
 use Rattle.bound_coordinate.specs.declared.terms.Terms.{Terms}
 use Rattle.bound_coordinate.specs.Terms.{lowBy, highBy}
 use Rattle.bound_coordinate.specs.declared.higher.Higher.{Higher}
@@ -11,10 +12,17 @@ use Rattle.bound_coordinate.specs.Higher.{higherLow, higherHigh}
 unfoldable pub boxFrom : (x-low x-high y-low y-high : ℕ → ℤ) → ℕ → List ℤ
 boxFrom x-low x-high y-low y-high i = x-low i ∷ x-high i ∷ y-low i ∷ y-high i ∷ []
 
--- those of degrees 1 to 3, and of degrees 4 and 5: from copied rows and the terms of both coordinates
+-- that of degrees 1 to 3, from copied rows and the terms of both coordinates
 abbrev pub boxBy : (m s : ℕ) → List ℤ → (x y : Terms) → ℕ → List ℤ
 boxBy m s rows x y = boxFrom (lowBy m s rows x) (highBy m s rows x) (lowBy m s rows y) (highBy m s rows y)
 
-abbrev pub higherBoxBy : (m s : ℕ) → List ℤ → (x y : Higher) → ℕ → List ℤ
-higherBoxBy m s rows x y =
-    boxFrom (higherLow m s rows x) (higherHigh m s rows x) (higherLow m s rows y) (higherHigh m s rows y)
+-- a list with the lows and the highs of one coordinate at the first n break points, four places apart, from place `at`
+-- on; between them stands what stood there
+abbrev pub putPairs : List ℤ → (at : ℕ) → (low high : ℕ → ℤ) → (n : ℕ) → List ℤ
+putPairs l at low high zero = l
+putPairs l at low high (suc n) =
+    set (set (putPairs l at low high n) (at + 4 * n) (low n)) (at + 4 * n + 1) (high n)
+
+-- those of degrees 4 and 5, from copied rows and the terms of the coordinate
+abbrev pub putPairsBy : List ℤ → (at m s : ℕ) → List ℤ → Higher → (n : ℕ) → List ℤ
+putPairsBy l at m s rows z = putPairs l at (higherLow m s rows z) (higherHigh m s rows z)

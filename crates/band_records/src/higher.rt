@@ -1,6 +1,6 @@
 // The boxes of a curve of degree 4 or 5, written to a list.
 ghost use mathlib.Core.Path.{_≡_};
-ghost use Prim.Native.Nat.{_+_, _*_, _≤_, _<_};
+ghost use Prim.Native.Nat.{suc, _+_, _*_, _≤_, _<_};
 ghost use lib.ListN.{length};
 ghost use lib.Seq.{sets};
 ghost use Rattle.setting.specs.Setting.{HasRows, lists, breakPoints};
@@ -8,44 +8,50 @@ ghost use Rattle.curve_nodes.specs.Bounds.{Sized};
 ghost use Rattle.bound_rows.specs.Inside.{Copied};
 ghost use Rattle.bound_coordinate.specs.Higher.{HigherComputable};
 ghost use Rattle.band_records.specs.Records.{boxesTo};
-ghost use Rattle.band_records.specs.Inside.{higherBoxBy};
+ghost use Rattle.band_records.specs.Inside.{putPairsBy};
 use bound_coordinate::higher::Higher;
 use bound_coordinate::higher::high_at;
 use bound_coordinate::higher::higher_of;
 use bound_coordinate::higher::low_at;
 use curve_nodes::Curve;
 
-// The four numbers of the box at break point i, from place `at` on.
-fn put_box(
+// The low and the high of one coordinate at every break point, four places apart, from place `at` on.
+fn put_coordinate(
     records: &mut [i32],
     at: usize,
     rows: &[i64],
-    x: Higher,
-    y: Higher,
+    z: Higher,
     shift: u32,
     scale: usize,
     m: usize,
-    i: usize,
 )
-    requires { ⌜ (at + 4 ≤ length (now records)) × (HigherComputable m shift scale (now rows) x)
-        × (HigherComputable m shift scale (now rows) y) × (i ≤ m) ⌝ }
+    requires { ⌜ (at + 4 * m + 2 ≤ length (now records)) × (HigherComputable m shift scale (now rows) z) ⌝ }
     ensures { λ _. ⌜ now (records .exit)
-        ≡ sets (now (records .entry)) at (higherBoxBy m shift (now (rows .entry)) x y i) ⌝ }
+        ≡ putPairsBy (now (records .entry)) at m shift (now (rows .entry)) z (suc m) ⌝ }
 {
-    let x_low = low_at(rows, x, shift, scale, m, i);
-    let x_high = high_at(rows, x, shift, scale, m, i);
-    let y_low = low_at(rows, y, shift, scale, m, i);
-    let y_high = high_at(rows, y, shift, scale, m, i);
-    records[at] = x_low as i32;
-    records[at + 1] = x_high as i32;
-    records[at + 2] = y_low as i32;
-    records[at + 3] = y_high as i32;
+    let mut i: usize = 0;
+    while i <= m {
+        let low = low_at(rows, z, shift, scale, m, i);
+        let high = high_at(rows, z, shift, scale, m, i);
+        records[at + 4 * i] = low as i32;
+        records[at + 4 * i + 1] = high as i32;
+        i += 1;
+    }
 }
 
-// The boxes at the break points of a curve at a depth, from place `at` on; `rows` are those of m pieces.
-pub fn put_boxes(records: &mut [i32], at: usize, rows: &[i64], curve: Curve, depth: u32, m: usize)
+// The boxes at the break points of a curve at a depth, from place `at` on; `rows` are those of m pieces, and the scale
+// is theirs.
+pub fn put_boxes(
+    records: &mut [i32],
+    at: usize,
+    rows: &[i64],
+    curve: Curve,
+    depth: u32,
+    scale: usize,
+    m: usize,
+)
     requires { ⌜ (at + 4 * breakPoints (lists m) ≤ length (now records)) × (HasRows m) × (Copied m (now rows))
-        × (Sized depth curve) × (3 < curve .degree) × (3 ≤ m) × (depth ≤ 4) ⌝ }
+        × (Sized depth curve) × (3 < curve .degree) × (3 ≤ m) × (depth ≤ 4) × (scale * m ≡ 840) ⌝ }
     ensures { λ _. ⌜ now (records .exit)
         ≡ sets (now (records .entry)) at (boxesTo (lists m) (breakPoints (lists m)) depth curve) ⌝ }
 {
@@ -53,13 +59,22 @@ pub fn put_boxes(records: &mut [i32], at: usize, rows: &[i64], curve: Curve, dep
     let shift = degree * depth;
     let xs = curve.x;
     let ys = curve.y;
-    let x = higher_of(xs, degree, m);
-    let y = higher_of(ys, degree, m);
-    let scale = bound_coordinate::break_points::scale_of(m);
-    let mut i: usize = 0;
-    while i <= m {
-        let place = at + 4 * i;
-        put_box(records, place, rows, x, y, shift, scale, m, i);
-        i += 1;
-    }
+    put_coordinate(
+        records,
+        at,
+        rows,
+        higher_of(xs, degree, shift, m),
+        shift,
+        scale,
+        m,
+    );
+    put_coordinate(
+        records,
+        at + 2,
+        rows,
+        higher_of(ys, degree, shift, m),
+        shift,
+        scale,
+        m,
+    );
 }

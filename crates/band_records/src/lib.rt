@@ -1,17 +1,18 @@
 // Leaf records: what they are, and one written to a list.
 ghost use mathlib.Core.Path.{_≡_};
-ghost use mathlib.Core.Bool.{true};
 ghost use Prim.Native.Nat.{suc, _+_, _*_, _≤_, _<_, _^_};
 ghost use lib.ListN.{length};
 ghost use lib.Seq.{sets};
-ghost use Rattle.setting.specs.Setting.{HasRows, lists, breakPoints, recordLength, degreePieces, deepest};
+ghost use Rattle.setting.specs.Setting.{HasRows, lists, breakPoints, recordLength, greatestNode};
 ghost use Rattle.curve_nodes.specs.Bounds.{Sized};
 ghost use Rattle.curve_nodes.specs.Nodes.{depth};
 ghost use Rattle.bound_rows.specs.Inside.{Copied};
 ghost use Rattle.bound_coordinate.specs.Terms.{Computable};
+ghost use Rattle.bound_node.specs.Inside.{Ready};
 ghost use Rattle.band_records.specs.Records.{boxesTo, nodeNumbers};
 ghost use Rattle.band_records.specs.Inside.{boxBy};
 use bound_coordinate::terms::Terms;
+use bound_node::pieces::Pieces;
 use curve_nodes::Curve;
 
 pub mod higher;
@@ -66,7 +67,7 @@ fn put_boxes(records: &mut [i32], at: usize, rows: &[i64], curve: Curve, depth: 
     }
 }
 
-// The record of a node: its curve's number, its own, and its boxes; `rows` are those of m pieces.
+// The record of a node of degree 1 to 3: its curve's number, its own, and its boxes; `rows` are those of m pieces.
 pub fn put_record(
     records: &mut [i32],
     at: usize,
@@ -77,8 +78,8 @@ pub fn put_record(
     curve: Curve,
 )
     requires { ⌜ (at + recordLength (lists m) ≤ length (now records)) × (number < 2 ^ 31)
-        × (node < 2 ^ suc (deepest (curve .degree))) × (0 < node) × (HasRows m) × (Copied m (now rows))
-        × (Sized (depth node) curve) × (degreePieces (curve .degree) m ≡ true) ⌝ }
+        × (node < suc greatestNode) × (0 < node) × (HasRows m) × (Copied m (now rows)) × (Sized (depth node) curve)
+        × (curve .degree ≤ 3) ⌝ }
     ensures { λ _. ⌜ now (records .exit)
         ≡ sets (now (records .entry)) at
         (nodeNumbers number node (boxesTo (lists m) (breakPoints (lists m)) (depth node) curve)) ⌝ }
@@ -86,9 +87,28 @@ pub fn put_record(
     records[at] = number as i32;
     records[at + 1] = node as i32;
     let depth = curve_nodes::depth(node);
-    if 3 < curve.degree {
-        crate::higher::put_boxes(records, at + 2, rows, curve, depth, m);
-    } else {
-        put_boxes(records, at + 2, rows, curve, depth, m);
-    }
+    put_boxes(records, at + 2, rows, curve, depth, m);
+}
+
+// The same of degree 4 or 5, by what goes with the number of pieces.
+pub fn put_record_higher(
+    records: &mut [i32],
+    at: usize,
+    number: u32,
+    node: u32,
+    rows: &[i64],
+    pieces: Pieces,
+    curve: Curve,
+)
+    requires { ⌜ (at + recordLength (lists (pieces .m)) ≤ length (now records)) × (number < 2 ^ 31)
+        × (node < 32) × (0 < node) × (Ready pieces (now rows)) × (3 ≤ pieces .m) × (Sized (depth node) curve)
+        × (3 < curve .degree) ⌝ }
+    ensures { λ _. ⌜ now (records .exit)
+        ≡ sets (now (records .entry)) at
+        (nodeNumbers number node (boxesTo (lists (pieces .m)) (breakPoints (lists (pieces .m))) (depth node) curve)) ⌝ }
+{
+    records[at] = number as i32;
+    records[at + 1] = node as i32;
+    let depth = curve_nodes::depth(node);
+    crate::higher::put_boxes(records, at + 2, rows, curve, depth, pieces.scale, pieces.m);
 }

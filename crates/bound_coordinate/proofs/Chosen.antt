@@ -5,13 +5,17 @@ use mathlib.Core.List.{List, [], _∷_}
 use Prim.Native.Nat.{ℕ, _+_, _*_, _-_, _^_, _≤_, _<_}
 use native.Mathlib.Nat.{le-trans, le-refl, le-of-eq, add-mul, mul-le-mul}
 use native.Mathlib.Omega.{arith}
-use lib.Dec.{ltb}
+use lib.Dec.{ltb, lit≤}
 use lib.IntN.{ℤ, pos, natAbs, _+ℤ_, _-ℤ_, _*ℤ_}
 use lib.Signed.{ltZ}
+use mir.Syntax.{w64}
+use mir.Val.{SFits, toZ}
 use Rattle.setting.specs.Setting.{HasRows}
 use Rattle.integers.specs.Entry.{entry}
 use Rattle.integers.proofs.Ring.{ring, sides}
+use Rattle.integers.proofs.Ranges.{stored}
 use Rattle.integers.proofs.Size.{Size, size-add, size-mul, size-neg}
+use Rattle.integers.proofs.Machine.{fits!, is!, held-add, held-stored}
 use Rattle.curve_halves.specs.Sizes.{Each}
 use Rattle.curve_nodes.specs.Differences.{difference}
 use Rattle.curve_nodes.proofs.Sizes.{difference-under}
@@ -21,8 +25,9 @@ use Rattle.bound_coordinate.specs.Inside.{Computed}
 use Rattle.bound_coordinate.specs.declared.terms.Terms.{Terms}
 use Rattle.bound_coordinate.specs.declared.higher.Higher.{Higher}
 use Rattle.bound_coordinate.specs.Terms.{chosen, termsOf, Within, Computable}
-use Rattle.bound_coordinate.specs.Higher.{higherOf, HigherWithin, HigherComputable}
-use Rattle.bound_coordinate.proofs.Coordinates.{shift-small}
+use Rattle.bound_coordinate.specs.Higher.{raiseOf, higherOf, HigherWithin, HigherComputable}
+use Rattle.bound_coordinate.proofs.Coordinates.{shift-small, pieces, bounded}
+use Rattle.bound_coordinate.proofs.Raised.{shiftedRaise, held-raise}
 
 -- ---- put together
 pub last-computed : {B : ℕ} {cs : List ℤ} {r : ℤ} (d : ℕ) → Each B cs → r ≡ entry cs d → Computed B (entry cs d) r
@@ -44,48 +49,60 @@ module _ (m d : ℕ) (cs : List ℤ) {start step δ ε : ℤ} {p q : ℕ}
     row1 = (f ∙ ap₂ (λ x y. chosen x y) eε eq) j;
   }
 
--- those of degrees 4 and 5
-module _ (m d : ℕ) (cs : List ℤ) {start step δ ε ζ η : ℤ}
-    (es : start ≡ pos 10000 *ℤ (pos m *ℤ entry cs 0)) (et : step ≡ pos 10000 *ℤ (entry cs d -ℤ entry cs 0))
-    (eδ : δ ≡ difference cs 0) (eε : ε ≡ difference cs 1) (eζ : ζ ≡ difference cs 2) (eη : η ≡ difference cs 3) where
-  pub higher-terms-are : {p q r s : ℕ}
-      → p ≡ chosen δ (placeOf d 0) → q ≡ chosen ε (placeOf d 1) → r ≡ chosen ζ (placeOf d 2) → s ≡ chosen η (placeOf d 3)
+-- those of degrees 4 and 5, whose rows begin from p on
+module _ (m d s : ℕ) (cs : List ℤ) {start step δ ε ζ η : ℤ} {p : ℕ}
+    (es : start ≡ pos 10000 *ℤ (pos m *ℤ entry cs 0) +ℤ raiseOf m s) (et : step ≡ pos 10000 *ℤ (entry cs d -ℤ entry cs 0))
+    (eδ : δ ≡ difference cs 0) (eε : ε ≡ difference cs 1) (eζ : ζ ≡ difference cs 2) (eη : η ≡ difference cs 3) (ep : p ≡ placeOf d 0) where
+  pub higher-terms-are : {a b c e : ℕ} → a ≡ chosen δ p → b ≡ chosen ε (p + 27) → c ≡ chosen ζ (p + 54) → e ≡ chosen η (p + 81)
       → _≡_ {A = Higher} (record {
+        degree = d;
         start = start;
         step = step;
         difference0 = δ;
         difference1 = ε;
         difference2 = ζ;
         difference3 = η;
-        row0 = p;
-        row1 = q;
-        row2 = r;
-        row3 = s;
-      }) (higherOf m d cs)
+        row0 = a;
+        row1 = b;
+        row2 = c;
+        row3 = e;
+      }) (higherOf m d s cs)
   unfolding higherOf
-  higher-terms-are e f g h = λ j. record {
+  higher-terms-are ea eb ec ee = λ j. record {
+    degree = d;
     start = es j;
     step = et j;
     difference0 = eδ j;
     difference1 = eε j;
     difference2 = eζ j;
     difference3 = eη j;
-    row0 = (e ∙ ap (λ z. chosen z (placeOf d 0)) eδ) j;
-    row1 = (f ∙ ap (λ z. chosen z (placeOf d 1)) eε) j;
-    row2 = (g ∙ ap (λ z. chosen z (placeOf d 2)) eζ) j;
-    row3 = (h ∙ ap (λ z. chosen z (placeOf d 3)) eη) j;
+    row0 = (ea ∙ ap₂ (λ x y. chosen x y) eδ ep) j;
+    row1 = (eb ∙ ap₂ (λ x y. chosen x (y + 27)) eε ep) j;
+    row2 = (ec ∙ ap₂ (λ x y. chosen x (y + 54)) eζ ep) j;
+    row3 = (ee ∙ ap₂ (λ x y. chosen x (y + 81)) eη ep) j;
   }
 
+-- the start as the code holds it
+module _ {m s : ℕ} {cs : List ℤ} (most : m ≤ 8) (shallow : s ≤ 20) (h : Each (2 ^ 44) cs) where
+  abbrev first-start : ℤ
+  first-start = stored w64 (pos 10000 *ℤ stored w64 (toZ w64 m *ℤ stored w64 (entry cs 0)))
+
+  pub start-fits : SFits w64 (first-start +ℤ shiftedRaise most shallow)
+  start-fits = fits! (held-add {x = first-start} (search (h, pieces most, bounded) depth 40) (held-raise most shallow)) tt
+
+  pub start-is : stored w64 (first-start +ℤ shiftedRaise most shallow) ≡ pos 10000 *ℤ (pos m *ℤ entry cs 0) +ℤ raiseOf m s
+  start-is = is! (held-stored w64 _ (held-add {x = first-start} (search (h, pieces most, bounded) depth 40) (held-raise most shallow))) tt
+
 -- ---- sizes
-pub place-under : (d k : ℕ) → k < 4 → placeOf d k ≤ 270
-place-under d k l = cases (ltb (k + 1) d) (ltb d 3) (ltb d 4) (ltb d 5)
+pub place-under : (d : ℕ) → placeOf d 0 ≤ 189
+place-under d = cases (ltb 1 d) (ltb d 3) (ltb d 4) (ltb d 5)
   where
-    cases : (a b c e : Bool) → cond a (cond b 54 (cond c 0 (cond e 108 189)) + 27 * k) 81 ≤ 270
-    cases true true c e = omega arith
-    cases true false true e = omega arith
-    cases true false false true = omega arith
-    cases true false false false = omega arith
-    cases false b c e = omega arith
+    cases : (a b c e : Bool) → cond a (cond b 54 (cond c 0 (cond e 108 189)) + 0) 81 ≤ 189
+    cases true true c e = lit≤ tt
+    cases true false true e = lit≤ tt
+    cases true false false true = lit≤ tt
+    cases true false false false = lit≤ tt
+    cases false b c e = lit≤ tt
 
 chosen-under : (δ : ℤ) {p n : ℕ} → p ≤ n → chosen δ p ≤ n + 1
 chosen-under δ {p} {n} h = cases (ltZ δ (pos 0))
@@ -135,21 +152,36 @@ terms-within m d s {cs} most h = record {
   row1 = chosen-under (difference cs 1) (low-place d 1 most (omega arith));
 }
 
-pub higher-within : (m d s : ℕ) {cs : List ℤ} → Each (2 ^ 20 * 2 ^ s) cs → HigherWithin m s (higherOf m d cs)
+-- what was raised taken off again
+module _ (x y R : ℤ) where
+  start-off : x +ℤ R -ℤ R ≡ x
+  start-off = ring (x ∷ R ∷ []) {a = x +ℤ R -ℤ R} (search sides depth 20) refl
+
+  chord-off : x +ℤ R +ℤ y -ℤ R ≡ x +ℤ y
+  chord-off = ring (x ∷ y ∷ R ∷ []) {a = x +ℤ R +ℤ y -ℤ R} (search sides depth 20) refl
+
+pub higher-within : (m d s : ℕ) {cs : List ℤ} → Each (2 ^ 20 * 2 ^ s) cs → HigherWithin m s (higherOf m d s cs)
 unfolding higherOf
-higher-within m d s {cs} h = record {
-  start = start-size (entry cs 0) (entry cs d) (h .under 0) (h .under d) m;
-  step = step-size (entry cs 0) (entry cs d) (h .under 0) (h .under d);
-  chord = λ i hi. chord-size (entry cs 0) (entry cs d) (h .under 0) (h .under d) hi;
-  difference0 = difference-under h 0;
-  difference1 = difference-under h 1;
-  difference2 = difference-under h 2;
-  difference3 = difference-under h 3;
-  row0 = chosen-under (difference cs 0) (place-under d 0 (omega arith));
-  row1 = chosen-under (difference cs 1) (place-under d 1 (omega arith));
-  row2 = chosen-under (difference cs 2) (place-under d 2 (omega arith));
-  row3 = chosen-under (difference cs 3) (place-under d 3 (omega arith));
-}
+higher-within m d s {cs} h =
+    let first = entry cs 0 in
+    let last = entry cs d in
+    let R = raiseOf m s in
+    let S = pos 10000 *ℤ (pos m *ℤ first) in
+    let place = place-under d in
+    record {
+      start = le-trans (le-of-eq (ap natAbs (start-off S S R))) (start-size first last (h .under 0) (h .under d) m);
+      step = step-size first last (h .under 0) (h .under d);
+      chord = λ i hi. le-trans (le-of-eq (ap natAbs (chord-off S (pos i *ℤ (pos 10000 *ℤ (last -ℤ first))) R)))
+          (chord-size first last (h .under 0) (h .under d) hi);
+      difference0 = difference-under h 0;
+      difference1 = difference-under h 1;
+      difference2 = difference-under h 2;
+      difference3 = difference-under h 3;
+      row0 = chosen-under (difference cs 0) {n = 270} (omega arith);
+      row1 = chosen-under (difference cs 1) {n = 270} (omega arith);
+      row2 = chosen-under (difference cs 2) {n = 270} (omega arith);
+      row3 = chosen-under (difference cs 3) {n = 270} (omega arith);
+    }
 
 -- bounds can be computed: of degree d at depth k
 pub computable : {m d k c : ℕ} {rows cs : List ℤ} → HasRows m → Copied m rows → d ≤ 3 → k ≤ 8 → Each (2 ^ 20 * 2 ^ (d * k)) cs → c * m ≡ 840
@@ -164,7 +196,7 @@ computable {m} {d} {k} h rows most shallow each scaled = record {
 }
 
 pub higher-computable : {m d k c : ℕ} {rows cs : List ℤ} → HasRows m → Copied m rows → 4 ≤ d → d ≤ 5 → k ≤ 4 → Each (2 ^ 20 * 2 ^ (d * k)) cs
-    → c * m ≡ 840 → HigherComputable m (d * k) c rows (higherOf m d cs)
+    → c * m ≡ 840 → HigherComputable m (d * k) c rows (higherOf m d (d * k) cs)
 higher-computable {m} {d} {k} h rows least most shallow each scaled = record {
   each = rows .each;
   whole = rows .whole;

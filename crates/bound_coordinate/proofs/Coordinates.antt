@@ -1,24 +1,25 @@
 -- The code of one coordinate: what each function holds is its formula, within its bound.
 --     mul-result c = fits! (search bounded depth 40) tt
 --     returns c = computed! (search bounded depth 40) tt refl
-use mathlib.Core.Path.{_≡_, refl, sym, _∙_, ap₂, subst}
+use mathlib.Core.Path.{_≡_, refl, sym, _∙_, ap, ap₂, subst}
 use mathlib.Core.Bool.{true, _&&_}
 use mathlib.Core.List.{List}
-use Prim.Native.Nat.{ℕ, _+_, _*_, _^_, _≤_}
-use native.Mathlib.Nat.{le-trans, mul-le-mul}
+use Prim.Native.Nat.{ℕ, _+_, _*_, _%_, _^_, _≤_, _<_}
+use native.Mathlib.Nat.{le-trans, le-of-eq, lt-trans, lt-of-le-of-lt, mul-le-mul, mod-eq-of-lt}
 use native.Mathlib.Omega.{arith}
 use native.Mathlib.Numerals.{add-one, add-two}
-use lib.Dec.{T, leb, ltb, leb→le}
-use lib.Pow.{pow-pos}
-use lib.IntN.{ℤ, pos, natAbs, _+ℤ_, _-ℤ_, _*ℤ_}
+use lib.Dec.{T, leb, ltb, leb→le, ltb→lt, lit<}
+use lib.Pow.{pow-pos, pow-mono}
+use lib.IntN.{ℤ, pos, negsuc, natAbs, _+ℤ_, _-ℤ_, _*ℤ_}
 use lib.Signed.{_<ℤ_}
 use mir.Syntax.{w64}
-use mir.Facts.{toZ-ofZ}
+use mir.Val.{toZ, ofZ}
+use mir.Facts.{toZ-ofZ, toZ-pos}
 use Rattle.integers.specs.Entry.{entry}
 use Rattle.integers.proofs.Table.{and-left, and-right}
 use Rattle.integers.proofs.Ranges.{stored}
-use Rattle.integers.proofs.Size.{fits-size}
-use Rattle.integers.proofs.Order.{pos-lt}
+use Rattle.integers.proofs.Size.{fits-size, abs-mul}
+use Rattle.integers.proofs.Order.{NonNeg, pos-lt}
 use Rattle.integers.proofs.Machine.{Held, Count, tests}
 use Rattle.curve_halves.proofs.Halving.{held-entry}
 use Rattle.curve_nodes.specs.Differences.{difference}
@@ -49,6 +50,28 @@ held-small {B} {z} h = record { value = z; bound = B; test = true; is = λ t. re
 -- pieces and break points
 abbrev pub pieces : {m : ℕ} → m ≤ 8 → Count m
 pieces h = record { bound = 9; under = omega arith }
+
+-- a number that is not negative, shifted to the left by at most k places
+pub left-under : {B s k : ℕ} (z : ℤ) → natAbs z ≤ B → s ≤ k → natAbs (z *ℤ pos (2 ^ s)) ≤ B * 2 ^ k
+left-under {s} z h l = le-trans (le-of-eq (abs-mul z (pos (2 ^ s)))) (mul-le-mul h (pow-mono l))
+
+pub left-is : {B : ℕ} (s : ℕ) (z : ℤ) → NonNeg z → natAbs (z *ℤ pos (2 ^ s)) ≤ B → T (ltb B (2 ^ 63)) → toZ w64 (ofZ w64 z * 2 ^ s % 2 ^ 64) ≡ z *ℤ pos (2 ^ s)
+left-is {B} s (pos a) n h t =
+    let l : a * 2 ^ s < 2 ^ 63 = lt-of-le-of-lt h (ltb→lt B (2 ^ 63) t) in
+    ap (toZ w64) (mod-eq-of-lt (lt-trans l (lit< tt))) ∙ toZ-pos w64 l
+left-is s (negsuc a) n h t = absurd (n .holds)
+
+abbrev pub held-left : {s k : ℕ} → s ≤ k → {x : ℤ} (h : Held x) → NonNeg (h .value) → Held (toZ w64 (ofZ w64 x * 2 ^ s % 2 ^ 64))
+held-left {s} {k} l {x} h n = record {
+  value = h .value *ℤ pos (2 ^ s);
+  bound = h .bound * 2 ^ k;
+  test = h .test && ltb (h .bound * 2 ^ k) (2 ^ 63);
+  is = λ t.
+      let u = and-left (h .test) (ltb (h .bound * 2 ^ k) (2 ^ 63)) t in
+      ap (λ z. toZ w64 (ofZ w64 z * 2 ^ s % 2 ^ 64)) (h .is u)
+      ∙ left-is s (h .value) n (left-under (h .value) (h .under u) l) (and-right (h .test) (ltb (h .bound * 2 ^ k) (2 ^ 63)) t);
+  under = λ t. left-under (h .value) (h .under (and-left (h .test) (ltb (h .bound * 2 ^ k) (2 ^ 63)) t)) l;
+}
 
 pub ruleset bounded = (held-entry, held-computed, held-small, tests)
 

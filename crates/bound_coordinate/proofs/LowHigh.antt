@@ -3,13 +3,14 @@ use mathlib.Core.Path.{_≡_, refl, sym, _∙_, ap, ap₂}
 use mathlib.Core.Bool.{Bool, true, false, cond}
 use mathlib.Core.List.{List, [], _∷_}
 use mathlib.Core.Logic.{⊎-elim}
-use Prim.Native.Nat.{ℕ, zero, suc, _+_, _*_, _≤_, _<_}
+use Prim.Native.Nat.{ℕ, zero, suc, _+_, _*_, _^_, _≤_, _<_}
+use native.Mathlib.Nat.{add-zero}
 use native.Mathlib.Omega.{arith}
-use lib.Dec.{eqb}
+use lib.Dec.{eqb, ltb}
 use lib.ListN.{length}
 use lib.IntN.{ℤ, pos, _+ℤ_, _-ℤ_, _*ℤ_, *ℤ-zero, zero-*ℤ}
 use lib.Signed.{ltZ}
-use borrow.Author.Tests.{le-ltb}
+use borrow.Author.Tests.{lt-ltb, le-ltb}
 use Rattle.setting.specs.Setting.{Setting, HasRows, mostDegree, degreePieces}
 use Rattle.integers.specs.Entry.{entry}
 use Rattle.integers.specs.Rounding.{floor, ceiling}
@@ -24,10 +25,12 @@ use Rattle.bound_enclosure.specs.Bounds.{exchanged, chord, rowSum}
 use Rattle.bound_enclosure.specs.AtDepth.{lowOf, highOf}
 use Rattle.bound_enclosure.proofs.Reduced.{low-reduced, high-reduced}
 use Rattle.bound_coordinate.specs.Terms.{chosen, termsOf, chordAt, denominatorOf, lowBy, highBy}
-use Rattle.bound_coordinate.specs.Higher.{higherOf, higherLow, higherHigh}
+use Rattle.bound_coordinate.specs.Higher.{raiseOf, higherOf, higherLow, higherHigh}
 use Rattle.bound_coordinate.proofs.Coordinates.{over-positive}
+use Rattle.bound_coordinate.proofs.Quotients.{denominator-positive}
+use Rattle.bound_coordinate.proofs.Raised.{floor-off, ceiling-off}
 
--- ---- the sum of row × difference, for at most two differences, and for three and four
+-- ---- the sum of row × difference, for at most two differences, and for three or four
 -- the entry by which a difference is multiplied: it chooses its row by its own sign
 abbrev factor : List Row → ℕ → ℕ → ℤ → ℤ
 factor ρs i k δ = cond (ltZ δ (pos 0)) (entry (rowAt ρs k .low) i) (entry (rowAt ρs k .high) i)
@@ -56,18 +59,22 @@ module _ (cs : List ℤ) (i : ℕ) where
   sum-two (ρ ∷ σ ∷ []) l = let ρs : List Row = ρ ∷ σ ∷ [] in ring (term ρs 0 ∷ term ρs 1 ∷ []) (search sides depth 20) refl
   sum-two (ρ ∷ σ ∷ τ ∷ ρs) l = absurd (omega arith)
 
-  sum-four : (ρs : List Row) → 3 ≤ length ρs → length ρs ≤ 4 → rowSum ρs i 0 cs ≡ term ρs 0 +ℤ term ρs 1 +ℤ (term ρs 2 +ℤ term ρs 3)
+  -- the fourth at degree 5 alone
+  sum-higher : (ρs : List Row) {d : ℕ} → 4 ≤ d → d ≤ 5 → length ρs + 1 ≡ d
+      → rowSum ρs i 0 cs ≡ term ρs 0 +ℤ term ρs 1 +ℤ term ρs 2 +ℤ cond (ltb d 5) (pos 0) (term ρs 3)
   unfolding rowSum
-  sum-four [] h l = absurd (omega arith)
-  sum-four (ρ ∷ []) h l = absurd (omega arith)
-  sum-four (ρ ∷ σ ∷ []) h l = absurd (omega arith)
-  sum-four (ρ ∷ σ ∷ τ ∷ []) h l =
+  sum-higher [] h l e = absurd (omega arith)
+  sum-higher (ρ ∷ []) h l e = absurd (omega arith)
+  sum-higher (ρ ∷ σ ∷ []) h l e = absurd (omega arith)
+  sum-higher (ρ ∷ σ ∷ τ ∷ []) {d} h l e =
       let ρs : List Row = ρ ∷ σ ∷ τ ∷ [] in
-      ring (term ρs 0 ∷ term ρs 1 ∷ term ρs 2 ∷ []) {b = term ρs 0 +ℤ term ρs 1 +ℤ (term ρs 2 +ℤ pos 0)} (search sides depth 20) refl
-      ∙ ap (λ z. term ρs 0 +ℤ term ρs 1 +ℤ (term ρs 2 +ℤ z)) (sym (no-term 3))
-  sum-four (ρ ∷ σ ∷ τ ∷ υ ∷ []) h l =
-      let ρs : List Row = ρ ∷ σ ∷ τ ∷ υ ∷ [] in ring (term ρs 0 ∷ term ρs 1 ∷ term ρs 2 ∷ term ρs 3 ∷ []) (search sides depth 20) refl
-  sum-four (ρ ∷ σ ∷ τ ∷ υ ∷ φ ∷ ρs) h l = absurd (omega arith)
+      ring (term ρs 0 ∷ term ρs 1 ∷ term ρs 2 ∷ []) {b = term ρs 0 +ℤ term ρs 1 +ℤ term ρs 2 +ℤ pos 0} (search sides depth 20) refl
+      ∙ ap (λ (b : Bool). term ρs 0 +ℤ term ρs 1 +ℤ term ρs 2 +ℤ cond b (pos 0) (term ρs 3)) (sym (lt-ltb d 5 (omega arith)))
+  sum-higher (ρ ∷ σ ∷ τ ∷ υ ∷ []) {d} h l e =
+      let ρs : List Row = ρ ∷ σ ∷ τ ∷ υ ∷ [] in
+      ring (term ρs 0 ∷ term ρs 1 ∷ term ρs 2 ∷ term ρs 3 ∷ []) {b = term ρs 0 +ℤ term ρs 1 +ℤ term ρs 2 +ℤ term ρs 3} (search sides depth 20) refl
+      ∙ ap (λ (b : Bool). term ρs 0 +ℤ term ρs 1 +ℤ term ρs 2 +ℤ cond b (pos 0) (term ρs 3)) (sym (le-ltb d 5 (omega arith)))
+  sum-higher (ρ ∷ σ ∷ τ ∷ υ ∷ φ ∷ ρs) h l e = absurd (omega arith)
 
 -- rows exchanged
 exchanged-length : (ρs : List Row) → length (exchanged ρs) ≡ length ρs
@@ -100,9 +107,30 @@ module _ (σ : Setting) (has : HasRows (σ .pieces)) {d : ℕ} (most : d ≤ mos
   two-fold : (a b : ℤ) → pos m *ℤ (a *ℤ δ 0 +ℤ b *ℤ δ 1) ≡ pos m *ℤ a *ℤ δ 0 +ℤ pos m *ℤ b *ℤ δ 1
   two-fold a b = ring (pos m ∷ a ∷ b ∷ δ 0 ∷ δ 1 ∷ []) (search sides depth 20) refl
 
-  four-fold : (a b c e : ℤ) → pos m *ℤ (a *ℤ δ 0 +ℤ b *ℤ δ 1 +ℤ (c *ℤ δ 2 +ℤ e *ℤ δ 3))
-      ≡ pos m *ℤ a *ℤ δ 0 +ℤ pos m *ℤ b *ℤ δ 1 +ℤ (pos m *ℤ c *ℤ δ 2 +ℤ pos m *ℤ e *ℤ δ 3)
-  four-fold a b c e = ring (pos m ∷ a ∷ b ∷ c ∷ e ∷ δ 0 ∷ δ 1 ∷ δ 2 ∷ δ 3 ∷ []) (search sides depth 20) refl
+  higher-fold : (t : Bool) (a b c e : ℤ) → pos m *ℤ (a *ℤ δ 0 +ℤ b *ℤ δ 1 +ℤ c *ℤ δ 2 +ℤ cond t (pos 0) (e *ℤ δ 3))
+      ≡ pos m *ℤ a *ℤ δ 0 +ℤ pos m *ℤ b *ℤ δ 1 +ℤ pos m *ℤ c *ℤ δ 2 +ℤ cond t (pos 0) (pos m *ℤ e *ℤ δ 3)
+  higher-fold true a b c e = ring (pos m ∷ a ∷ b ∷ c ∷ δ 0 ∷ δ 1 ∷ δ 2 ∷ []) (search sides depth 20) refl
+  higher-fold false a b c e = ring (pos m ∷ a ∷ b ∷ c ∷ e ∷ δ 0 ∷ δ 1 ∷ δ 2 ∷ δ 3 ∷ []) (search sides depth 20) refl
+
+  -- raised as degrees 4 and 5 have it
+  abbrev lifted : ℕ → ℤ → ℤ
+  lifted s sum = chordAt (pos 10000 *ℤ (pos m *ℤ entry cs 0) +ℤ raiseOf m s) (pos 10000 *ℤ (entry cs d -ℤ entry cs 0)) i +ℤ sum
+
+  lifted-is : (s : ℕ) (sum : ℤ) → lifted s sum ≡ raiseOf m s +ℤ dividend sum
+  lifted-is s sum = regrouped (pos 10000 *ℤ (pos m *ℤ entry cs 0)) (pos i *ℤ (pos 10000 *ℤ (entry cs d -ℤ entry cs 0))) sum (raiseOf m s)
+    where
+      regrouped : (x y z R : ℤ) → x +ℤ R +ℤ y +ℤ z ≡ R +ℤ (x +ℤ y +ℤ z)
+      regrouped x y z R = ring (x ∷ y ∷ z ∷ R ∷ []) (search sides depth 20) refl
+
+  module _ (s : ℕ) (sum : ℤ) where
+    abbrev D : ℤ
+    D = denominatorOf m s
+
+    low-lifted : floor (lifted s sum) D -ℤ pos (2 ^ 28) ≡ floor (dividend sum) D
+    low-lifted = ap (λ n. floor n D -ℤ pos (2 ^ 28)) (lifted-is s sum) ∙ floor-off (denominator-positive (has .least) s) (pos (2 ^ 28)) (dividend sum)
+
+    high-lifted : ceiling (lifted s sum) D -ℤ pos (2 ^ 28) ≡ ceiling (dividend sum) D
+    high-lifted = ap (λ n. ceiling n D -ℤ pos (2 ^ 28)) (lifted-is s sum) ∙ ceiling-off (denominator-positive (has .least) s) (pos (2 ^ 28)) (dividend sum)
 
   module _ (k : ℕ) where
     abbrev lowFactor : ℕ → ℤ
@@ -162,18 +190,34 @@ module _ (σ : Setting) (has : HasRows (σ .pieces)) {d : ℕ} (most : d ≤ mos
         high-is = sym (high-divided (ap (λ z. pos m *ℤ z) (sum-two cs i ρs (omega (arith, rows-count m d)))
             ∙ two-fold (highFactor 0) (highFactor 1) ∙ ap₂ (λ a b. a *ℤ δ 0 +ℤ b *ℤ δ 1) (high-read 0) (high-read 1)))
 
-      -- ---- degrees 4 and 5
+      -- ---- degrees 4 and 5: the rows of a difference begin 27 numbers after those of the one before
       module _ (many : 4 ≤ d) where
-        pub higher-low-is : higherLow m (d * k) rows (higherOf m d cs) i ≡ lowOf σ d k cs i
-        unfolding higherLow higherOf
-        higher-low-is = sym (low-divided (ap (λ z. pos m *ℤ z)
-            (sum-four cs i (exchanged ρs) (omega (arith, exchanged-length ρs, rows-count m d)) (omega (arith, exchanged-length ρs, rows-count m d)))
-            ∙ four-fold (lowFactor 0) (lowFactor 1) (lowFactor 2) (lowFactor 3)
-            ∙ (λ j. low-read 0 j *ℤ δ 0 +ℤ low-read 1 j *ℤ δ 1 +ℤ (low-read 2 j *ℤ δ 2 +ℤ low-read 3 j *ℤ δ 3))))
+        place-is : (j : ℕ) → j + 1 < d → placeOf d j ≡ placeOf d 0 + 27 * j
+        place-is j l =
+            ap (λ (b : Bool). cond b (blocksOf d + 27 * j) 81) (lt-ltb (j + 1) d l)
+            ∙ sym (ap (λ (b : Bool). cond b (blocksOf d + 0) 81 + 27 * j) (lt-ltb 1 d (omega arith)) ∙ ap (λ (n : ℕ). n + 27 * j) (add-zero (blocksOf d)))
 
-        pub higher-high-is : higherHigh m (d * k) rows (higherOf m d cs) i ≡ highOf σ d k cs i
+        at-place : {x : ℤ} (j t : ℕ) → j + 1 < d → x ≡ entry rows (chosen (δ j) (placeOf d j) + t) → x ≡ entry rows (chosen (δ j) (placeOf d 0 + 27 * j) + t)
+        at-place j t l e = e ∙ ap (λ (p : ℕ). entry rows (chosen (δ j) p + t)) (place-is j l)
+
+        fourth : {x y : ℤ} → (4 < d → x ≡ y) → cond (ltb d 5) (pos 0) (x *ℤ δ 3) ≡ cond (ltb d 5) (pos 0) (y *ℤ δ 3)
+        fourth {x} {y} f = ⊎-elim
+            (λ l. let q = lt-ltb d 5 l in
+            ap (λ (b : Bool). cond b (pos 0) (x *ℤ δ 3)) q ∙ sym (ap (λ (b : Bool). cond b (pos 0) (y *ℤ δ 3)) q))
+            (λ l. ap (λ z. cond (ltb d 5) (pos 0) (z *ℤ δ 3)) (f l)) (lt-or-ge d 5)
+
+        pub higher-low-is : higherLow m (d * k) rows (higherOf m d (d * k) cs) i ≡ lowOf σ d k cs i
+        unfolding higherLow higherOf
+        higher-low-is = low-lifted (d * k) _ ∙ sym (low-divided (ap (λ z. pos m *ℤ z)
+            (sum-higher cs i (exchanged ρs) many most (omega (arith, exchanged-length ρs, rows-count m d)))
+            ∙ higher-fold (ltb d 5) (lowFactor 0) (lowFactor 1) (lowFactor 2) (lowFactor 3)
+            ∙ (λ j. low-read 0 j *ℤ δ 0 +ℤ at-place 1 (3 * i + 1) (omega arith) (low-read 1) j *ℤ δ 1
+            +ℤ at-place 2 (3 * i + 1) (omega arith) (low-read 2) j *ℤ δ 2 +ℤ fourth (λ l. at-place 3 (3 * i + 1) l (low-read 3)) j)))
+
+        pub higher-high-is : higherHigh m (d * k) rows (higherOf m d (d * k) cs) i ≡ highOf σ d k cs i
         unfolding higherHigh higherOf
-        higher-high-is = sym (high-divided (ap (λ z. pos m *ℤ z)
-            (sum-four cs i ρs (omega (arith, rows-count m d)) (omega (arith, rows-count m d)))
-            ∙ four-fold (highFactor 0) (highFactor 1) (highFactor 2) (highFactor 3)
-            ∙ (λ j. high-read 0 j *ℤ δ 0 +ℤ high-read 1 j *ℤ δ 1 +ℤ (high-read 2 j *ℤ δ 2 +ℤ high-read 3 j *ℤ δ 3))))
+        higher-high-is = high-lifted (d * k) _ ∙ sym (high-divided (ap (λ z. pos m *ℤ z)
+            (sum-higher cs i ρs many most (omega (arith, rows-count m d)))
+            ∙ higher-fold (ltb d 5) (highFactor 0) (highFactor 1) (highFactor 2) (highFactor 3)
+            ∙ (λ j. high-read 0 j *ℤ δ 0 +ℤ at-place 1 (3 * i) (omega arith) (high-read 1) j *ℤ δ 1
+            +ℤ at-place 2 (3 * i) (omega arith) (high-read 2) j *ℤ δ 2 +ℤ fourth (λ l. at-place 3 (3 * i) l (high-read 3)) j)))

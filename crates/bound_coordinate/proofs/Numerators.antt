@@ -1,29 +1,33 @@
 -- From the terms of a coordinate to its low and its high at a break point: what the functions hold is within its bounds.
-use mathlib.Core.Path.{_≡_, refl, _∙_, ap, ap₂}
-use mathlib.Core.Bool.{true}
-use mathlib.Core.List.{List}
-use Prim.Native.Nat.{ℕ, _+_, _*_, _%_, _^_, _≤_, _<_}
-use native.Mathlib.Nat.{le-trans, le-refl, lt-of-le-of-lt, mul-le-mul, mul-mul-mul-comm, mul-left-comm, mod-eq-of-lt, add-le-add}
+use mathlib.Core.Path.{_≡_, refl, sym, _∙_, ap, ap₂, subst}
+use mathlib.Core.Bool.{Bool, true, false, cond}
+use mathlib.Core.List.{List, [], _∷_}
+use Prim.Native.Nat.{ℕ, _+_, _*_, _%_, _^_, _≤_, _<_, zero-le}
+use native.Mathlib.Nat.{le-trans, le-refl, le-of-eq, mul-le-mul, mul-assoc, mul-mul-mul-comm, mul-left-comm, add-le-add}
 use native.Mathlib.Omega.{arith}
-use lib.Dec.{T, ltb, lit<, lit≤}
+use lib.Dec.{T, ltb, lit≤}
 use lib.Pow.{pow-mono, pow-pos}
-use lib.IntN.{ℤ, pos, negsuc, natAbs, _+ℤ_, _-ℤ_, _*ℤ_}
+use lib.IntN.{ℤ, pos, negsuc, natAbs, _+ℤ_, _-ℤ_, _*ℤ_, +ℤ-idr}
+use borrow.Author.Tests.{lt-ltb, le-ltb}
 use mir.Syntax.{w64}
 use mir.Val.{SFits, toZ, ofZ}
-use mir.Facts.{toZ-ofZ, toZ-pos}
+use mir.Facts.{toZ-ofZ}
 use Rattle.integers.specs.Entry.{entry}
 use Rattle.integers.specs.Rounding.{floor, ceiling}
+use Rattle.integers.proofs.Ring.{ring, sides}
+use Rattle.integers.proofs.Order.{natural}
 use Rattle.integers.proofs.Ranges.{stored}
 use Rattle.integers.proofs.Size.{Size, size-add, size-mul, fits-size, abs-add}
-use Rattle.integers.proofs.Machine.{Held, fits!, is!, held-pos, held-neg, held-add, held-stored}
+use Rattle.integers.proofs.Machine.{Held, fits!, is!, held-pos, held-count, held-neg, held-add, held-mul, held-stored}
 use Rattle.curve_halves.specs.Sizes.{Each}
 use Rattle.bound_coordinate.specs.Inside.{Small, Computed}
 use Rattle.bound_coordinate.specs.declared.terms.Terms.{Terms}
 use Rattle.bound_coordinate.specs.declared.higher.Higher.{Higher}
 use Rattle.bound_coordinate.specs.Terms.{Computable, ComputableAt, chordAt, pairOf, numeratorOf, denominatorOf}
-use Rattle.bound_coordinate.specs.Higher.{HigherComputable, HigherComputableAt, higherNumerator}
-use Rattle.bound_coordinate.proofs.Coordinates.{pieces, bounded, held-small, computed-as, restored}
+use Rattle.bound_coordinate.specs.Higher.{raiseOf, HigherComputable, HigherComputableAt, higherNumerator, Raised, RoundedDown}
+use Rattle.bound_coordinate.proofs.Coordinates.{pieces, bounded, held-left, computed-as, restored}
 use Rattle.bound_coordinate.proofs.Quotients.{factor-some, denominator-positive, ceiling-raised}
+use Rattle.bound_coordinate.proofs.Raised.{raised-of, raise-most}
 
 -- ---- a number that 64 bits have room for is held as it is
 kept : {B : ℕ} (z : ℤ) → natAbs z ≤ B → T (ltb B (2 ^ 63)) → stored w64 z ≡ z
@@ -94,61 +98,93 @@ module _ {i : ℕ} {rows : List ℤ} {t : Terms} (h : Most i rows t) (p q : ℕ)
   total-is = is! (held-stored w64 (chord (h .chord) +ℤ sum)
       (total (h .chord) (search (h .each p hp, h .each q hq, h .difference0, h .difference1, bounded) depth 40))) tt
 
--- ---- of degrees 4 and 5, at depth 4
+-- ---- of degrees 4 and 5, at depth 4: the start is raised
+unraised : (x R : ℤ) → natAbs x ≤ natAbs (x -ℤ R) + natAbs R
+unraised x R = le-trans (le-of-eq (ap natAbs (ring (x ∷ R ∷ []) {a = x} {b = x -ℤ R +ℤ R} (search sides depth 20) refl))) (abs-add (x -ℤ R) R)
+
 pub record HigherMost (i : ℕ) (rows : List ℤ) (t : Higher) : Type 0 where
   pub each : Each 72000 rows
-  pub chord : Chord i (t .start) (t .step)
+  pub start : Small (2 ^ 61) (t .start)
+  pub step : Small (20000 * 2 ^ 40) (t .step)
+  pub point : i ≤ 8
   pub difference0 : Small (2 ^ 42) (t .difference0)
   pub difference1 : Small (2 ^ 42) (t .difference1)
   pub difference2 : Small (2 ^ 42) (t .difference2)
   pub difference3 : Small (2 ^ 42) (t .difference3)
 
 pub higher-most-of : {i : ℕ} {rows : List ℤ} {t : Higher} → HigherComputableAt i rows t → HigherMost i rows t
-higher-most-of {i} a =
+higher-most-of {t} a =
     let h = a .computable in
     let w = h .within in
     let power : 2 ^ 20 * 2 ^ (a .s) ≤ 2 ^ 40 = mul-le-mul (le-refl (2 ^ 20)) (pow-mono {j = 20} (h .shallow)) in
+    let start : natAbs (t .start -ℤ raiseOf (a .m) (a .s)) ≤ 10000 * (8 * 2 ^ 40)
+    = le-trans (w .start) (mul-le-mul (le-refl 10000) (mul-le-mul (h .most) power)) in
     record {
       each = record { under = λ p. le-trans (h .each .under p) (mul-le-mul (le-refl 9000) (h .most)) };
-      chord = chord-of (h .most) (le-trans (h .shallow) (omega arith)) (a .point) (w .start) (w .step) (w .chord i (a .point));
+      start = record {
+        size = le-trans (unraised (t .start) (raiseOf (a .m) (a .s)))
+            (le-trans (add-le-add start (raise-most (h .most) (h .shallow))) (lit≤ tt));
+      };
+      step = record { size = le-trans (w .step) (mul-le-mul (le-refl 20000) power) };
+      point = le-trans (a .point) (h .most);
       difference0 = record { size = le-trans (w .difference0) (mul-le-mul (le-refl 4) power) };
       difference1 = record { size = le-trans (w .difference1) (mul-le-mul (le-refl 4) power) };
       difference2 = record { size = le-trans (w .difference2) (mul-le-mul (le-refl 4) power) };
       difference3 = record { size = le-trans (w .difference3) (mul-le-mul (le-refl 4) power) };
     }
 
--- the number that is divided, from the sums x and y of the two pairs
-module _ {i : ℕ} {a b : ℤ} (h : Chord i a b) (x y : ℤ) (hx : natAbs x ≤ 144000 * 2 ^ 42) (hy : natAbs y ≤ 144000 * 2 ^ 42) where
-  abbrev pairs : Held (stored w64 x +ℤ stored w64 y)
-  pairs = held-add (held-stored w64 x (held-small (record { size = hx }))) (held-stored w64 y (held-small (record { size = hy })))
+-- the number that is divided, from the sum x of the first pair
+module _ {i : ℕ} {rows : List ℤ} {t : Higher} (h : HigherMost i rows t) (at : ℕ) {x : ℤ}
+    (hx : Computed (144000 * 2 ^ 42) (pairOf rows (t .row0 + at) (t .row1 + at) (stored w64 (t .difference0)) (stored w64 (t .difference1))) x) where
+  abbrev line : ℤ
+  line = stored w64 (stored w64 (t .start) +ℤ stored w64 (toZ w64 i *ℤ stored w64 (t .step)))
 
-  pub pairs-fit : SFits w64 (stored w64 x +ℤ stored w64 y)
-  pairs-fit = fits! pairs tt
+  abbrev third : ℤ
+  third = stored w64 (stored w64 (entry rows (t .row2 + at)) *ℤ stored w64 (t .difference2))
 
-  pub pairs-total-fits : SFits w64 (chord h +ℤ stored w64 (stored w64 x +ℤ stored w64 y))
-  pairs-total-fits = fits! (total h (held-stored w64 _ pairs)) tt
+  abbrev fourth : ℤ
+  fourth = stored w64 (stored w64 (entry rows (t .row3 + at)) *ℤ stored w64 (t .difference3))
 
-  pairs-total-is : stored w64 (chord h +ℤ stored w64 (stored w64 x +ℤ stored w64 y)) ≡ chordAt a b i +ℤ (x +ℤ y)
-  pairs-total-is = is! (held-stored w64 _ (total h (held-stored w64 _ pairs))) tt
+  pub three-fit : SFits w64 (stored w64 x +ℤ third)
+  three-fit = fits! (search (h .each, h .difference2, hx, bounded) depth 40) tt
 
--- the differences are held as they are
-pair-kept : (rows : List ℤ) (p q : ℕ) {δ ε : ℤ} → Small (2 ^ 42) δ → Small (2 ^ 42) ε
-    → pairOf rows p q (stored w64 δ) (stored w64 ε) ≡ pairOf rows p q δ ε
-pair-kept rows p q {δ} {ε} hδ hε = ap₂ (λ x y. pairOf rows p q x y) (kept δ (hδ .size) tt) (kept ε (hε .size) tt)
+  pub four-fit : SFits w64 (stored w64 (stored w64 x +ℤ third) +ℤ fourth)
+  four-fit = fits! (search (h .each, h .difference2, h .difference3, hx, bounded) depth 40) tt
 
-module _ {i : ℕ} {rows : List ℤ} {t : Higher} (h : HigherMost i rows t) (at : ℕ) {x y : ℤ}
-    (hx : Computed (144000 * 2 ^ 42) (pairOf rows (t .row0 + at) (t .row1 + at) (stored w64 (t .difference0)) (stored w64 (t .difference1))) x)
-    (hy : Computed (144000 * 2 ^ 42) (pairOf rows (t .row2 + at) (t .row3 + at) (stored w64 (t .difference2)) (stored w64 (t .difference3))) y) where
-  pub higher-total-is : stored w64 (chord (h .chord) +ℤ stored w64 (stored w64 x +ℤ stored w64 y)) ≡ higherNumerator rows t at i
-  higher-total-is =
-      pairs-total-is (h .chord) x y (hx .size) (hy .size)
-      ∙ ap₂ (λ u v. chordAt (t .start) (t .step) i +ℤ (u +ℤ v))
-      (hx .is ∙ pair-kept rows (t .row0 + at) (t .row1 + at) (h .difference0) (h .difference1))
-      (hy .is ∙ pair-kept rows (t .row2 + at) (t .row3 + at) (h .difference2) (h .difference3))
+  pub three-total-fits : SFits w64 (line +ℤ stored w64 (stored w64 x +ℤ third))
+  three-total-fits = fits! (search (h .start, h .step, pieces (h .point), h .each, h .difference2, hx, bounded) depth 40) tt
 
--- ---- a number that is divided, of m pieces over 2^s: how large it is
+  pub four-total-fits : SFits w64 (line +ℤ stored w64 (stored w64 (stored w64 x +ℤ third) +ℤ fourth))
+  four-total-fits = fits! (search (h .start, h .step, pieces (h .point), h .each, h .difference2, h .difference3, hx, bounded) depth 40) tt
+
+  -- the differences are held as they are
+  abbrev pair : ℤ
+  pair = pairOf rows (t .row0 + at) (t .row1 + at) (t .difference0) (t .difference1)
+
+  pair-kept : pairOf rows (t .row0 + at) (t .row1 + at) (stored w64 (t .difference0)) (stored w64 (t .difference1)) ≡ pair
+  pair-kept = ap₂ (λ y z. pairOf rows (t .row0 + at) (t .row1 + at) y z)
+      (kept (t .difference0) (h .difference0 .size) tt) (kept (t .difference1) (h .difference1 .size) tt)
+
+  -- the sum of the products, the fourth at degree 5 alone
+  abbrev summed : Bool → ℤ → ℤ
+  summed b z = chordAt (t .start) (t .step) i
+      +ℤ (z +ℤ entry rows (t .row2 + at) *ℤ t .difference2 +ℤ cond b (pos 0) (entry rows (t .row3 + at) *ℤ t .difference3))
+
+  pub three-total-is : t .degree < 5 → stored w64 (line +ℤ stored w64 (stored w64 x +ℤ third)) ≡ higherNumerator rows t at i
+  three-total-is l =
+      is! (search (h .start, h .step, pieces (h .point), h .each, h .difference2, hx, bounded) depth 40) tt
+      ∙ ap (λ z. chordAt (t .start) (t .step) i +ℤ z) (sym (+ℤ-idr _))
+      ∙ ap₂ summed (sym (lt-ltb (t .degree) 5 l)) pair-kept
+
+  pub four-total-is : 5 ≤ t .degree
+      → stored w64 (line +ℤ stored w64 (stored w64 (stored w64 x +ℤ third) +ℤ fourth)) ≡ higherNumerator rows t at i
+  four-total-is l =
+      is! (search (h .start, h .step, pieces (h .point), h .each, h .difference2, h .difference3, hx, bounded) depth 40) tt
+      ∙ ap₂ summed (sym (le-ltb (t .degree) 5 l)) pair-kept
+
+-- ---- a number that is divided, of m pieces over 2^s: how large it is at degrees 1 to 3
 pub record Dividend (m s c : ℕ) (N : ℤ) : Type 0 where
-  pub size : natAbs N ≤ 154000 * 2 ^ 20 * (m * 2 ^ s)
+  pub size : natAbs N ≤ 50000 * 2 ^ 20 * (m * 2 ^ s)
   pub fits : natAbs N ≤ 50000 * (8 * 2 ^ 44)
   pub shallow : s ≤ 24
   pub scaled : c * m ≡ 840
@@ -178,13 +214,22 @@ dividend {m} {s} {c} {i} rows {t} p q h hi hp hq = record {
         let z : Size (chordAt (t .start) (t .step) i) = record { bound = 10000 * (m * B); under = w .chord i hi } in
         le-trans (size-add z (size-add (size-mul a x) (size-mul b y)) .under) (omega (arith, mul-mul-mul-comm 5000 m 4 B))
 
+-- ---- and of degrees 4 and 5, without what it was raised by
+pub record HigherDividend (m s c : ℕ) (n : ℤ) : Type 0 where
+  pub size : natAbs (n -ℤ raiseOf m s) ≤ 154000 * 2 ^ 20 * (m * 2 ^ s)
+  pub shallow : s ≤ 20
+  pub scaled : c * m ≡ 840
+  pub most : m ≤ 8
+
+either-size : (b : Bool) {x : ℤ} (s : Size x) → natAbs (cond b (pos 0) x) ≤ s .bound
+either-size true s = zero-le
+either-size false s = s .under
+
 pub higher-dividend : {m s c i : ℕ} (rows : List ℤ) {t : Higher} (at : ℕ) → HigherComputable m s c rows t → i ≤ m
-    → Dividend m s c (higherNumerator rows t at i)
+    → HigherDividend m s c (higherNumerator rows t at i)
 higher-dividend {m} {s} {c} {i} rows {t} at h hi = record {
   size = le-trans scaled (omega (arith, mul-left-comm m (2 ^ 20) (2 ^ s)));
-  fits = le-trans scaled (le-trans
-      (mul-le-mul (le-refl 154000) (mul-le-mul (h .most) (mul-le-mul (le-refl (2 ^ 20)) (pow-mono {j = 20} (h .shallow))))) (lit≤ tt));
-  shallow = le-trans (h .shallow) (omega arith);
+  shallow = h .shallow;
   scaled = h .scaled;
   most = h .most;
 }
@@ -192,21 +237,40 @@ higher-dividend {m} {s} {c} {i} rows {t} at h hi = record {
     B : ℕ
     B = 2 ^ 20 * 2 ^ s
 
-    number : (p : ℕ) → Size (entry rows p)
-    number p = record { bound = 9000 * m; under = h .each .under p }
+    regrouped : (x y R : ℤ) → x +ℤ y -ℤ R ≡ x -ℤ R +ℤ y
+    regrouped x y R = ring (x ∷ y ∷ R ∷ []) (search sides depth 20) refl
 
-    scaled : natAbs (higherNumerator rows t at i) ≤ 154000 * (m * B)
+    product : (p : ℕ) (δ : ℤ) → natAbs δ ≤ 4 * B → Size (entry rows p *ℤ δ)
+    product p δ l = record {
+      bound = 9000 * m * (4 * B);
+      under = size-mul {x = entry rows p} {y = δ} (record { bound = 9000 * m; under = h .each .under p }) (record { bound = 4 * B; under = l }) .under;
+    }
+
+    scaled : natAbs (higherNumerator rows t at i -ℤ raiseOf m s) ≤ 154000 * (m * B)
     scaled =
         let w = h .within in
-        let x : Size (t .difference0) = record { bound = 4 * B; under = w .difference0 } in
-        let y : Size (t .difference1) = record { bound = 4 * B; under = w .difference1 } in
-        let z : Size (t .difference2) = record { bound = 4 * B; under = w .difference2 } in
-        let u : Size (t .difference3) = record { bound = 4 * B; under = w .difference3 } in
-        let v : Size (chordAt (t .start) (t .step) i) = record { bound = 10000 * (m * B); under = w .chord i hi } in
-        le-trans (size-add v (size-add
-        (size-add (size-mul (number (t .row0 + at)) x) (size-mul (number (t .row1 + at)) y))
-        (size-add (size-mul (number (t .row2 + at)) z) (size-mul (number (t .row3 + at)) u))) .under)
-        (omega (arith, mul-mul-mul-comm 9000 m 4 B))
+        let x = product (t .row0 + at) (t .difference0) (w .difference0) in
+        let y = product (t .row1 + at) (t .difference1) (w .difference1) in
+        let z = product (t .row2 + at) (t .difference2) (w .difference2) in
+        let u = product (t .row3 + at) (t .difference3) (w .difference3) in
+        let f : Size (cond (ltb (t .degree) 5) (pos 0) (entry rows (t .row3 + at) *ℤ t .difference3))
+        = record { bound = u .bound; under = either-size (ltb (t .degree) 5) u } in
+        let v : Size (chordAt (t .start) (t .step) i -ℤ raiseOf m s) = record { bound = 10000 * (m * B); under = w .chord i hi } in
+        le-trans (le-of-eq (ap natAbs (regrouped (chordAt (t .start) (t .step) i) _ (raiseOf m s))))
+        (le-trans (size-add v (size-add (size-add (size-add x y) z) f) .under) (omega (arith, mul-mul-mul-comm 9000 m 4 B)))
+
+-- ---- one less than the divisor, which is added for a high
+abbrev shiftedDivisor : (m s : ℕ) → ℤ
+shiftedDivisor m s = toZ w64 (ofZ w64 (pos 625 *ℤ toZ w64 m) * 2 ^ s % 2 ^ 64)
+
+module _ {m s : ℕ} (most : m ≤ 8) (shallow : s ≤ 24) where
+  abbrev less : Held (shiftedDivisor m s -ℤ pos 1)
+  less = held-add
+      (held-left shallow (held-mul {x = pos 625} {y = toZ w64 m} (held-pos refl) (held-count w64 m (pieces most))) (natural (625 * m)))
+      (held-neg (held-pos {n = 1} refl))
+
+  pub less-fits : SFits w64 (shiftedDivisor m s -ℤ pos 1)
+  less-fits = fits! less tt
 
 -- ---- what the code divides
 module _ {m s c : ℕ} {N : ℤ} (h : Dividend m s c N) {r : ℤ} (e : r ≡ N) where
@@ -230,34 +294,14 @@ module _ {m s c : ℕ} {N : ℤ} (h : Dividend m s c N) {r : ℤ} (e : r ≡ N) 
   abbrev D : ℤ
   D = denominatorOf m s
 
-  abbrev shifted : ℤ
-  shifted = toZ w64 (ofZ w64 (pos 625 *ℤ toZ w64 m) * 2 ^ s % 2 ^ 64)
+  abbrev raised : Held (stored w64 r +ℤ stored w64 (shiftedDivisor m s -ℤ pos 1))
+  raised = held-add divided (held-stored w64 (shiftedDivisor m s -ℤ pos 1) (less (h .most) (h .shallow)))
 
-  divisor-most : 625 * m * 2 ^ s ≤ 625 * 8 * 2 ^ 24
-  divisor-most = mul-le-mul (mul-le-mul (le-refl 625) (h .most)) (pow-mono (h .shallow))
-
-  shifted-is : shifted ≡ D
-  shifted-is =
-      ap (λ z. toZ w64 (ofZ w64 (pos 625 *ℤ z) * 2 ^ s % 2 ^ 64)) (toZ-pos w64 (lt-of-le-of-lt (h .most) (lit< tt)))
-      ∙ ap (toZ w64) (mod-eq-of-lt (lt-of-le-of-lt divisor-most (lit< tt)))
-      ∙ toZ-pos w64 (lt-of-le-of-lt divisor-most (lit< tt))
-
-  abbrev less : Held (shifted -ℤ pos 1)
-  less = held-add
-      (record { value = D; bound = 625 * 8 * 2 ^ 24; test = true; is = λ u. shifted-is; under = λ u. divisor-most })
-      (held-neg (held-pos {n = 1} refl))
-
-  pub less-fits : SFits w64 (shifted -ℤ pos 1)
-  less-fits = fits! less tt
-
-  abbrev raised : Held (stored w64 r +ℤ stored w64 (shifted -ℤ pos 1))
-  raised = held-add divided (held-stored w64 (shifted -ℤ pos 1) less)
-
-  pub raised-fits : SFits w64 (stored w64 r +ℤ stored w64 (shifted -ℤ pos 1))
+  pub raised-fits : SFits w64 (stored w64 r +ℤ stored w64 (shiftedDivisor m s -ℤ pos 1))
   raised-fits = fits! raised tt
 
   abbrev S : ℤ
-  S = stored w64 (stored w64 r +ℤ stored w64 (shifted -ℤ pos 1))
+  S = stored w64 (stored w64 r +ℤ stored w64 (shiftedDivisor m s -ℤ pos 1))
 
   raised-is : S ≡ N +ℤ (D -ℤ pos 1)
   raised-is = is! (held-stored w64 _ raised) tt
@@ -269,3 +313,51 @@ module _ {m s c : ℕ} {N : ℤ} (h : Dividend m s c N) {r : ℤ} (e : r ≡ N) 
   pub high-computed : {b : ℤ} → Computed (2 ^ 28) (floor S D) b → Computed (2 ^ 28) (ceiling N D) (stored w64 b)
   high-computed k = restored (computed-as (ap (λ z. floor z D) raised-is
       ∙ ceiling-raised N (denominator-positive (factor-some c m (h .scaled)) s)) k) tt
+
+-- ---- and at degrees 4 and 5
+module _ {m s c : ℕ} {n : ℤ} (h : HigherDividend m s c n) {r : ℤ} (e : r ≡ n) where
+  abbrev divisor : ℤ
+  divisor = denominatorOf m s
+
+  fits : natAbs n ≤ 2 ^ 62
+  fits = le-trans (unraised n (raiseOf m s))
+      (le-trans (add-le-add (le-trans (h .size) (mul-le-mul (le-refl (154000 * 2 ^ 20)) (mul-le-mul (h .most) (pow-mono {j = 20} (h .shallow)))))
+      (raise-most (h .most) (h .shallow))) (lit≤ tt))
+
+  abbrev higher-divided : Held (stored w64 r)
+  higher-divided = record { value = n; bound = 2 ^ 62; test = true; is = λ u. ap (stored w64) e ∙ kept n fits tt; under = λ u. fits }
+
+  pub higher-low-raised : Raised s c (stored w64 r)
+  higher-low-raised = subst (Raised s c) (sym (higher-divided .is tt))
+      (raised-of m (le-trans (h .size) (omega (arith, mul-assoc 625 m (2 ^ s)))) (h .shallow) (h .scaled))
+
+  pub higher-low-computed : {b : ℤ} → RoundedDown s c (stored w64 r) b → Computed (2 ^ 28) (floor n divisor -ℤ pos (2 ^ 28)) (stored w64 b)
+  higher-low-computed k = restored (computed-as (ap (λ z. floor z divisor -ℤ pos (2 ^ 28)) (higher-divided .is tt)) (k .of m (h .scaled))) tt
+
+  -- ---- and for the high, raised by one less than the divisor
+  abbrev higher-raised : Held (stored w64 r +ℤ stored w64 (shiftedDivisor m s -ℤ pos 1))
+  higher-raised = held-add higher-divided
+      (held-stored w64 (shiftedDivisor m s -ℤ pos 1) (less (h .most) (le-trans (h .shallow) (omega arith))))
+
+  pub higher-raised-fits : SFits w64 (stored w64 r +ℤ stored w64 (shiftedDivisor m s -ℤ pos 1))
+  higher-raised-fits = fits! higher-raised tt
+
+  abbrev added : ℤ
+  added = stored w64 (stored w64 r +ℤ stored w64 (shiftedDivisor m s -ℤ pos 1))
+
+  higher-raised-is : added ≡ n +ℤ (divisor -ℤ pos 1)
+  higher-raised-is = is! (held-stored w64 _ higher-raised) tt
+
+  more-size : natAbs (n +ℤ (divisor -ℤ pos 1) -ℤ raiseOf m s) ≤ 2 ^ 28 * (625 * m * 2 ^ s)
+  more-size =
+      let R = raiseOf m s in
+      let q : n +ℤ (divisor -ℤ pos 1) -ℤ R ≡ n -ℤ R +ℤ (divisor -ℤ pos 1) = ring (n ∷ divisor ∷ R ∷ []) (search sides depth 20) refl in
+      le-trans (le-of-eq (ap natAbs q)) (le-trans (abs-add (n -ℤ R) (divisor -ℤ pos 1)) (le-trans (add-le-add (h .size) (abs-add divisor (negsuc 0)))
+      (omega (arith, mul-assoc 625 m (2 ^ s), mul-le-mul (factor-some c m (h .scaled)) (pow-pos s)))))
+
+  pub higher-high-raised : Raised s c added
+  higher-high-raised = subst (Raised s c) (sym higher-raised-is) (raised-of m more-size (h .shallow) (h .scaled))
+
+  pub higher-high-computed : {b : ℤ} → RoundedDown s c added b → Computed (2 ^ 28) (ceiling n divisor -ℤ pos (2 ^ 28)) (stored w64 b)
+  higher-high-computed k = restored (computed-as (ap (λ z. floor z divisor -ℤ pos (2 ^ 28)) higher-raised-is
+      ∙ ap (λ z. z -ℤ pos (2 ^ 28)) (ceiling-raised n (denominator-positive (factor-some c m (h .scaled)) s))) (k .of m (h .scaled))) tt

@@ -1,39 +1,47 @@
--- The same for degrees 4 and 5, which have three and four second differences; the rows of a fourth that degree 4 does
--- not have are zeros. Only the contracts of functions inside cite what stands here; nothing of it is part of a public
--- promise.
+-- The same for degrees 4 and 5, which have three and four second differences: those of degree 4 leave the fourth out.
+-- Only the contracts of functions inside cite what stands here; nothing of it is part of a public promise.
 use mathlib.Core.Path.{_≡_}
+use mathlib.Core.Bool.{cond}
 use mathlib.Core.List.{List}
 use Prim.Native.Nat.{ℕ, _+_, _*_, _^_, _≤_}
+use lib.Dec.{ltb}
 use lib.ListN.{length}
 use lib.IntN.{ℤ, pos, natAbs, _+ℤ_, _-ℤ_, _*ℤ_}
+use lib.Signed.{_≤ℤ_}
 use Rattle.integers.specs.Entry.{entry}
 use Rattle.integers.specs.Rounding.{floor, ceiling}
 use Rattle.curve_halves.specs.Sizes.{Each}
 use Rattle.curve_nodes.specs.Differences.{difference}
 use Rattle.bound_rows.specs.Inside.{placeOf}
 use Rattle.bound_coordinate.specs.declared.higher.Higher.{Higher}
+use Rattle.bound_coordinate.specs.Inside.{Computed}
 use Rattle.bound_coordinate.specs.Terms.{chosen, chordAt, pairOf, denominatorOf}
 
--- the terms of a coordinate of degree d for m pieces
-unfoldable pub higherOf : (m d : ℕ) → List ℤ → Higher
-higherOf m d cs = record {
-  start = pos 10000 *ℤ (pos m *ℤ entry cs 0);
+-- 2^28 times the divisor, by which a chord is raised: then no number that is divided is negative
+abbrev pub raiseOf : (m s : ℕ) → ℤ
+raiseOf m s = pos (2 ^ 28) *ℤ denominatorOf m s
+
+-- the terms of a coordinate of degree d for m pieces, over 2^s
+unfoldable pub higherOf : (m d s : ℕ) → List ℤ → Higher
+higherOf m d s cs = record {
+  degree = d;
+  start = pos 10000 *ℤ (pos m *ℤ entry cs 0) +ℤ raiseOf m s;
   step = pos 10000 *ℤ (entry cs d -ℤ entry cs 0);
   difference0 = difference cs 0;
   difference1 = difference cs 1;
   difference2 = difference cs 2;
   difference3 = difference cs 3;
   row0 = chosen (difference cs 0) (placeOf d 0);
-  row1 = chosen (difference cs 1) (placeOf d 1);
-  row2 = chosen (difference cs 2) (placeOf d 2);
-  row3 = chosen (difference cs 3) (placeOf d 3);
+  row1 = chosen (difference cs 1) (placeOf d 0 + 27);
+  row2 = chosen (difference cs 2) (placeOf d 0 + 54);
+  row3 = chosen (difference cs 3) (placeOf d 0 + 81);
 }
 
 -- the terms of m pieces, over 2^s, of a coordinate within 2^20
 pub record HigherWithin (m s : ℕ) (t : Higher) : Type 0 where
-  pub start : natAbs (t .start) ≤ 10000 * (m * (2 ^ 20 * 2 ^ s))
+  pub start : natAbs (t .start -ℤ raiseOf m s) ≤ 10000 * (m * (2 ^ 20 * 2 ^ s))
   pub step : natAbs (t .step) ≤ 20000 * (2 ^ 20 * 2 ^ s)
-  pub chord : (i : ℕ) → i ≤ m → natAbs (chordAt (t .start) (t .step) i) ≤ 10000 * (m * (2 ^ 20 * 2 ^ s))
+  pub chord : (i : ℕ) → i ≤ m → natAbs (chordAt (t .start) (t .step) i -ℤ raiseOf m s) ≤ 10000 * (m * (2 ^ 20 * 2 ^ s))
   pub difference0 : natAbs (t .difference0) ≤ 4 * (2 ^ 20 * 2 ^ s)
   pub difference1 : natAbs (t .difference1) ≤ 4 * (2 ^ 20 * 2 ^ s)
   pub difference2 : natAbs (t .difference2) ≤ 4 * (2 ^ 20 * 2 ^ s)
@@ -60,16 +68,28 @@ pub record HigherComputableAt (i : ℕ) (rows : List ℤ) (t : Higher) : Type 0 
   pub computable : HigherComputable m s c rows t
   pub point : i ≤ m
 
--- the number that is divided at break point i: the chord and the sums of two pairs, for rows read `at` places on
+-- the number that is divided at break point i: the raised chord and the sum of row × difference, three or four of them,
+-- for rows read `at` places on
 abbrev pub higherNumerator : List ℤ → Higher → (at i : ℕ) → ℤ
 higherNumerator rows t at i =
     chordAt (t .start) (t .step) i
     +ℤ (pairOf rows (t .row0 + at) (t .row1 + at) (t .difference0) (t .difference1)
-    +ℤ pairOf rows (t .row2 + at) (t .row3 + at) (t .difference2) (t .difference3))
+    +ℤ entry rows (t .row2 + at) *ℤ t .difference2
+    +ℤ cond (ltb (t .degree) 5) (pos 0) (entry rows (t .row3 + at) *ℤ t .difference3))
 
--- the low and the high at break point i
+-- what is divided is raised far enough: it is not negative, and what it is divided to at most 2^29; c is 840 / m
+pub record Raised (s c : ℕ) (n : ℤ) : Type 0 where
+  pub some : pos 0 ≤ℤ n
+  pub high : (n *ℤ pos c) ≤ℤ pos (2 ^ 29 * 525000 * 2 ^ s)
+  pub shallow : s ≤ 20
+
+-- r is n over 625 m 2^s, rounded down, what was raised taken off again, for the m whose scale is c
+pub record RoundedDown (s c : ℕ) (n r : ℤ) : Type 0 where
+  pub of : (m : ℕ) → c * m ≡ 840 → Computed (2 ^ 28) (floor n (denominatorOf m s) -ℤ pos (2 ^ 28)) r
+
+-- the low and the high at break point i, what was raised taken off again
 unfoldable pub higherLow : (m s : ℕ) → List ℤ → Higher → ℕ → ℤ
-higherLow m s rows t i = floor (higherNumerator rows t (3 * i + 1) i) (denominatorOf m s)
+higherLow m s rows t i = floor (higherNumerator rows t (3 * i + 1) i) (denominatorOf m s) -ℤ pos (2 ^ 28)
 
 unfoldable pub higherHigh : (m s : ℕ) → List ℤ → Higher → ℕ → ℤ
-higherHigh m s rows t i = ceiling (higherNumerator rows t (3 * i) i) (denominatorOf m s)
+higherHigh m s rows t i = ceiling (higherNumerator rows t (3 * i) i) (denominatorOf m s) -ℤ pos (2 ^ 28)

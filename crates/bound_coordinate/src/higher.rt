@@ -8,13 +8,17 @@ ghost use Rattle.bound_rows.specs.Inside.{placeOf};
 ghost use Rattle.bound_coordinate.specs.Inside.{HigherBoundable, Small, Computed};
 ghost use Rattle.bound_coordinate.specs.Terms.{chosen, pairOf};
 ghost use Rattle.bound_coordinate.specs.Higher.{higherOf, HigherComputable, HigherComputableAt};
-ghost use Rattle.bound_coordinate.specs.Higher.{higherNumerator, higherLow, higherHigh};
-use crate::break_points::rounded_down;
+ghost use Rattle.bound_coordinate.specs.Higher.{higherNumerator, Raised, RoundedDown, higherLow, higherHigh};
 use crate::terms::difference_at;
 use crate::terms::row_for;
 
-// 10000 times the chord's start times m and its rise, the second differences, and where each begins to read its rows.
+// 2^28: no bound is larger in size.
+const LARGEST: i64 = 268435456;
+
+// The degree, 10000 times the chord's start times m and its rise, the second differences, and where each begins to read
+// its rows. The start is raised by 2^28 times the divisor, so that no number that is divided is negative.
 pub struct Higher {
+    pub degree: u32,
     pub start: i64,
     pub step: i64,
     pub difference0: i64,
@@ -35,47 +39,38 @@ fn last_of(c: [i64; 6], degree: u32) -> i64
     if degree < 5 { c[4] } else { c[5] }
 }
 
-// Where the rows of second difference k of a degree begin among the copied rows.
-fn place_of(degree: u32, k: usize) -> usize
-    requires { ⌜ (4 ≤ degree) × (degree ≤ 5) × (k < 4) ⌝ }
-    ensures { λ r. ⌜ r ≡ placeOf degree k ⌝ }
+// Where the rows of a degree begin among the copied rows.
+fn place_of(degree: u32) -> usize
+    requires { ⌜ (4 ≤ degree) × (degree ≤ 5) ⌝ }
+    ensures { λ r. ⌜ (r ≡ placeOf degree 0) × (r ≤ 189) ⌝ }
 {
-    if 4 < degree {
-        return 189 + 27 * k;
-    }
-    if k < 3 { 108 + 27 * k } else { 81 }
+    if degree < 5 { 108 } else { 189 }
 }
 
-// Where a second difference begins to read its rows.
-fn row_of(difference: i64, degree: u32, k: usize) -> usize
-    requires { ⌜ (4 ≤ degree) × (degree ≤ 5) × (k < 4) ⌝ }
-    ensures { λ r. ⌜ r ≡ chosen difference (placeOf degree k) ⌝ }
-{
-    row_for(difference, place_of(degree, k))
-}
-
-// The terms of a coordinate for m pieces.
-pub fn higher_of(c: [i64; 6], degree: u32, m: usize) -> Higher
-    requires { ⌜ (HigherBoundable c degree) × (m ≤ 8) ⌝ }
-    ensures { λ r. ⌜ r ≡ higherOf m degree c ⌝ }
+// The terms of a coordinate for m pieces, over 2^shift.
+pub fn higher_of(c: [i64; 6], degree: u32, shift: u32, m: usize) -> Higher
+    requires { ⌜ (HigherBoundable c degree) × (m ≤ 8) × (shift ≤ 20) ⌝ }
+    ensures { λ r. ⌜ r ≡ higherOf m degree shift c ⌝ }
 {
     let difference0 = difference_at(c, 0);
     let difference1 = difference_at(c, 1);
     let difference2 = difference_at(c, 2);
     let difference3 = difference_at(c, 3);
     let first = c[0];
+    let place = place_of(degree);
     let last = last_of(c, degree);
     Higher {
-        start: 10000 * (m as i64 * first),
+        degree,
+        start: 10000 * (m as i64 * first) + ((LARGEST * (625 * m as i64)) << shift),
         step: 10000 * (last - first),
         difference0,
         difference1,
         difference2,
         difference3,
-        row0: row_of(difference0, degree, 0),
-        row1: row_of(difference1, degree, 1),
-        row2: row_of(difference2, degree, 2),
-        row3: row_of(difference3, degree, 3),
+        row0: row_for(difference0, place),
+        row1: row_for(difference1, place + 27),
+        row2: row_for(difference2, place + 54),
+        row3: row_for(difference3, place + 81),
     }
 }
 
@@ -97,8 +92,19 @@ fn numerator(rows: &[i64], t: Higher, at: usize, i: usize) -> i64
     let step = t.step;
     let chord = start + i as i64 * step;
     let a = pair(rows, t.row0 + at, t.row1 + at, t.difference0, t.difference1);
-    let b = pair(rows, t.row2 + at, t.row3 + at, t.difference2, t.difference3);
-    chord + (a + b)
+    let b = rows[t.row2 + at] * t.difference2;
+    if t.degree < 5 {
+        return chord + (a + b);
+    }
+    chord + (a + b + rows[t.row3 + at] * t.difference3)
+}
+
+// n over 625 m 2^shift, rounded down, where n is raised by 2^28 times that; the scale is that of m.
+fn rounded_down(n: i64, shift: u32, scale: usize) -> i64
+    requires { ⌜ Raised shift scale n ⌝ }
+    ensures { λ r. ⌜ RoundedDown shift scale n r ⌝ }
+{
+    ((n as u64 >> shift) * (scale as u64) / 525000) as i64 - LARGEST
 }
 
 // The low at break point i, over 2^shift; the scale is that of m.
@@ -107,7 +113,7 @@ pub fn low_at(rows: &[i64], t: Higher, shift: u32, scale: usize, m: usize, i: us
     ensures { λ r. ⌜ Computed (2 ^ 28) (higherLow m shift (now (rows .entry)) t i) r ⌝ }
 {
     let n = numerator(rows, t, 3 * i + 1, i);
-    rounded_down(n, shift, scale, m)
+    rounded_down(n, shift, scale)
 }
 
 // The high at break point i: one less than the divisor is added before it is rounded down.
@@ -117,5 +123,5 @@ pub fn high_at(rows: &[i64], t: Higher, shift: u32, scale: usize, m: usize, i: u
 {
     let n = numerator(rows, t, 3 * i, i);
     let more = ((625 * m as i64) << shift) - 1;
-    rounded_down(n + more, shift, scale, m)
+    rounded_down(n + more, shift, scale)
 }

@@ -11,7 +11,7 @@ use lib.Dec.{T, leb, leb→le}
 use lib.IntN.{ℤ, pos, natAbs, _+ℤ_, _-ℤ_}
 use lib.ListN.{getD}
 use lib.Signed.{ltZ, _≤ℤ_, clashℤ}
-use Rattle.setting.specs.Setting.{Setting, HasRows, degreePieces}
+use Rattle.setting.specs.Setting.{Setting, HasRows, mostDegree, degreePieces}
 use Rattle.integers.specs.Squares.{squared}
 use Rattle.integers.proofs.Ring.{sides}
 use Rattle.integers.proofs.Order.{natural, gap, le-by, lt-or-ge, pos-le, le-pos, ≤ℤ-trans, +ℤ-mono, _+₀_, _×₀_}
@@ -42,6 +42,14 @@ many-tested f t zero h l = absurd (omega arith)
 many-tested f t (suc zero) h l = absurd (omega arith)
 many-tested f t (suc (suc zero)) h l = absurd (omega arith)
 many-tested f t (suc (suc (suc n))) h l = below 6 (λ n. f (suc (suc (suc n)))) t n (omega (arith, h .most))
+
+-- a test of degrees 4 and 5
+pub both-degrees : (f : ℕ → Bool) → T (every-below 2 (λ e. f (suc (suc (suc (suc e)))))) → (d : ℕ) → 3 < d → d ≤ mostDegree → T (f d)
+both-degrees f t zero a b = absurd (omega arith)
+both-degrees f t (suc zero) a b = absurd (omega arith)
+both-degrees f t (suc (suc zero)) a b = absurd (omega arith)
+both-degrees f t (suc (suc (suc zero))) a b = absurd (omega arith)
+both-degrees f t (suc (suc (suc (suc e)))) a b = below 2 (λ e. f (suc (suc (suc (suc e))))) t e (omega arith)
 
 -- the gaps at break point i: each at most A, and both at most G; at degree 2 at most G
 abbrev gapsFine : (m i : ℕ) → Bool
@@ -141,6 +149,14 @@ module _ (σ : Setting) (rows : HasRows (σ .pieces)) (tolerance : ℤ) {depth :
     each = λ i hi. ≤ℤ-trans (+ℤ-mono (under-all (c .x) w hx i hi) (under-all (c .y) h hy i hi)) (lt-no e);
   })
 
+  -- and sums that are at most those of one of them: too wide by them, the node does not
+  pub reached-fails : (w h i : ℕ) → i ≤ σ .pieces
+      → w ≤ gapsSum (gapsAt (rowsOf (σ .pieces) (c .degree)) i) 0 (c .x) → h ≤ gapsSum (gapsAt (rowsOf (σ .pieces) (c .degree)) i) 0 (c .y)
+      → ltZ (squared tolerance) (squareOf w (c .degree * depth) +ℤ squareOf h (c .degree * depth)) ≡ true → meets σ tolerance depth c ≡ false
+  reached-fails w h i hi hw hh e = refuted (λ m. clashℤ (lt-yes e) (≤ℤ-trans
+      (+ℤ-mono (square-least σ rows (c .degree) depth (c .x) (s .least) (s .most) takes w i hi hw)
+      (square-least σ rows (c .degree) depth (c .y) (s .least) (s .most) takes h i hi hh)) (meets-narrow σ tolerance depth c m .each i hi)))
+
 module _ (σ : Setting) (rows : HasRows (σ .pieces)) (tolerance : ℤ) {depth : ℕ} {c : Curve} (s : Sized depth c) (few : c .degree ≤ 3)
     {xs ys : List ℕ} (ex : xs ≡ sumsOf (σ .pieces) (c .degree) (c .x)) (ey : ys ≡ sumsOf (σ .pieces) (c .degree) (c .y)) where
   takes : degreePieces (c .degree) (σ .pieces) ≡ true
@@ -165,12 +181,8 @@ module _ (σ : Setting) (rows : HasRows (σ .pieces)) (tolerance : ℤ) {depth :
   gaps-fail : (gs : List ℕ) (i : ℕ) → i ≤ σ .pieces → T (under gs (gapsAt (rowsOf (σ .pieces) (c .degree)) i))
       → ltZ (squared tolerance) (squareOf (gapsSum gs 0 (c .x)) shift +ℤ squareOf (gapsSum gs 0 (c .y)) shift) ≡ true
       → meets σ tolerance depth c ≡ false
-  gaps-fail gs i hi t h =
-      refuted (λ e. clashℤ (lt-yes h) (≤ℤ-trans (+ℤ-mono (over (c .x)) (over (c .y))) (meets-narrow σ tolerance depth c e .each i hi)))
-    where
-      over : (cs : List ℤ) → squareOf (gapsSum gs 0 cs) shift ≤ℤ width cs i
-      over cs = square-least σ rows (c .degree) depth cs (s .least) (s .most) takes (gapsSum gs 0 cs) i hi
-          (under-sum cs gs (gapsAt (rowsOf (σ .pieces) (c .degree)) i) 0 t)
+  gaps-fail gs i hi t = reached-fails σ rows tolerance s takes (gapsSum gs 0 (c .x)) (gapsSum gs 0 (c .y)) i hi
+      (under-sum (c .x) gs (gapsAt (rowsOf (σ .pieces) (c .degree)) i) 0 t) (under-sum (c .y) gs (gapsAt (rowsOf (σ .pieces) (c .degree)) i) 0 t)
 
   -- where the corners are break points: the one where x is the wider
   module _ (exact : exactOf (σ .pieces) (c .degree) ≡ true) where

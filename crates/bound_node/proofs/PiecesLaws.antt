@@ -5,7 +5,7 @@ use mathlib.Core.List.{List, [], _∷_}
 use Prim.Native.Nat.{ℕ, zero, suc, _+_, _-_, _*_, _/_, _≤_, _<_, max}
 use native.Mathlib.Nat.{le-refl, le-trans, mul-le-mul, div-eq-of-eq-mul-right, div-le-of-le-mul}
 use native.Mathlib.Omega.{arith}
-use lib.Dec.{T, eqb, ltb, eqb→eq}
+use lib.Dec.{T, eqb, ltb, leb, eqb→eq, leb→le}
 use lib.IntN.{ℤ, pos, natAbs, _-ℤ_, _*ℤ_}
 use lib.Signed.{nonNeg}
 use borrow.Author.Tests.{lt-ltb, le-ltb}
@@ -24,8 +24,10 @@ use Rattle.bound_rows.specs.Inside.{placeOf, tripleAt, Copied}
 use Rattle.bound_rows.proofs.Gaps.{ordered}
 use Rattle.bound_rows.proofs.Rule.{rows-ordered}
 use Rattle.bound_node.specs.declared.pieces.Pieces.{Pieces}
-use Rattle.bound_node.specs.Inside.{gapAt, widestAt, nearGap, higherGap, piecesBy, piecesOf}
-use Rattle.bound_node.proofs.Corners.{pieces-tested, many-tested}
+use Rattle.bound_node.specs.declared.pieces.Gaps.{Gaps}
+use Rattle.bound_node.specs.Inside.{gapAt, widestAt, nearGap, gapsOf, piecesBy, piecesOf}
+use Rattle.bound_node.specs.Told.{SmallGaps}
+use Rattle.bound_node.proofs.Corners.{pieces-tested, many-tested, both-degrees}
 
 -- ---- one gap
 ordered-at : (ρs : List Row) (i k : ℕ) → T (ordered ρs i) → T (nonNeg (entry (rowAt ρs k .high) i -ℤ entry (rowAt ρs k .low) i))
@@ -89,7 +91,7 @@ module _ {m : ℕ} (h : HasRows m) where
 
   module _ {s a₀ a₁ b₀ b₁ g : ℕ} (es : s ≡ gapAt m 2 0 1) (ea₀ : a₀ ≡ gapAt m 3 0 0) (ea₁ : a₁ ≡ gapAt m 3 0 1)
       (eb₀ : b₀ ≡ gapAt m 3 1 0) (eb₁ : b₁ ≡ gapAt m 3 1 1) (eg : g ≡ max (a₀ + b₀) (a₁ + b₁))
-      {q r : ℕ} (eq : q ≡ higherGap m 4) (er : r ≡ higherGap m 5) where
+      {q r : Gaps} (eq : q ≡ gapsOf m 4) (er : r ≡ gapsOf m 5) where
     largest : g ≡ gapOf m 3
     largest = eg ∙ (λ j. max (ea₀ j + eb₀ j) (ea₁ j + eb₁ j)) ∙ both-is
 
@@ -108,42 +110,98 @@ module _ {m : ℕ} (h : HasRows m) where
         let w = sym (widest false (le-ltb _ _ l)) in
         λ j. piecesBy m ((es ∙ single-is) j) ((ea₀ ∙ ap (gapAt m 3 0) w) j) ((eb₀ ∙ ap (gapAt m 3 1) w) j) (largest j) (eq j) (er j)
 
--- ---- G of degrees 4 and 5, which stands at break point 1; one and two pieces have none
-pub few-gap : (m d : ℕ) → m < 3 → 0 ≡ higherGap m d
-unfolding higherGap
-few-gap m d l = sym (ap (λ (b : Bool). cond b 0 (gapOf m d)) (lt-ltb m 3 l))
+-- ---- the gaps of degrees 4 and 5: G stands at break point 1, the others at break point 0; one and two pieces have none
+abbrev noGaps : Gaps
+noGaps = record { whole = 0; outer = 0; first = 0; second = 0 }
 
-pub many-gap : (m d : ℕ) → 3 ≤ m → higherGap m d ≡ gapOf m d
-unfolding higherGap
-many-gap m d l = ap (λ (b : Bool). cond b 0 (gapOf m d)) (le-ltb m 3 l)
+abbrev pub someGaps : (m d : ℕ) → Gaps
+someGaps m d = record {
+  whole = gapOf m d;
+  outer = gapAt m d 0 0 + gapAt m d (d - 2) 0;
+  first = gapAt m d 0 0;
+  second = gapAt m d 1 0;
+}
+
+pub few-gaps : (m d : ℕ) → m < 3 → record { whole = 0; outer = 0; first = 0; second = 0 } ≡ gapsOf m d
+unfolding gapsOf
+few-gaps m d l = sym (ap (λ (b : Bool). cond b noGaps (someGaps m d)) (lt-ltb m 3 l))
+
+pub many-gaps : (m d : ℕ) → 3 ≤ m → gapsOf m d ≡ someGaps m d
+unfolding gapsOf
+many-gaps m d l = ap (λ (b : Bool). cond b noGaps (someGaps m d)) (le-ltb m 3 l)
 
 abbrev three : (m d : ℕ) → ℕ
 three m d = gapAt m d 0 1 + gapAt m d 1 1 + gapAt m d 2 1
 
-abbrev higherFine : ℕ → Bool
-higherFine m = eqb (three m 4) (gapOf m 4) && eqb (three m 5 + gapAt m 5 3 1) (gapOf m 5)
+abbrev quarticFine : ℕ → Bool
+quarticFine m = eqb (three m 4) (gapOf m 4) && eqb (gapAt m 4 2 0) 0
 
-higher-tested : T (every-below 6 (λ n. higherFine (suc (suc (suc n)))))
+abbrev quinticFine : ℕ → Bool
+quinticFine m = eqb (three m 5 + gapAt m 5 3 1) (gapOf m 5)
+
+higher-tested : T (every-below 6 (λ n. quarticFine (suc (suc (suc n))) && quinticFine (suc (suc (suc n)))))
 unfolding table rowsOf gapOf largestOf
 higher-tested = tt
 
-module _ {m : ℕ} (h : HasRows m) (l : 3 ≤ m) (d : ℕ) {a b e : ℕ} (ea : a ≡ gapAt m d 0 1) (eb : b ≡ gapAt m d 1 1) (ee : e ≡ gapAt m d 2 1) where
-  tested : T (higherFine m)
-  tested = many-tested higherFine higher-tested m h l
+module _ {m : ℕ} (h : HasRows m) (l : 3 ≤ m) (d : ℕ) {a b e f g : ℕ} (ea : a ≡ gapAt m d 0 1) (eb : b ≡ gapAt m d 1 1) (ee : e ≡ gapAt m d 2 1)
+    (ef : f ≡ gapAt m d 0 0) (eg : g ≡ gapAt m d 1 0) where
+  tested : T (quarticFine m && quinticFine m)
+  tested = many-tested (λ m. quarticFine m && quinticFine m) higher-tested m h l
+
+  quartic : T (quarticFine m)
+  quartic = and-left (quarticFine m) (quinticFine m) tested
 
   three-is : a + b + e ≡ three m d
   three-is = λ j. ea j + eb j + ee j
 
-  pub quartic-gap : d ≡ 4 → a + b + e ≡ higherGap m d
-  quartic-gap f =
-      three-is ∙ ap (three m) f ∙ eqb→eq _ _ (and-left (eqb (three m 4) (gapOf m 4)) (eqb (three m 5 + gapAt m 5 3 1) (gapOf m 5)) tested)
-      ∙ ap (gapOf m) (sym f) ∙ sym (many-gap m d l)
+  pub quartic-gaps : d ≡ 4 → record { whole = a + b + e; outer = f; first = f; second = g } ≡ gapsOf m d
+  quartic-gaps q =
+      let whole : a + b + e ≡ gapOf m d = three-is ∙ ap (three m) q
+      ∙ eqb→eq _ _ (and-left (eqb (three m 4) (gapOf m 4)) (eqb (gapAt m 4 2 0) 0) quartic) ∙ ap (gapOf m) (sym q) in
+      let none : gapAt m d (d - 2) 0 ≡ 0 = ap (λ d. gapAt m d (d - 2) 0) q
+      ∙ eqb→eq _ _ (and-right (eqb (three m 4) (gapOf m 4)) (eqb (gapAt m 4 2 0) 0) quartic) in
+      let outer : f ≡ gapAt m d 0 0 + gapAt m d (d - 2) 0 = omega (arith, ef, none) in
+      (λ j. record { whole = whole j; outer = outer j; first = ef j; second = eg j }) ∙ sym (many-gaps m d l)
 
-  pub quintic-gap : {g : ℕ} → g ≡ gapAt m d 3 1 → d ≡ 5 → a + b + e + g ≡ higherGap m d
-  quintic-gap eg f =
-      ap₂ _+_ three-is eg ∙ ap (λ d. three m d + gapAt m d 3 1) f
-      ∙ eqb→eq _ _ (and-right (eqb (three m 4) (gapOf m 4)) (eqb (three m 5 + gapAt m 5 3 1) (gapOf m 5)) tested)
-      ∙ ap (gapOf m) (sym f) ∙ sym (many-gap m d l)
+  pub quintic-gaps : {x y : ℕ} → x ≡ gapAt m d 3 1 → y ≡ gapAt m d 3 0 → d ≡ 5
+      → record { whole = a + b + e + x; outer = f + y; first = f; second = g } ≡ gapsOf m d
+  quintic-gaps ex ey q =
+      let whole : a + b + e + _ ≡ gapOf m d = ap₂ _+_ three-is ex ∙ ap (λ d. three m d + gapAt m d 3 1) q
+      ∙ eqb→eq _ _ (and-right (quarticFine m) (quinticFine m) tested) ∙ ap (gapOf m) (sym q) in
+      let last : gapAt m d 3 0 ≡ gapAt m d (d - 2) 0 = ap (λ k. gapAt m d k 0) (omega (arith, q)) in
+      (λ j. record { whole = whole j; outer = ap₂ _+_ ef (ey ∙ last) j; first = ef j; second = eg j }) ∙ sym (many-gaps m d l)
+
+-- none is more than 7500
+abbrev smallFine : (m d : ℕ) → Bool
+smallFine m d = leb (gapOf m d) 7500
+    && (leb (gapAt m d 0 0 + gapAt m d (d - 2) 0) 7500 && (leb (gapAt m d 0 0) 7500 && leb (gapAt m d 1 0) 7500))
+
+small-tested : T (every-below 6 (λ n. every-below 2 (λ e. smallFine (suc (suc (suc n))) (suc (suc (suc (suc e)))))))
+unfolding table rowsOf gapOf largestOf
+small-tested = tt
+
+pub small-gaps : (m d : ℕ) → HasRows m → 3 ≤ m → 3 < d → d ≤ mostDegree → SmallGaps (gapsOf m d)
+small-gaps m d h l hd hm = subst SmallGaps (sym (many-gaps m d l)) (record {
+  whole = leb→le (gapOf m d) 7500 (and-left p (q && (r && s)) fine);
+  outer = leb→le (gapAt m d 0 0 + gapAt m d (d - 2) 0) 7500 (and-left q (r && s) (and-right p (q && (r && s)) fine));
+  first = leb→le (gapAt m d 0 0) 7500 (and-left r s (and-right q (r && s) (and-right p (q && (r && s)) fine)));
+  second = leb→le (gapAt m d 1 0) 7500 (and-right r s (and-right q (r && s) (and-right p (q && (r && s)) fine)));
+})
+  where
+    p : Bool
+    p = leb (gapOf m d) 7500
+
+    q : Bool
+    q = leb (gapAt m d 0 0 + gapAt m d (d - 2) 0) 7500
+
+    r : Bool
+    r = leb (gapAt m d 0 0) 7500
+
+    s : Bool
+    s = leb (gapAt m d 1 0) 7500
+
+    fine : T (smallFine m d)
+    fine = both-degrees (smallFine m) (many-tested (λ m. every-below 2 (λ e. smallFine m (suc (suc (suc (suc e)))))) small-tested m h l) d hd hm
 
 -- ---- 840 is a multiple of every number of pieces
 scale-tested : T (every-below 8 (λ n. eqb (840 / suc n * suc n) 840))

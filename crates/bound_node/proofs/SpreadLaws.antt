@@ -22,16 +22,14 @@ use Rattle.bound_rows.proofs.Degrees.{degrees}
 use Rattle.bound_rows.specs.Table.{table, rowsOf}
 use Rattle.bound_coordinate.specs.Inside.{Small, Computed}
 use Rattle.bound_coordinate.proofs.Coordinates.{stored-is}
-use Rattle.setting.specs.Setting.{HasRows, mostDegree}
+use Rattle.setting.specs.Setting.{HasRows}
 use Rattle.bound_rows.specs.Rule.{gapOf}
 use Rattle.bound_rows.proofs.Rule.{gap-most}
 use Rattle.bound_node.specs.declared.pieces.Pieces.{Pieces}
 use Rattle.bound_node.specs.Inside.{gapsSum, spreadOf, nearGap, farGap, cornerOf, sumsOf, exactOf}
-use Rattle.bound_node.specs.Inside.{higherGap, piecesBy, piecesOf}
+use Rattle.bound_node.specs.Inside.{gapsOf, piecesBy, piecesOf}
 use Rattle.bound_node.proofs.Apart.{up-most}
 use Rattle.bound_node.proofs.Corners.{pieces-tested}
-use Rattle.bound_node.proofs.Boxes.{many-takes}
-use Rattle.bound_node.proofs.PiecesLaws.{many-gap}
 
 pub same-size : {B r : ℕ} {z : ℤ} → r ≡ natAbs z → Small B z → (r ≡ natAbs z) × (r ≤ B)
 same-size e h = (e, rw e (h .size))
@@ -100,19 +98,13 @@ module _ {p : Pieces} (h : HasRows (p .m)) (e : p ≡ piecesOf (p .m)) where
   unfolding piecesOf piecesBy farGap exactOf
   exact-is = ap (λ q. q .exact) e
 
-  pub quartic-is : p .quartic ≡ higherGap (p .m) 4
+  pub quartic-is : p .quartic ≡ gapsOf (p .m) 4
   unfolding piecesOf piecesBy
   quartic-is = ap (λ q. q .quartic) e
 
-  pub quintic-is : p .quintic ≡ higherGap (p .m) 5
+  pub quintic-is : p .quintic ≡ gapsOf (p .m) 5
   unfolding piecesOf piecesBy
   quintic-is = ap (λ q. q .quintic) e
-
-  -- G of degrees 4 and 5, where so many pieces have it
-  pub higher-gap : {d g : ℕ} → 3 ≤ p .m → d ≤ mostDegree → g ≡ higherGap (p .m) d → (g ≡ gapOf (p .m) d) × (g ≤ 7500)
-  higher-gap {d} l hd eg =
-      let is = eg ∙ many-gap (p .m) d l in
-      (is, rw is (gap-most (p .m) d h hd (many-takes d (p .m) l)))
 
   pub single-under : p .single ≤ 7500
   single-under = rw single-is (gap-most (p .m) 2 h (lit≤ tt) refl)

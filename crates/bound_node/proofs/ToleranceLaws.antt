@@ -81,9 +81,9 @@ module _ {p : Pieces} {rows : List ℤ} (r : Ready p rows) {depth : ℕ} {c : Cu
     across-is i hi = ap₂ _+ℤ_ (side (c .x) ex i hi) (side (c .y) ey i hi)
 
   -- ---- degrees 4 and 5
-  module _ (many : 3 < c .degree) (l : 3 ≤ p .m) {x y : Higher} (ex : x ≡ higherOf (p .m) (c .degree) (c .x))
-      (ey : y ≡ higherOf (p .m) (c .degree) (c .y)) where
-    higher-side : {t : Higher} (cs : List ℤ) → t ≡ higherOf (p .m) (c .degree) cs → (i : ℕ) → i ≤ p .m
+  module _ (many : 3 < c .degree) (l : 3 ≤ p .m) {x y : Higher} (ex : x ≡ higherOf (p .m) (c .degree) (c .degree * depth) (c .x))
+      (ey : y ≡ higherOf (p .m) (c .degree) (c .degree * depth) (c .y)) where
+    higher-side : {t : Higher} (cs : List ℤ) → t ≡ higherOf (p .m) (c .degree) (c .degree * depth) cs → (i : ℕ) → i ≤ p .m
         → Across cs (squared (higherHigh (p .m) shift rows t i -ℤ higherLow (p .m) shift rows t i)) i
     higher-side cs e i hi =
         let takes = many-takes (c .degree) (p .m) l in

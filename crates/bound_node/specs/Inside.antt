@@ -18,6 +18,7 @@ use Rattle.bound_coordinate.specs.Terms.{lowBy, highBy}
 use Rattle.bound_coordinate.specs.declared.higher.Higher.{Higher}
 use Rattle.bound_coordinate.specs.Higher.{higherLow, higherHigh}
 use Rattle.bound_node.specs.declared.pieces.Pieces.{Pieces}
+use Rattle.bound_node.specs.declared.pieces.Gaps.{Gaps}
 use Rattle.bound_node.specs.declared.node_boxes.WideBox.{WideBox}
 
 -- every number of a box is at most B in size
@@ -84,13 +85,19 @@ sumsOf m d cs = gapsSum (nearCorner m d) 0 cs ∷ gapsSum (farCorner m d) 0 cs �
 unfoldable pub exactOf : (m d : ℕ) → Bool
 exactOf m d = cond (ltb d 3) true (eqb (gapAt m 3 1 (widestAt m)) (farGap m))
 
--- G of degree 4 or 5; 0 for fewer pieces than they take
-unfoldable pub higherGap : (m d : ℕ) → ℕ
-higherGap m d = cond (ltb m 3) 0 (gapOf m d)
+-- what goes with degree 4 or 5: G, the first and the last gap at break point 0 and their sum; 0 for fewer pieces than
+-- they take
+unfoldable pub gapsOf : (m d : ℕ) → Gaps
+gapsOf m d = cond (ltb m 3) (record { «whole» = 0; «outer» = 0; «first» = 0; «second» = 0 }) (record {
+  «whole» = gapOf m d;
+  «outer» = gapAt m d 0 0 + gapAt m d (d - 2) 0;
+  «first» = gapAt m d 0 0;
+  «second» = gapAt m d 1 0;
+})
 
 -- what goes with the number of pieces: near and other are the gaps of degree 3 at the break point where the first is
 -- the largest, both is G
-unfoldable pub piecesBy : (m single near other both quartic quintic : ℕ) → Pieces
+unfoldable pub piecesBy : (m single near other both : ℕ) → (quartic quintic : Gaps) → Pieces
 piecesBy m single near other both quartic quintic = record {
   «m» = m;
   «scale» = 840 / m;
@@ -104,7 +111,7 @@ piecesBy m single near other both quartic quintic = record {
 
 unfoldable pub piecesOf : ℕ → Pieces
 piecesOf m =
-    piecesBy m (gapOf m 2) (nearGap m) (gapAt m 3 1 (widestAt m)) (gapOf m 3) (higherGap m 4) (higherGap m 5)
+    piecesBy m (gapOf m 2) (nearGap m) (gapAt m 3 1 (widestAt m)) (gapOf m 3) (gapsOf m 4) (gapsOf m 5)
 
 -- what goes with m pieces, and their rows, copied out of the table
 pub record Ready (p : Pieces) (rows : List ℤ) : Type 0 where

@@ -1,16 +1,17 @@
-// The test that a node of degree 4 or 5 meets the tolerance.
+// The test that a node of degree 4 or 5 meets the tolerance: what the gaps tell, and the boxes.
 ghost use mathlib.Core.Path.{_≡_};
-ghost use Prim.Native.Nat.{_≤_, _<_, _-_, _*_, _^_};
-ghost use lib.IntN.{pos};
+ghost use mathlib.Core.Bool.{not};
+ghost use Prim.Native.Nat.{_≤_, _<_, _^_};
 ghost use lib.Signed.{ltZ};
 ghost use Rattle.setting.specs.Setting.{HasRows, lists};
 ghost use Rattle.curve_nodes.specs.Bounds.{Sized};
-ghost use Rattle.curve_nodes.specs.Differences.{bend};
-ghost use Rattle.bound_rows.specs.Rule.{gapOf};
-ghost use Rattle.bound_coordinate.specs.Inside.{HigherBoundable, Small, Computed};
+ghost use Rattle.bound_coordinate.specs.Inside.{HigherBoundable, Small};
 ghost use Rattle.bound_coordinate.specs.Higher.{HigherComputable};
-ghost use Rattle.bound_node.specs.Inside.{spreadOf, piecesOf, Ready, higherAcrossBy};
+ghost use Rattle.bound_node.specs.Inside.{piecesOf, gapsOf, Ready, higherAcrossBy};
+ghost use Rattle.bound_node.specs.Told.{sizesOf, mostOf, endOf, acrossAbove, acrossOf};
+ghost use Rattle.bound_node.specs.Told.{SmallGaps, SmallSizes, Spread, SpreadAt, Told};
 ghost use Rattle.bound_node.specs.Boxes.{meets};
+use crate::pieces::Gaps;
 use crate::pieces::Pieces;
 use crate::pieces::larger;
 use crate::spread::size;
@@ -46,7 +47,7 @@ fn is_wide(
 }
 
 // The boxes at all break points are narrow.
-fn boxes_meet(rows: &[i64], pieces: Pieces, curve: Curve, depth: u32, t: i64) -> bool
+pub fn boxes_meet(rows: &[i64], pieces: Pieces, curve: Curve, depth: u32, t: i64) -> bool
     requires { ⌜ (Ready pieces (now rows)) × (3 ≤ pieces .m) × (Sized depth curve) × (3 < curve .degree) × (depth ≤ 4)
         × (Small (2 ^ 27) t) ⌝ }
     ensures { λ r. ⌜ r ≡ meets (lists (pieces .m)) t depth curve ⌝ }
@@ -58,8 +59,8 @@ fn boxes_meet(rows: &[i64], pieces: Pieces, curve: Curve, depth: u32, t: i64) ->
     let ys = curve.y;
     let shift = degree * depth;
     let square = t * t;
-    let x = higher_of(xs, degree, m);
-    let y = higher_of(ys, degree, m);
+    let x = higher_of(xs, degree, shift, m);
+    let y = higher_of(ys, degree, shift, m);
     let mut i: usize = 0;
     while i <= m {
         if is_wide(rows, x, y, shift, scale, m, i, square) {
@@ -70,24 +71,25 @@ fn boxes_meet(rows: &[i64], pieces: Pieces, curve: Curve, depth: u32, t: i64) ->
     true
 }
 
-// The largest size of the second differences of a coordinate.
-fn largest(c: [i64; 6], degree: u32) -> u64
+// The sizes of the second differences of a coordinate: the first two and the last two. At degree 4 the one in the
+// middle stands twice.
+fn sizes_of(c: [i64; 6], degree: u32) -> [u64; 4]
     requires { ⌜ HigherBoundable c degree ⌝ }
-    ensures { λ r. ⌜ (r ≡ bend degree c) × (r ≤ 2 ^ 46) ⌝ }
+    ensures { λ r. ⌜ r ≡ sizesOf degree c ⌝ }
 {
-    let first = larger(size(difference_at(c, 0)), size(difference_at(c, 1)));
-    let three = larger(first, size(difference_at(c, 2)));
+    let a = size(difference_at(c, 0));
+    let b = size(difference_at(c, 1));
+    let d = size(difference_at(c, 2));
     if degree < 5 {
-        return three;
+        return [a, b, b, d];
     }
-    larger(three, size(difference_at(c, 3)))
+    [a, b, d, size(difference_at(c, 3))]
 }
 
-// G of the degree.
-fn gap_for(pieces: Pieces, degree: u32) -> u64
-    requires { ⌜ (HasRows (pieces .m)) × (pieces ≡ piecesOf (pieces .m)) × (3 ≤ pieces .m) × (4 ≤ degree)
-        × (degree ≤ 5) ⌝ }
-    ensures { λ r. ⌜ (r ≡ gapOf (pieces .m) degree) × (r ≤ 7500) ⌝ }
+// The gaps of the degree.
+fn gaps_for(pieces: Pieces, degree: u32) -> Gaps
+    requires { ⌜ (HasRows (pieces .m)) × (pieces ≡ piecesOf (pieces .m)) × (4 ≤ degree) × (degree ≤ 5) ⌝ }
+    ensures { λ r. ⌜ r ≡ gapsOf (pieces .m) degree ⌝ }
 {
     if degree < 5 {
         pieces.quartic
@@ -96,40 +98,78 @@ fn gap_for(pieces: Pieces, degree: u32) -> u64
     }
 }
 
-// A gap times the largest second difference of a coordinate, in sixteenths, rounded up; `more` is one less than the
-// denominator.
-fn spread_of(gap: u64, c: [i64; 6], degree: u32, more: u64, shift: u32) -> i64
-    requires { ⌜ (gap ≤ 7500) × (HigherBoundable c degree) × (gap * bend degree c ≤ 2 ^ 36 * 2 ^ shift)
-        × (more ≡ 625 * 2 ^ shift - 1) × (shift ≤ 24) ⌝ }
-    ensures { λ r. ⌜ Computed (2 ^ 27) (pos (spreadOf (gap * bend degree c) shift)) r ⌝ }
+// No low and high of a coordinate are further apart before rounding.
+fn most(gaps: Gaps, sizes: [u64; 4]) -> u64
+    requires { ⌜ (SmallGaps gaps) × (SmallSizes sizes) ⌝ }
+    ensures { λ r. ⌜ r ≡ mostOf gaps sizes ⌝ }
 {
-    whole(gap * largest(c, degree), more, shift)
+    let outer = larger(sizes[0], sizes[3]);
+    let inner = larger(sizes[1], sizes[2]);
+    let beyond = if inner < outer { outer - inner } else { 0 };
+    gaps.whole * inner + gaps.outer * beyond
 }
 
-// The node meets the tolerance: its boxes at all break points are narrow. G times the largest second difference
-// decides most nodes that do: rounded up and one more, no box is wider.
-pub fn meets(rows: &[i64], pieces: Pieces, curve: Curve, depth: u32, t: i64) -> bool
-    requires { ⌜ (Ready pieces (now rows)) × (3 ≤ pieces .m) × (Sized depth curve) × (3 < curve .degree)
-        × (depth ≤ 4) ⌝ }
-    ensures { λ r. ⌜ r ≡ meets (lists (pieces .m)) t depth curve ⌝ }
+// The boxes at all break points are narrow: rounded up and one more, no box is wider.
+fn is_narrow(gaps: Gaps, x: [u64; 4], y: [u64; 4], shift: u32, square: i64) -> bool
+    requires { ⌜ (Spread gaps shift x) × (Spread gaps shift y) ⌝ }
+    ensures { λ r. ⌜ r ≡ not (ltZ square (acrossAbove (mostOf gaps x) (mostOf gaps y) shift)) ⌝ }
+{
+    let more = (625u64 << shift) - 1;
+    let width = whole(most(gaps, x), more, shift);
+    let height = whole(most(gaps, y), more, shift);
+    !is_longer(width + 1, height + 1, square)
+}
+
+// The box at an end is wide, by the two differences there.
+fn is_wide_at(gaps: Gaps, x: [u64; 2], y: [u64; 2], shift: u32, square: i64) -> bool
+    requires { ⌜ (SpreadAt gaps shift x) × (SpreadAt gaps shift y) ⌝ }
+    ensures { λ r. ⌜ r ≡ ltZ square (acrossOf (endOf gaps x) (endOf gaps y) shift) ⌝ }
+{
+    let more = (625u64 << shift) - 1;
+    let first = gaps.first;
+    let second = gaps.second;
+    let width = whole(first * x[0] + second * x[1], more, shift);
+    let height = whole(first * y[0] + second * y[1], more, shift);
+    is_longer(width, height, square)
+}
+
+// What the gaps tell of a node.
+pub enum Verdict {
+    Narrow,
+    Wide,
+    Open,
+}
+
+// Whether a node meets the tolerance, as far as the gaps tell: by the most that its lows and highs can be apart, and
+// by how far they are apart at its two ends. A tolerance beyond 2^27 is longer than every diagonal, and so no square
+// wraps.
+pub fn verdict_of(pieces: Pieces, curve: Curve, depth: u32, t: i64) -> Verdict
+    requires { ⌜ (HasRows (pieces .m)) × (pieces ≡ piecesOf (pieces .m)) × (3 ≤ pieces .m) × (Sized depth curve)
+        × (3 < curve .degree) × (depth ≤ 4) ⌝ }
+    ensures { λ r. ⌜ Told (lists (pieces .m)) t depth curve r ⌝ }
 {
     if t < -134217728 {
-        return true;
+        return Verdict::Narrow;
     }
     if 134217728 < t {
-        return true;
+        return Verdict::Narrow;
     }
     let degree = curve.degree;
-    let xs = curve.x;
-    let ys = curve.y;
-    let gap = gap_for(pieces, degree);
+    let gaps = gaps_for(pieces, degree);
     let square = t * t;
     let shift = degree * depth;
-    let more = (625u64 << shift) - 1;
-    let width = spread_of(gap, xs, degree, more, shift);
-    let height = spread_of(gap, ys, degree, more, shift);
-    if !is_longer(width + 1, height + 1, square) {
-        return true;
+    let xs = curve.x;
+    let ys = curve.y;
+    let x = sizes_of(xs, degree);
+    let y = sizes_of(ys, degree);
+    if is_narrow(gaps, x, y, shift, square) {
+        return Verdict::Narrow;
     }
-    boxes_meet(rows, pieces, curve, depth, t)
+    if is_wide_at(gaps, [x[0], x[1]], [y[0], y[1]], shift, square) {
+        return Verdict::Wide;
+    }
+    if is_wide_at(gaps, [x[3], x[2]], [y[3], y[2]], shift, square) {
+        return Verdict::Wide;
+    }
+    Verdict::Open
 }

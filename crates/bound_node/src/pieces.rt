@@ -4,10 +4,10 @@ ghost use mathlib.Core.Bool.{true};
 ghost use Prim.Native.Nat.{_≤_, _<_, _-_, _+_, _*_, max};
 ghost use Rattle.setting.specs.Setting.{HasRows, degreePieces};
 ghost use Rattle.bound_rows.specs.Inside.{placeOf, Copied};
-ghost use Rattle.bound_node.specs.Inside.{gapAt, higherGap, piecesBy, piecesOf};
+ghost use Rattle.bound_node.specs.Inside.{gapAt, gapsOf, piecesBy, piecesOf};
 
 // The number of pieces, 840 over it, the largest gap of degree 2, the corner of degree 3, whether its gaps are those of
-// a break point, and G of degrees 4 and 5.
+// a break point, and the gaps of degrees 4 and 5.
 pub struct Pieces {
     pub m: usize,
     pub scale: usize,
@@ -15,8 +15,17 @@ pub struct Pieces {
     pub near: u64,
     pub far: u64,
     pub exact: bool,
-    pub quartic: u64,
-    pub quintic: u64,
+    pub quartic: Gaps,
+    pub quintic: Gaps,
+}
+
+// The gaps of degree 4 or 5: G; the largest sum of the first and the last at a break point; and the first and the
+// second at break point 0.
+pub struct Gaps {
+    pub whole: u64,
+    pub outer: u64,
+    pub first: u64,
+    pub second: u64,
 }
 
 // Where the rows of second difference k of a degree begin among the copied rows.
@@ -56,33 +65,50 @@ pub fn larger(a: u64, b: u64) -> u64
     if a < b { b } else { a }
 }
 
-// G of degree 4 or 5, which stands at break point 1; 0 for fewer pieces than they take.
-fn gap_of(rows: &[i64], m: usize, degree: u32) -> u64
+// The gaps of degree 4 or 5, which stand at the break points 0 and 1; 0 for fewer pieces than they take.
+fn gaps_of(rows: &[i64], m: usize, degree: u32) -> Gaps
     requires { ⌜ (HasRows m) × (Copied m (now rows)) × (4 ≤ degree) × (degree ≤ 5) ⌝ }
-    ensures { λ r. ⌜ r ≡ higherGap m degree ⌝ }
+    ensures { λ r. ⌜ r ≡ gapsOf m degree ⌝ }
 {
     if m < 3 {
-        return 0;
+        return Gaps {
+            whole: 0,
+            outer: 0,
+            first: 0,
+            second: 0,
+        };
     }
     let three = gap_at(rows, m, degree, 0, 1)
         + gap_at(rows, m, degree, 1, 1)
         + gap_at(rows, m, degree, 2, 1);
+    let first = gap_at(rows, m, degree, 0, 0);
+    let second = gap_at(rows, m, degree, 1, 0);
     if degree < 5 {
-        return three;
+        return Gaps {
+            whole: three,
+            outer: first,
+            first,
+            second,
+        };
     }
-    three + gap_at(rows, m, degree, 3, 1)
+    Gaps {
+        whole: three + gap_at(rows, m, degree, 3, 1),
+        outer: first + gap_at(rows, m, degree, 3, 0),
+        first,
+        second,
+    }
 }
 
-// The whole, from the gaps at the break point where the first is the largest, the largest sum, and G of degrees 4 and
-// 5.
+// The whole, from the gaps at the break point where the first is the largest, the largest sum, and those of degrees 4
+// and 5.
 fn pieces_by(
     m: usize,
     single: u64,
     near: u64,
     other: u64,
     both: u64,
-    quartic: u64,
-    quintic: u64,
+    quartic: Gaps,
+    quintic: Gaps,
 ) -> Pieces
     requires { ⌜ (1 ≤ m) × (near ≤ both) ⌝ }
     ensures { λ r. ⌜ r ≡ piecesBy m single near other both quartic quintic ⌝ }
@@ -110,8 +136,8 @@ pub fn pieces_of(rows: &[i64], m: usize) -> Pieces
     let b0 = gap_at(rows, m, 3, 1, 0);
     let b1 = gap_at(rows, m, 3, 1, 1);
     let single = gap_at(rows, m, 2, 0, 1);
-    let quartic = gap_of(rows, m, 4);
-    let quintic = gap_of(rows, m, 5);
+    let quartic = gaps_of(rows, m, 4);
+    let quintic = gaps_of(rows, m, 5);
     let both = larger(a0 + b0, a1 + b1);
     if a0 < a1 {
         pieces_by(m, single, a1, b1, both, quartic, quintic)

@@ -13,11 +13,12 @@ use refusals::Refusal;
 
 // Check 4: the first index from `from` up to `end` of a number that is no coordinate.
 fn first_beyond(ns: &[i32], from: usize, end: usize) -> Found
-    requires { ⌜ end ≤ length (now ns) ⌝ }
+    requires { ⌜ (from ≤ end) × (end ≤ length (now ns)) ⌝ }
     ensures { λ r. ⌜ r ≡ foundOf (firstBeyond (now (ns .entry)) (end - from) from) ⌝ }
 {
     let mut i = from;
-    while i < end {
+    let mut left = end - from;
+    while 0 < left {
         let z = ns[i];
         if z < -1048576 {
             return Found::At(i);
@@ -26,6 +27,7 @@ fn first_beyond(ns: &[i32], from: usize, end: usize) -> Found
             return Found::At(i);
         }
         i += 1;
+        left -= 1;
     }
     Found::Nowhere
 }

@@ -1,16 +1,15 @@
 -- Where a walk stands, a part of a curve: the curve itself, the left half of a part, the part after one, and what the walk asks of a part.
 use mathlib.Core.Path.{_≡_, refl, sym, _∙_, ap, ap₂}
 use mathlib.Core.Logic.{⊎-elim}
-use mathlib.Core.Bool.{Bool, true}
+use mathlib.Core.Bool.{Bool, true, false}
 use Prim.Native.Nat.{ℕ, suc, _+_, _*_, _^_, _≤_, _<_}
 use native.Mathlib.Nat.{div-le-self, pow-suc}
 use native.Mathlib.Omega.{arith}
 use lib.Pow.{pow-pos}
 use lib.Count.{trailingZeros}
 use lib.IntN.{ℤ}
-use Rattle.setting.specs.Setting.{Setting, degreePieces, deepest, greatestNode}
+use Rattle.setting.specs.Setting.{Setting, deepest, greatestNode}
 use Rattle.setting.proofs.Depths.{deepest-low, deepest-high, deepest-few}
-use Rattle.setting.proofs.Pieces.{degree-takes}
 use Rattle.curve_nodes.specs.declared.Curve.{Curve}
 use Rattle.curve_nodes.specs.Inside.{onwardOf, Halvable}
 use Rattle.curve_nodes.specs.Halves.{leftHalf}
@@ -21,6 +20,9 @@ use Rattle.curve_nodes.proofs.Coordinates.{node-degree}
 use Rattle.curve_nodes.proofs.Sizes.{node-sized, node-halvable}
 use Rattle.curve_nodes.proofs.Onward.{NextStretch, next-stretch, few-zeros, node-onward}
 use Rattle.bound_node.specs.Boxes.{meets}
+use Rattle.bound_node.specs.declared.higher.Verdict.{Verdict}
+use Rattle.bound_node.specs.declared.higher.Verdict.the-variants.{Narrow, Wide}
+use Rattle.bound_node.specs.Told.{Told}
 use Rattle.walk_curve.specs.declared.Part.{Part}
 use Rattle.walk_curve.specs.Inside.{PartOf, Standing, leftPart, AfterOf}
 use Rattle.walk_curve.specs.Walked.{nodeMeets}
@@ -54,21 +56,25 @@ module _ {root : Curve} {p : Part} (h : PartOf root p) where
   pub part-halvable : Halvable (p .curve)
   part-halvable = rw (h .is) (node-halvable (h .sized) (p .node) (h .some) (h .deep))
 
+  -- what the test of degrees 1 to 3 asks of it, and what that of degrees 4 and 5
+  pub part-low : root .degree ≤ 3 → Sized (depth (p .node)) (p .curve) × (p .curve .degree ≤ 3) × (depth (p .node) ≤ 8)
+  part-low l = (part-sized, rw part-degree l, rw (part-degree, deepest-low (root .degree) l) at part-shallow)
+
+  pub part-high : 3 < root .degree → Sized (depth (p .node)) (p .curve) × (3 < p .curve .degree) × (depth (p .node) ≤ 4)
+  part-high l = (part-sized, rw part-degree l, rw (part-degree, deepest-high (root .degree) l) at part-shallow)
+
   -- the test of a part, at the depth that the code computed, is the test of its node
-  pub part-meets : (σ : Setting) (T : ℤ) {k : ℕ} {c : Curve} {r : Bool} → k ≡ depth (p .node) → c ≡ p .curve → r ≡ meets σ T k c
-      → r ≡ nodeMeets σ T root (p .node)
-  part-meets σ T e f g = g ∙ ap₂ (λ k c. meets σ T k c) e (f ∙ h .is)
+  module _ (σ : Setting) (T : ℤ) {k : ℕ} (e : k ≡ depth (p .node)) {r : Bool} where
+    pub part-meets : r ≡ meets σ T k (p .curve) → r ≡ nodeMeets σ T root (p .node)
+    part-meets f = f ∙ ap₂ (meets σ T) e (h .is)
 
-  -- what the test of degrees 1 to 3 asks of it
-  pub part-low : p .curve .degree ≤ 3 → depth (p .node) ≤ 8
-  part-low l = rw (deepest-low (p .curve .degree) l) at part-shallow
+    -- where the verdict told it
+    module _ {v : Verdict} (t : Told σ T k (p .curve) v) where
+      pub part-narrow : v ≡ Narrow → r ≡ true → r ≡ nodeMeets σ T root (p .node)
+      part-narrow f g = part-meets (g ∙ sym (rw f at t))
 
-  -- what the test of degrees 4 and 5 asks of it
-  pub part-high : 3 < p .curve .degree → depth (p .node) ≤ 4
-  part-high l = rw (deepest-high (p .curve .degree) l) at part-shallow
-
-  pub part-pieces : {m : ℕ} → degreePieces (root .degree) m ≡ true → 3 < p .curve .degree → 3 ≤ m
-  part-pieces {m} e l = degree-takes (root .degree) m .0 e (rw part-degree at l)
+      pub part-wide : v ≡ Wide → r ≡ false → r ≡ nodeMeets σ T root (p .node)
+      part-wide f g = part-meets (g ∙ sym (rw f at t))
 
   pub part-left : p .node < 2 ^ deepest (root .degree) → PartOf root (leftPart p)
   part-left l = let n = p .node in record {

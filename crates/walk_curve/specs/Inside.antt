@@ -2,7 +2,7 @@
 -- of a curve finds. A part of a curve is one of its nodes, with the node's own curve.
 use mathlib.Core.Path.{_≡_}
 use mathlib.Core.Option.{none, some}
-use Prim.Native.Nat.{ℕ, suc, _*_, _^_, _<_}
+use Prim.Native.Nat.{suc, _*_, _^_, _<_}
 use lib.ListN.{length}
 use lib.IntN.{ℤ}
 use Rattle.setting.specs.Setting.{Setting, deepest}

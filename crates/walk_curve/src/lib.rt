@@ -1,11 +1,12 @@
 // The walk of a curve in parameter order, from its root on: where it stands, its steps, and a curve walked.
 ghost use mathlib.Core.Path.{_≡_};
 ghost use mathlib.Core.Bool.{true};
-ghost use Prim.Native.Nat.{_<_, _^_};
+ghost use Prim.Native.Nat.{_≤_, _<_, _^_};
 ghost use Rattle.setting.specs.Setting.{lists, deepest, degreePieces};
 ghost use Rattle.curve_nodes.specs.Bounds.{Sized};
 ghost use Rattle.bound_node.specs.Inside.{Ready};
 ghost use Rattle.walk_curve.specs.Inside.{Standing, leftPart, AfterOf, walkedOf};
+use bound_node::higher::Verdict;
 use bound_node::pieces::Pieces;
 use curve_nodes::Curve;
 
@@ -52,28 +53,58 @@ pub enum Walked {
     WideNode(u32),
 }
 
-// The first node at the last depth of a degree.
-pub fn first_deepest(degree: u32) -> u32
-    ensures { λ r. ⌜ r ≡ 2 ^ deepest degree ⌝ }
-{
-    if degree <= 3 { 256 } else { 16 }
-}
-
 // The leaves of a curve, counted. The rows lent are those of the number of pieces.
 pub fn walk(rows: &[i64], pieces: Pieces, curve: Curve, t: i64) -> Walked
     requires { ⌜ (Ready pieces (now rows)) × (Sized 0 curve) × (degreePieces (curve .degree) (pieces .m) ≡ true) ⌝ }
     ensures { λ r. ⌜ r ≡ walkedOf (lists (pieces .m)) t curve ⌝ }
 {
-    let last = first_deepest(curve.degree);
+    if 3 < curve.degree {
+        walk_higher(rows, pieces, curve, t)
+    } else {
+        walk_low(rows, pieces, curve, t)
+    }
+}
+
+// Those of degree 1 to 3.
+fn walk_low(rows: &[i64], pieces: Pieces, curve: Curve, t: i64) -> Walked
+    requires { ⌜ (Ready pieces (now rows)) × (Sized 0 curve) × (curve .degree ≤ 3) ⌝ }
+    ensures { λ r. ⌜ r ≡ walkedOf (lists (pieces .m)) t curve ⌝ }
+{
     let mut part = Part { node: 1, curve };
     let mut leaves: usize = 0;
     loop {
         let node = part.node;
         let own = part.curve;
-        let met = if own.degree < 4 {
-            bound_node::tolerance::meets(rows, pieces, own, curve_nodes::depth(node), t)
+        if bound_node::tolerance::meets(rows, pieces, own, curve_nodes::depth(node), t) {
+            leaves += 1;
+            part = part.after();
+            if part.node == 1 {
+                return Walked::Leaves(leaves);
+            }
         } else {
-            bound_node::higher::meets(rows, pieces, own.same(), curve_nodes::depth(node), t)
+            if 256 <= node {
+                return Walked::WideNode(node);
+            }
+            part = part.left();
+        }
+    }
+}
+
+// Those of degree 4 and 5.
+fn walk_higher(rows: &[i64], pieces: Pieces, curve: Curve, t: i64) -> Walked
+    requires { ⌜ (Ready pieces (now rows)) × (Sized 0 curve) × (3 < curve .degree) × (3 ≤ pieces .m) ⌝ }
+    ensures { λ r. ⌜ r ≡ walkedOf (lists (pieces .m)) t curve ⌝ }
+{
+    let mut part = Part { node: 1, curve };
+    let mut leaves: usize = 0;
+    loop {
+        let node = part.node;
+        let own = part.curve;
+        let depth = curve_nodes::depth(node);
+        let met = match bound_node::higher::verdict_of(pieces, own, depth, t) {
+            Verdict::Narrow => true,
+            Verdict::Wide => false,
+            Verdict::Open => bound_node::higher::boxes_meet(rows, pieces, own.same(), depth, t),
         };
         if met {
             leaves += 1;
@@ -82,7 +113,7 @@ pub fn walk(rows: &[i64], pieces: Pieces, curve: Curve, t: i64) -> Walked
                 return Walked::Leaves(leaves);
             }
         } else {
-            if last <= node {
+            if 16 <= node {
                 return Walked::WideNode(node);
             }
             part = part.left();

@@ -16,11 +16,7 @@ numerator-requires c κs =
     (record { m = s .args .m; s = s .args .shift; c = s .args .scale; computable = h; point = s .pre .1 }, omega arith, omega arith)
 
 sub-more : tie.Need-sub-more
-sub-more c =
-    let s = c .before .before .before in
-    let a = s .args in
-    let t = a .t in
-    less-fits (dividend (a .rows .now) (t .row0 + 3 * a .i) (t .row1 + 3 * a .i) (s .pre .0) (s .pre .1) (omega arith) (omega arith)) (c .numerator .ensures)
+sub-more c = let h = c .before .before .before .pre .0 in less-fits (h .most) (h .shallow)
 
 add-rounded-down : tie.Need-add-rounded-down
 add-rounded-down c =

@@ -2,22 +2,20 @@
 use Prim.Native.Nat.{_+_, _*_}
 use borrow.Author.Needs.{needs}
 use Rattle.bound_coordinate.specs.Higher.{higherLow}
-use Rattle.bound_coordinate.proofs.Numerators.{higher-dividend, low-size, low-computed}
+use Rattle.bound_coordinate.proofs.Numerators.{higher-dividend, higher-low-raised, higher-low-computed}
 use Rattle.bound_coordinate.proofs.higher.low_at.Statement.{statement}
 use Rattle.bound_coordinate.proofs.higher.low_at.Tie as tie
 
 rounded-down-requires : tie.Need-rounded-down-requires
 rounded-down-requires c κs =
     let s = c .before in
-    let h = s .pre .0 in
-    let d = higher-dividend (s .args .rows .now) (3 * s .args .i + 1) h (s .pre .1) in
-    (low-size d (c .numerator .ensures), d .shallow, h .scaled, h .most)
+    higher-low-raised (higher-dividend (s .args .rows .now) (3 * s .args .i + 1) (s .pre .0) (s .pre .1)) (c .numerator .ensures)
 
 returns : tie.Need-returns
 unfolding higherLow
 returns c =
     let s = c .before .before in
-    low-computed (higher-dividend (s .args .rows .now) (3 * s .args .i + 1) (s .pre .0) (s .pre .1))
+    higher-low-computed (higher-dividend (s .args .rows .now) (3 * s .args .i + 1) (s .pre .0) (s .pre .1))
     (c .before .numerator .ensures) (c .rounded-down .ensures)
 
 pub low-at-spec : {M : Type 1} → statement M

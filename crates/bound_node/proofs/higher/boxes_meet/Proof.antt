@@ -36,10 +36,10 @@ mul-square : tie.Need-mul-square Inv-loop μ-loop
 mul-square c = fits! (search (c .before .before .pre .5, bounded) depth 40) tt
 
 higher-of-requires : tie.Need-higher-of-requires Inv-loop μ-loop
-higher-of-requires c κs = let p = c .before .before .pre in (higher-boundable-x (p .2) (p .3) (p .4), p .0 .has .most)
+higher-of-requires c κs = let p = c .before .before .pre in (higher-boundable-x (p .2) (p .3) (p .4), p .0 .has .most, mul-le-mul (p .2 .most) (p .4))
 
 higher-of-requires-2 : tie.Need-higher-of-requires-2 Inv-loop μ-loop
-higher-of-requires-2 c κs = let p = c .before .before .before .pre in (higher-boundable-y (p .2) (p .3) (p .4), p .0 .has .most)
+higher-of-requires-2 c κs = let p = c .before .before .before .pre in (higher-boundable-y (p .2) (p .3) (p .4), p .0 .has .most, mul-le-mul (p .2 .most) (p .4))
 
 loop-holds : tie.Need-loop-holds Inv-loop μ-loop
 loop-holds c = (omega arith, λ j l. absurd (not-suc-le-zero l))

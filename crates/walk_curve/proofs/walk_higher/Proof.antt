@@ -1,0 +1,125 @@
+-- The walk of a curve of degree 4 or 5. The loop's invariant: the walk stands at this part of the curve, with as many leaves passed as were
+-- counted. The measure is the part's rank.
+use mathlib.Core.Path.{_≡_, sym, _∙_, ap}
+use mathlib.Core.Logic.{⊎-elim}
+use Prim.Native.Nat.{_^_, _<_}
+use native.Mathlib.Omega.{arith}
+use borrow.Author.Needs.{needs}
+use mir.Syntax.{w64}
+use mir.Val.{toZ}
+use mir.Facts.{toZ-ofZ}
+use Rattle.integers.proofs.Ranges.{stored}
+use Rattle.setting.specs.Setting.{lists, deepest}
+use Rattle.setting.proofs.Depths.{deepest-high}
+use Rattle.bound_node.specs.Boxes.{meets}
+use Rattle.walk_curve.specs.Walked.{nodeMeets}
+use Rattle.walk_curve.proofs.Parts.{part-degree, part-high, part-halvable, part-meets, part-narrow, part-wide}
+use Rattle.walk_curve.proofs.Walks.{partRank, left-falls, after-falls}
+use Rattle.walk_curve.proofs.Counts.{Counted, counted-start, counted-few, counted-left, counted-failed, counted-after, counted-done}
+use Rattle.walk_curve.proofs.walk_higher.Statement.{statement}
+use Rattle.walk_curve.proofs.walk_higher.Tie as tie
+
+abbrev Inv-loop : tie.InvT-loop
+Inv-loop rows pieces t part₀ leaves₀ part leaves = Counted (lists (pieces .m)) (toZ w64 t) (part₀ .curve) part leaves
+
+abbrev μ-loop : tie.MeasureT-loop
+μ-loop rows pieces t part₀ leaves₀ part leaves = partRank (part₀ .curve) part
+
+loop-holds : tie.Need-loop-holds Inv-loop μ-loop
+loop-holds c = counted-start (c .pre .1)
+
+-- ---- the test of the node
+depth-requires : tie.Need-depth-requires Inv-loop μ-loop
+depth-requires c κs = c .before .loop .inv .walk .of .some
+
+verdict-of-requires : tie.Need-verdict-of-requires Inv-loop μ-loop
+verdict-of-requires c κs =
+    let l = c .before .before in
+    let h = l .before .pre in
+    let p = part-high (l .loop .inv .walk .of) (h .2) in
+    rw (c .depth .ensures) (h .0 .has, h .0 .is, h .3, p .0, p .1, p .2)
+
+same-requires : tie.Need-same-requires Inv-loop μ-loop
+same-requires c κs = part-halvable (c .before .before .before .before .before .loop .inv .walk .of)
+
+boxes-meet-requires : tie.Need-boxes-meet-requires Inv-loop μ-loop
+boxes-meet-requires c κs =
+    let e = c .before in
+    let v = e .before .before in
+    let l = v .before .before .before in
+    let h = l .before .pre in
+    let p = part-high (l .loop .inv .walk .of) (h .2) in
+    rw (v .before .depth .ensures, c .same .ensures) (h .0, h .3, p .0, p .1, p .2, rw (e .enum-told3 .given .1) at (v .verdict-of .ensures))
+
+met : (c : tie.At-match-came Inv-loop μ-loop)
+    → let l = c .before .before .before .before in
+    let a = l .before .args in
+    c .match .met ≡ nodeMeets (lists (a .pieces .m)) (stored w64 (a .t)) (a .curve) (l .loop .part .node)
+met c =
+    let v = c .before in
+    let l = v .before .before .before in
+    let a = l .before .args in
+    let p = l .loop .inv .walk .of in
+    let e = v .before .depth .ensures in
+    ⊎-elim
+    (λ w. part-narrow p _ (stored w64 (a .t)) e (v .verdict-of .ensures) (w .1 .given .1) (w .2))
+    (⊎-elim
+    (λ w. part-wide p _ (stored w64 (a .t)) e (v .verdict-of .ensures) (w .1 .given .1) (w .2))
+    (λ w. part-meets p (lists (a .pieces .m)) (stored w64 (a .t)) e (w .4 ∙ w .3 .ensures ∙ ap (meets _ _ _) (w .2 .ensures))))
+    (c .match .came)
+
+-- ---- a leaf
+add-leaves : tie.Need-add-leaves Inv-loop μ-loop
+add-leaves c = omega (arith, counted-few (c .before .before .before .before .before .loop .inv))
+
+after-requires : tie.Need-after-requires Inv-loop μ-loop
+after-requires c κs = (_, c .before .before .before .before .before .loop .inv .walk .of)
+
+returns : tie.Need-returns Inv-loop μ-loop
+returns c =
+    let a = c .before .before in
+    let i = a .before in
+    let l = i .before .before .before .before .before in
+    rw (toZ-ofZ (l .before .fits .t)) at (sym (counted-done (l .loop .inv) (sym (met (i .before)) ∙ i .if1 .taken) (a .after .ensures) (c .if2 .taken)))
+
+loop-less : tie.Need-loop-less Inv-loop μ-loop
+loop-less c =
+    let a = c .before .before in
+    after-falls (a .before .before .before .before .before .before .loop .inv .walk) (a .after .ensures) (c .if2 .left)
+
+loop-again : tie.Need-loop-again Inv-loop μ-loop
+loop-again c =
+    let a = c .before .before in
+    let i = a .before in
+    counted-after (i .before .before .before .before .before .loop .inv) (sym (met (i .before)) ∙ i .if1 .taken) (a .after .ensures) (c .if2 .left)
+
+-- ---- a node that does not pass
+returns-2 : tie.Need-returns-2 Inv-loop μ-loop
+returns-2 c =
+    let i = c .before in
+    let l = i .before .before .before .before .before in
+    rw (toZ-ofZ (l .before .fits .t)) at
+    (sym (counted-failed (l .loop .inv) (sym (met (i .before)) ∙ i .if1 .left) (rw (deepest-high _ (l .before .pre .2)) (c .if3 .taken))))
+
+-- it has halves
+halved : (c : tie.Else3 Inv-loop μ-loop)
+    → let l = c .before .before .before .before .before .before in l .loop .part .node < 2 ^ deepest (l .before .args .curve .degree)
+halved c = rw (deepest-high _ (c .before .before .before .before .before .before .before .pre .2)) (c .if3 .left)
+
+left-requires : tie.Need-left-requires Inv-loop μ-loop
+left-requires c κs = let p = c .before .before .before .before .before .before .loop .inv .walk .of in ((_, p), rw (part-degree p) (halved c))
+
+loop-less-2 : tie.Need-loop-less-2 Inv-loop μ-loop
+loop-less-2 c = rw (c .left .ensures) (left-falls (c .before .before .before .before .before .before .before .loop .inv .walk) (halved (c .before)))
+
+loop-again-2 : tie.Need-loop-again-2 Inv-loop μ-loop
+loop-again-2 c =
+    let i = c .before .before in
+    rw (c .left .ensures)
+    (counted-left (i .before .before .before .before .before .loop .inv) (sym (met (i .before)) ∙ i .if1 .left) (halved (c .before)))
+
+pub walk-higher-spec : {M : Type 1} → statement M
+walk-higher-spec =
+    tie.close
+    (tie.spec Inv-loop μ-loop loop-holds depth-requires verdict-of-requires (λ c. search needs) (λ c. search needs) (λ c. search needs)
+    same-requires boxes-meet-requires add-leaves after-requires returns loop-less loop-again returns-2 left-requires loop-less-2 loop-again-2)
