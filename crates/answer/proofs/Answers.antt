@@ -22,7 +22,7 @@ use Rattle.band.specs.Banding.{written}
 use Rattle.band.proofs.Theorems.{done-exactly, written-some, written-sound}
 use Rattle.band.proofs.Station.{done-listed, written-listed}
 use Rattle.engine.proofs.Outcomes.{done-room}
-use Rattle.engine.proofs.Passing.{length-fine, no-bad-number}
+use Rattle.demand_3.proofs.Passing.{length-fine, no-bad-number}
 use Rattle.write_numbers.specs.Appends.{Appended, PutWithin}
 use Rattle.write_numbers.proofs.Appends.{append-both, within}
 use Rattle.text_forms.specs.declared.forms.Form.{Form}

@@ -21,9 +21,9 @@ use Rattle.judge.specs.Judging.{pointFault, judgingFault, Verdict, Judged}
 use Rattle.judge.specs.Judgements.{judgement}
 use Rattle.judge.proofs.Answers.{judged-found}
 use Rattle.judge.proofs.Judgements.{is-judged}
-use Rattle.engine.specs.Demand3.{IsOn, Demand3}
-use Rattle.engine.proofs.Demand3.{demand-3-listed}
-use Rattle.engine.proofs.Meeting.{same-curves}
+use Rattle.demand_3.specs.Demand3.{IsOn, Demand3}
+use Rattle.demand_3.proofs.Demand3.{demand-3-listed}
+use Rattle.demand_3.proofs.Meeting.{same-curves}
 use Rattle.text_lines.specs.Meaning.{means, meaning}
 use Rattle.write_lines.specs.Answers.{refusedLine, onLine, offLine}
 use Rattle.write_lines.specs.BandLines.{bandLines}

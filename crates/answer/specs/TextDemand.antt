@@ -17,7 +17,7 @@ use Rattle.band.specs.Banding.{written}
 use Rattle.band.specs.Outcomes.{Flat}
 use Rattle.judge.specs.declared.judging.Judgement.the-variants.{Off}
 use Rattle.judge.specs.Judging.{pointFault, FirstHolder, Verdict}
-use Rattle.engine.specs.Demand3.{CurveOf, Somewhere, Shallow}
+use Rattle.demand_3.specs.Demand3.{CurveOf, Somewhere, Shallow}
 use Rattle.write_lines.specs.Answers.{onLine, offLine}
 use Rattle.write_lines.specs.BandLines.{bandLines}
 use Rattle.answer.specs.Points.{pointAnswers}

@@ -2,7 +2,7 @@
 ghost use mathlib.Core.Path.{_≡_};
 ghost use lib.ListN.{length};
 ghost use Rattle.setting.specs.Setting.{lists, limited, HasRows};
-ghost use Rattle.bound_node.specs.Inside.{Ready};
+ghost use Rattle.bound_pieces.specs.Inside.{Ready};
 ghost use Rattle.band_records.specs.Records.{allRecords};
 ghost use Rattle.band.specs.Banding.{bandCurves, writtenBy};
 ghost use Rattle.band_passes.specs.Inside.{Readable, curvesIn};
@@ -10,7 +10,7 @@ use crate::banding::Banded;
 use band_passes::leaf_count::count;
 use band_passes::leaf_writing::write_all;
 use band_passes::passes::Counted;
-use bound_node::pieces::Pieces;
+use bound_pieces::Pieces;
 use refusals::Refusal;
 
 // Checks 7, 19 and 8, and the records, of an outline without faults that has this many curves and may have
@@ -71,7 +71,7 @@ pub fn band_curves(
         ≡ writtenBy r (allRecords (lists m) t 0 (curvesIn m (now (ns .entry)) curves)) (now (records .entry)) ⌝ }
 {
     let mut rows = [m as i64; 297];
-    bound_rows::put_rows(&mut rows, m);
-    let pieces = bound_node::pieces::pieces_of(&rows, m);
+    bound_row_table::put_rows(&mut rows, m);
+    let pieces = bound_pieces::pieces_of(&rows, m);
     band_by(&rows, pieces, ns, t, curves, most, records)
 }

@@ -1,12 +1,12 @@
 // The first pass over the curves of an outline: it counts their leaves or finds a node that is still too wide.
 ghost use mathlib.Core.Path.{_≡_};
 ghost use Rattle.setting.specs.Setting.{lists};
-ghost use Rattle.bound_node.specs.Inside.{Ready};
+ghost use Rattle.bound_pieces.specs.Inside.{Ready};
 ghost use Rattle.band_passes.specs.Inside.{Readable, curvesIn, countedOf};
 use crate::passes::Counted;
-use bound_node::pieces::Pieces;
-use outline::curve_values::curve_at;
-use outline::outline_curves::next_at;
+use bound_pieces::Pieces;
+use outline_reading::curve_values::curve_at;
+use outline_reading::outline_curves::next_at;
 use refusals::Refusal;
 use walk_curve::Walked;
 use walk_curve::walk;

@@ -4,17 +4,17 @@ ghost use Prim.Native.Nat.{_+_, _*_, _≤_, _<_, _^_};
 ghost use lib.ListN.{length};
 ghost use lib.Seq.{sets};
 ghost use Rattle.setting.specs.Setting.{lists, recordLength};
-ghost use Rattle.bound_node.specs.Inside.{Ready};
+ghost use Rattle.bound_pieces.specs.Inside.{Ready};
 ghost use Rattle.walk_curve.specs.Walked.{endsOf};
 ghost use Rattle.band_records.specs.Records.{recordsOf, allRecords};
 ghost use Rattle.band_passes.specs.Inside.{curvesIn, EndsMeet, Fillable};
 use band_records::put_record;
 use band_records::put_record_higher;
-use bound_node::higher::Verdict;
-use bound_node::pieces::Pieces;
+use bound_pieces::Pieces;
+use bound_tolerance_higher::Verdict;
 use curve_nodes::Curve;
-use outline::curve_values::curve_at;
-use outline::outline_curves::next_at;
+use outline_reading::curve_values::curve_at;
+use outline_reading::outline_curves::next_at;
 use walk_curve::Part;
 
 // The records of a curve's leaves, from place `at` on. It returns the place after them. The rows lent are those of the
@@ -66,7 +66,7 @@ fn write_low(
     loop {
         let node = part.node;
         let own = part.curve;
-        if bound_node::tolerance::meets(rows, pieces, own, curve_nodes::depth(node), t) {
+        if bound_tolerance::meets(rows, pieces, own, curve_nodes::depth(node), t) {
             put_record(records, place, number, node, rows, m, own);
             place += record_length;
             part = part.after();
@@ -107,10 +107,16 @@ fn write_higher(
         let met = if 16 <= node {
             true
         } else {
-            match bound_node::higher::verdict_of(pieces, own, depth, t) {
+            match bound_tolerance_higher::verdict_of(pieces, own, depth, t) {
                 Verdict::Narrow => true,
                 Verdict::Wide => false,
-                Verdict::Open => bound_node::higher::boxes_meet(rows, pieces, own.same(), depth, t),
+                Verdict::Open => bound_tolerance_higher::boxes_meet(
+                    rows,
+                    pieces,
+                    own.same(),
+                    depth,
+                    t,
+                ),
             }
         };
         if met {

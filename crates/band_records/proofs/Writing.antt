@@ -14,7 +14,7 @@ use Rattle.setting.proofs.Pieces.{degree-takes}
 use Rattle.integers.proofs.Stores.{sets-append}
 use Rattle.curve_nodes.specs.declared.Curve.{Curve}
 use Rattle.curve_nodes.specs.Bounds.{Sized}
-use Rattle.bound_rows.specs.Inside.{Copied}
+use Rattle.bound_row_table.specs.Inside.{Copied}
 use Rattle.bound_coordinate.specs.declared.terms.Terms.{Terms}
 use Rattle.bound_coordinate.specs.Terms.{termsOf}
 use Rattle.bound_coordinate.specs.declared.higher.Higher.{Higher}

@@ -5,14 +5,14 @@ ghost use lib.ListN.{length};
 ghost use lib.Seq.{sets};
 ghost use Rattle.setting.specs.Setting.{HasRows, lists, breakPoints};
 ghost use Rattle.curve_nodes.specs.Bounds.{Sized};
-ghost use Rattle.bound_rows.specs.Inside.{Copied};
+ghost use Rattle.bound_row_table.specs.Inside.{Copied};
 ghost use Rattle.bound_coordinate.specs.Higher.{HigherComputable};
 ghost use Rattle.band_records.specs.Records.{boxesTo};
 ghost use Rattle.band_records.specs.Inside.{putPairsBy};
 use bound_coordinate::higher::Higher;
-use bound_coordinate::higher::high_at;
-use bound_coordinate::higher::higher_of;
-use bound_coordinate::higher::low_at;
+use bound_coordinate_higher::high_at;
+use bound_coordinate_higher::higher_of;
+use bound_coordinate_higher::low_at;
 use curve_nodes::Curve;
 
 // The low and the high of one coordinate at every break point, four places apart, from place `at` on.

@@ -6,13 +6,13 @@ ghost use lib.Seq.{sets};
 ghost use Rattle.setting.specs.Setting.{HasRows, lists, breakPoints, recordLength, greatestNode};
 ghost use Rattle.curve_nodes.specs.Bounds.{Sized};
 ghost use Rattle.curve_nodes.specs.Nodes.{depth};
-ghost use Rattle.bound_rows.specs.Inside.{Copied};
+ghost use Rattle.bound_row_table.specs.Inside.{Copied};
 ghost use Rattle.bound_coordinate.specs.Terms.{Computable};
-ghost use Rattle.bound_node.specs.Inside.{Ready};
+ghost use Rattle.bound_pieces.specs.Inside.{Ready};
 ghost use Rattle.band_records.specs.Records.{boxesTo, nodeNumbers};
 ghost use Rattle.band_records.specs.Inside.{boxBy};
 use bound_coordinate::terms::Terms;
-use bound_node::pieces::Pieces;
+use bound_pieces::Pieces;
 use curve_nodes::Curve;
 
 pub mod higher;

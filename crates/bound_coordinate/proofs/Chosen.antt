@@ -19,8 +19,8 @@ use Rattle.integers.proofs.Machine.{fits!, is!, held-add, held-stored}
 use Rattle.curve_halves.specs.Sizes.{Each}
 use Rattle.curve_nodes.specs.Differences.{difference}
 use Rattle.curve_nodes.proofs.Sizes.{difference-under}
-use Rattle.bound_rows.specs.Inside.{placeOf, Copied}
-use Rattle.bound_rows.proofs.Copying.{low-place}
+use Rattle.bound_row_table.specs.Inside.{placeOf, Copied}
+use Rattle.bound_row_table.proofs.Copying.{low-place}
 use Rattle.bound_coordinate.specs.Inside.{Computed}
 use Rattle.bound_coordinate.specs.declared.terms.Terms.{Terms}
 use Rattle.bound_coordinate.specs.declared.higher.Higher.{Higher}

@@ -19,7 +19,7 @@ use Rattle.integers.proofs.Order.{lt-or-ge}
 use Rattle.curve_nodes.specs.Differences.{difference}
 use Rattle.bound_rows.specs.Rows.{Row, rowAt}
 use Rattle.bound_rows.specs.Table.{rowsOf}
-use Rattle.bound_rows.specs.Inside.{blocksOf, placeOf, tripleAt, Copied}
+use Rattle.bound_row_table.specs.Inside.{blocksOf, placeOf, tripleAt, Copied}
 use Rattle.bound_rows.proofs.Rule.{rows-count}
 use Rattle.bound_enclosure.specs.Bounds.{exchanged, chord, rowSum}
 use Rattle.bound_enclosure.specs.AtDepth.{lowOf, highOf}

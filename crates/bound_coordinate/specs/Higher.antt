@@ -12,7 +12,7 @@ use Rattle.integers.specs.Entry.{entry}
 use Rattle.integers.specs.Rounding.{floor, ceiling}
 use Rattle.curve_halves.specs.Sizes.{Each}
 use Rattle.curve_nodes.specs.Differences.{difference}
-use Rattle.bound_rows.specs.Inside.{placeOf}
+use Rattle.bound_row_table.specs.Inside.{placeOf}
 use Rattle.bound_coordinate.specs.declared.higher.Higher.{Higher}
 use Rattle.bound_coordinate.specs.Inside.{Computed}
 use Rattle.bound_coordinate.specs.Terms.{chosen, chordAt, pairOf, denominatorOf}

@@ -10,7 +10,7 @@ use lib.Signed.{ltZ}
 use Rattle.integers.specs.Entry.{entry}
 use Rattle.integers.specs.Rounding.{floor, ceiling}
 use Rattle.curve_nodes.specs.Differences.{difference}
-use Rattle.bound_rows.specs.Inside.{placeOf}
+use Rattle.bound_row_table.specs.Inside.{placeOf}
 use Rattle.bound_coordinate.specs.declared.terms.Terms.{Terms}
 
 -- where a difference begins to read the rows at p: a negative one, whose high is the low row's, one number further on

@@ -4,7 +4,7 @@ ghost use Prim.Native.Nat.{_<_, _≤_, _^_};
 ghost use Rattle.integers.specs.Entry.{entry};
 ghost use Rattle.curve_halves.specs.Sizes.{Each};
 ghost use Rattle.curve_nodes.specs.Differences.{difference};
-ghost use Rattle.bound_rows.specs.Inside.{placeOf};
+ghost use Rattle.bound_row_table.specs.Inside.{placeOf};
 ghost use Rattle.bound_coordinate.specs.Inside.{Boundable, Computed};
 ghost use Rattle.bound_coordinate.specs.Terms.{chosen, termsOf};
 

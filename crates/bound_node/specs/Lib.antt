@@ -1,4 +1,2 @@
--- What a reader must believe of a node: its boxes, and the test that it meets the tolerance.
+-- What a reader must believe of a node: its boxes, and when they meet the tolerance.
 pub mod Boxes
-pub mod Inside
-pub mod Told

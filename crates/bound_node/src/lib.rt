@@ -1,6 +1,2 @@
-// The test of a node: how far apart its lows and highs are, its boxes, and whether they meet the tolerance.
-pub mod higher;
+// The boxes of a node, and when they meet the tolerance: definitions and laws; the test is computed in bound_tolerance.
 pub mod node_boxes;
-pub mod pieces;
-pub mod spread;
-pub mod tolerance;

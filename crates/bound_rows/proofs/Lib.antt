@@ -9,5 +9,3 @@ pub mod Places
 pub mod Tabled
 pub mod Claim
 pub mod Rule
-pub mod Entries
-pub mod Copying

@@ -31,7 +31,7 @@ each-reversed {B} {cs} h d = record { under = listed-under B (suc d) (λ k. entr
 
 -- ---- halves
 module _ {B : ℕ} {cs : List ℤ} (h : Each B cs) where
-  triangle-under : (j i : ℕ) → natAbs (triangle cs j i) ≤ 2 ^ j * B
+  pub triangle-under : (j i : ℕ) → natAbs (triangle cs j i) ≤ 2 ^ j * B
   unfolding triangle
   triangle-under zero i = omega (arith, h .under i)
   triangle-under (suc j) i = rw (two-pow-succ, add-mul)

@@ -1,48 +1,24 @@
--- What a caller may conclude from the promises of this crate. Each law uses a definition in which they end, so that a weaker one is seen here.
-use mathlib.Core.Path.{_≡_, refl, sym, _∙_, subst}
-use mathlib.Core.List.{List, [], _∷_, List·Memᴰ}
+-- What a caller may conclude from what banding and judging in one call answers. Each law uses a definition in which the promise ends, so that a weaker
+-- one is seen here.
+use mathlib.Core.Path.{_≡_, refl}
+use mathlib.Core.List.{List}
 use mathlib.Core.Option.{Option, none, some}
-use Prim.Native.Nat.{ℕ, _+_, _*_, _≤_, _<_}
-use lib.Dec.{lit<}
+use Prim.Native.Nat.{ℕ, _*_}
 use lib.ListN.{length, take}
-use lib.IntN.{ℤ, pos, negℤ, _+ℤ_, pow, one}
-use lib.Signed.{_≤ℤ_, leZ-yes}
-use Rattle.integers.specs.Entry.{entry}
-use Rattle.integers.specs.First.{firstBad}
+use lib.IntN.{ℤ}
 use Rattle.integers.proofs.Clash.{clash}
-use Rattle.integers.proofs.Ring.{sides}
-use Rattle.integers.proofs.Between.{between-low}
-use Rattle.integers.proofs.Order.{NonNeg, gap, natural, nonneg-by, le-by, pos-lt, pow-positive, *ℤ-cancel, _+₀_, _×₀_}
 use Rattle.refusals.specs.declared.Refusal.{Refusal}
-use Rattle.curve_bernstein.specs.Value.{choose, sum, value}
-use Rattle.curve_halves.specs.Sizes.{Each}
-use Rattle.curve_nodes.specs.declared.Curve.{Curve}
-use Rattle.curve_nodes.specs.Bounds.{Sized}
-use Rattle.curve_nodes.specs.Nodes.{depth}
-use Rattle.curve_nodes.specs.Points.{Equals, Near}
-use Rattle.curve_nodes.specs.Differences.{largestOf, bend, largest}
-use Rattle.curve_nodes.proofs.Points.{within-near}
-use Rattle.curve_nodes.proofs.Values.{value-high, value-low}
-use Rattle.setting.specs.Setting.{Setting, lists, standard, recordLength}
-use Rattle.bound_rows.specs.Table.{table, rowsOf}
-use Rattle.bound_rows.specs.Rule.{gapOf}
-use Rattle.outline.specs.Curves.{curveAt}
-use Rattle.outline.specs.Faults.{faultAt}
-use Rattle.outline.specs.Checks.{curves, outlineFrom, outlined}
-use Rattle.outline.proofs.Accepted.{outlined-from, accepted-all}
+use Rattle.setting.specs.Setting.{Setting, recordLength}
 use Rattle.band.specs.declared.banding.Banded.{Banded}
 use Rattle.band.specs.declared.banding.Banded.the-variants.{Done, Refused as NotBanded}
 use Rattle.band.specs.Banding.{banded, written}
-use Rattle.band.specs.Outcomes.{Flat}
-use Rattle.band.proofs.Theorems.{done-exactly, refused-unaltered as banding-unaltered}
+use Rattle.band.proofs.Theorems.{refused-unaltered as banding-unaltered}
 use Rattle.judge.specs.declared.judging.Judgement.{Judgement}
-use Rattle.judge.specs.Judging.{pointFault, Verdict, Judged as JudgedSo}
+use Rattle.judge.specs.Judging.{pointFault, Verdict}
 use Rattle.engine.specs.declared.Outcome.the-variants.{Refused, Judged}
-use Rattle.engine.specs.Demand3.{CurveOf, IsOn, Somewhere, OutlineDemand3}
+use Rattle.demand_3.specs.Demand3.{OutlineDemand3}
 use Rattle.engine.specs.Outcomes.{JudgedAs, writtenFor, Answered}
-use Rattle.engine.specs.Starred.{A}
-use Rattle.engine.proofs.Demand3.{small, of-member, demand-3}
-use Rattle.engine.proofs.Meeting.{same-curves}
+use Rattle.demand_3.proofs.Demand3.{demand-3}
 
 -- ---- a refusal of banding and judging together, whichever it is, leaves the lent list as it was
 module _ (σ : Setting) (T : ℤ) (ns old : List ℤ) (x y : ℤ) (r : Refusal) where
@@ -81,103 +57,3 @@ module _ (σ : Setting) (T : ℤ) (ns old : List ℤ) (x y : ℤ) (a b c : ℕ) 
           let k = rw (e, Answered, f) at answered in
           let s = same (k .is) in
           rw (s .0, s .1, s .2, s .3) (record { report = e; list = rw f; judged = k .judged; demand-3 = k .demand-3 })
-
--- ---- a point near a curve lies no farther than T from the square in which control points lie, 16 × 1,048,576 sixteenths each way
-abbrev Reach : ℤ → ℤ → Type 0
-Reach T z = (negℤ (pos 16777216 +ℤ T) ≤ℤ z) × (z ≤ℤ (pos 16777216 +ℤ T))
-
-near-in-reach : (T : ℤ) (d p r : ℕ) (cs : List ℤ) → Each 1048576 cs → 0 < p + r → (z : ℤ) → Near T d p r cs z → Reach T z
-near-in-reach T d p r cs each nonzero z near =
-    let w = pow (pos (p + r)) d in
-    let v = value (pos p) (pos r) d cs in
-    let low = value-low p r 1048576 d cs each in
-    let high = value-high p r 1048576 d cs each in
-    let positive = pow-positive (pos-lt nonzero) d in (
-      *ℤ-cancel positive (le-by (w ∷ v ∷ z ∷ T ∷ []) (gap (near .below) +₀ natural 16 ×₀ gap low) (search sides depth 20) refl),
-      *ℤ-cancel positive (le-by (w ∷ v ∷ z ∷ T ∷ []) (gap (near .above) +₀ natural 16 ×₀ gap high) (search sides depth 20) refl),
-    )
-
-pub somewhere-in-reach : (T : ℤ) (cs : List Curve) → ((c : Curve) → List·Memᴰ c cs → Sized 0 c)
-    → (x y : ℤ) → NonNeg T → Somewhere T cs x y → Reach T x × Reach T y
-somewhere-in-reach T cs sized x y nonneg s =
-    let c = s .curve in
-    let each = small (sized c (of-member (s .of))) in
-    let near = within-near nonneg (s .near) in (
-      near-in-reach T (c .degree) (s .p) (s .r) (c .x) (each .0) (s .some) x (near .0),
-      near-in-reach T (c .degree) (s .p) (s .r) (c .y) (each .1) (s .some) y (near .1),
-    )
-
--- ---- an outline that is banded, and whatever judging answers to its leaves
-module _ (σ : Setting) (T : ℤ) (ns old : List ℤ) (a b c : ℕ) (done : banded σ T ns (length old) ≡ Done a b c) where
-  abbrev leaves : List ℤ
-  leaves = take (recordLength σ * b) (written σ T ns old)
-
-  module _ (x y : ℤ) (answer : Judgement) (judged : JudgedSo σ leaves x y answer) where
-    claim : OutlineDemand3 σ T ns leaves x y answer
-    claim = demand-3 σ T ns old a b c done x y answer judged
-
-    -- a point beyond the reach is never judged on
-    pub on-in-reach : IsOn answer → Reach T x × Reach T y
-    on-in-reach on =
-        let sized = accepted-all (σ .most) (σ .pieces) ns 0 (claim .all) (outlined-from (σ .most) (σ .pieces) ns (claim .all) (claim .are)) in
-        let least = between-low (pos 2) (pos 1048576) T (done-exactly σ T ns (length old) a b c .0 done .1 .tolerance) in
-        somewhere-in-reach T (claim .all) sized x y (nonneg-by (T ∷ []) (gap least +₀ natural 2) (search sides depth 20) refl)
-        (claim .demand-3 .every-on-near on)
-
-    -- the node that stands in a leaf's record has depth at most j
-    pub leaf-depth : (i : ℕ) → recordLength σ * i < length leaves → (cs : List Curve) → outlined (σ .most) (σ .pieces) ns ≡ curves cs
-        → (k : ℕ) (c : Curve) → CurveOf cs k c → entry leaves (recordLength σ * i) ≡ pos k
-        → (j : ℕ) → Flat σ T c j → (n : ℕ) → entry leaves (recordLength σ * i + 1) ≡ pos n → depth n ≤ j
-    leaf-depth i h cs o k c of e j flat n is =
-        let s = claim .demand-3 .every-leaf-shallow i h k c (rw (same-curves (claim .are) o) of) e j flat in
-        subst (λ m. depth m ≤ j) (natural-is (sym (s .is) ∙ is)) (s .depth-at-most)
-      where
-        natural-is : {m n : ℕ} → pos m ≡ pos n → m ≡ n
-        natural-is e = cc
-
--- ---- curve A: half-way it is at (240 360), which is on at every tolerance and with every list lent
-abbrev curveA : Curve
-curveA = record {
-  degree = 3;
-  x = pos 0 ∷ pos 10 ∷ pos 20 ∷ pos 30 ∷ pos 0 ∷ pos 0 ∷ [];
-  y = pos 0 ∷ pos 30 ∷ pos 30 ∷ pos 0 ∷ pos 0 ∷ pos 0 ∷ [];
-}
-
-of-a : outlined (standard .most) (standard .pieces) A ≡ curves (curveA ∷ [])
-unfolding outlined outlineFrom faultAt firstBad curveAt
-of-a = refl
-
-half-way : Equals curveA 1 1 (pos 240) (pos 360)
-unfolding value sum choose pow one
-half-way = record { in-x = refl; in-y = refl }
-
-pub half-way-on : (T : ℤ) (old : List ℤ) (a b c : ℕ) → banded standard T A (length old) ≡ Done a b c
-    → (answer : Judgement) → JudgedSo standard (take (recordLength standard * b) (written standard T A old)) (pos 240) (pos 360) answer → IsOn answer
-half-way-on T old a b c done answer judged =
-    let d = claim standard T A old a b c done (pos 240) (pos 360) answer judged in
-    d .demand-3 .every-point-on 0 curveA (record { before = []; after = []; split = same-curves (d .are) of-a; number = refl }) 1 1 (lit< tt) half-way
-
--- ---- the premise of the depth claim: y 0, 0, 125, 250 has M = 125. With three pieces G is 890, and 2 × (16 × 890 × 125 + 20000)² lies between
--- (10000 × 254)² and (10000 × 255)²; with eight it is 120, and 2 × (16 × 120 × 125 + 20000)² lies between (10000 × 36)² and (10000 × 37)².
-abbrev bow : Curve
-bow = record {
-  degree = 3;
-  x = pos 0 ∷ pos 0 ∷ pos 0 ∷ pos 0 ∷ pos 0 ∷ pos 0 ∷ [];
-  y = pos 0 ∷ pos 0 ∷ pos 125 ∷ pos 250 ∷ pos 0 ∷ pos 0 ∷ [];
-}
-
-pub flat-from-255 : Flat standard (pos 255) bow 0
-unfolding largest bend largestOf gapOf rowsOf table
-flat-from-255 = leZ-yes tt
-
-pub not-flat-at-254 : Flat standard (pos 254) bow 0 → ⊥
-unfolding largest bend largestOf gapOf rowsOf table
-not-flat-at-254 f = f .le
-
-pub eighths-flat-from-37 : Flat (lists 8) (pos 37) bow 0
-unfolding largest bend largestOf gapOf rowsOf table
-eighths-flat-from-37 = leZ-yes tt
-
-pub eighths-not-flat-at-36 : Flat (lists 8) (pos 36) bow 0 → ⊥
-unfolding largest bend largestOf gapOf rowsOf table
-eighths-not-flat-at-36 f = f .le

@@ -1,10 +1,3 @@
--- The laws that take a point of a node's curve to a mixture of its boxes, and back.
-pub mod Mixtures
--- Demand 3, the laws behind it and what follows from it, and the starred examples. Each file opens with what it holds.
-pub mod Passing
-pub mod Covers
-pub mod Demand3
-pub mod Meeting
+-- What banding and judging in one call answers, and what follows from demand 3. Each file opens with what it holds.
 pub mod Outcomes
 pub mod Consequences
-pub mod Starred

@@ -28,8 +28,8 @@ use Rattle.judge.specs.Judging.{pointFault, judgingFault, Verdict, Judged}
 use Rattle.engine.specs.declared.Outcome.the-variants.{Refused, Judged as WithJudgement}
 use Rattle.engine.specs.Outcomes.{writtenFor, Answered}
 use Rattle.engine.specs.Inside.{refusalOr}
-use Rattle.engine.proofs.Passing.{none-refused}
-use Rattle.engine.proofs.Demand3.{demand-3}
+use Rattle.demand_3.proofs.Passing.{none-refused}
+use Rattle.demand_3.proofs.Demand3.{demand-3}
 
 -- ---- the room that code divides by a record's length
 module _ (m room l : ℕ) where

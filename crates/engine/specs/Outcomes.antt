@@ -14,7 +14,7 @@ use Rattle.judge.specs.declared.judging.Judgement.{Judgement}
 use Rattle.judge.specs.Judging.{pointFault, Verdict}
 use Rattle.engine.specs.declared.Outcome.{Outcome}
 use Rattle.engine.specs.declared.Outcome.the-variants.{Refused, Judged}
-use Rattle.engine.specs.Demand3.{OutlineDemand3}
+use Rattle.demand_3.specs.Demand3.{OutlineDemand3}
 
 -- ---- the caller's list afterwards: as banding leaves it, and unaltered where the point is refused
 abbrev pub writtenFor : Setting → ℤ → List ℤ → (x y : ℤ) → List ℤ → List ℤ

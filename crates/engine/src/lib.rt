@@ -1,5 +1,4 @@
-// Banding and judging together. Demand 3 as one theorem, the laws that it stands on and the starred examples stand in
-// `specs/` and `proofs/`.
+// Banding and judging together. Demand 3 as one theorem stands in the crate `demand_3`.
 ghost use mathlib.Core.Path.{_≡_};
 ghost use lib.ListN.{length};
 ghost use Rattle.setting.specs.Setting.{lists};

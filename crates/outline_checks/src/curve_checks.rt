@@ -7,8 +7,8 @@ ghost use Rattle.outline.specs.Faults.{firstBeyond, meetsBefore, faultAt};
 ghost use Rattle.outline.specs.Inside.{foundOf, faultOf};
 use outline::curve_faults::Fault;
 use outline::curve_faults::Found;
-use outline::outline_curves::degree_at;
-use outline::outline_curves::next_at;
+use outline_reading::outline_curves::degree_at;
+use outline_reading::outline_curves::next_at;
 use refusals::Refusal;
 
 // Check 4: the first index from `from` up to `end` of a number that is no coordinate.

@@ -5,7 +5,7 @@ ghost use Rattle.outline.specs.Inside.{checkedOf};
 use crate::curve_checks::fault_at;
 use outline::Checked;
 use outline::curve_faults::Fault;
-use outline::outline_curves::next_at;
+use outline_reading::outline_curves::next_at;
 use refusals::Refusal;
 
 pub mod curve_checks;

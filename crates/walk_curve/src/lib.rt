@@ -4,10 +4,10 @@ ghost use mathlib.Core.Bool.{true};
 ghost use Prim.Native.Nat.{_≤_, _<_, _^_};
 ghost use Rattle.setting.specs.Setting.{lists, deepest, degreePieces};
 ghost use Rattle.curve_nodes.specs.Bounds.{Sized};
-ghost use Rattle.bound_node.specs.Inside.{Ready};
+ghost use Rattle.bound_pieces.specs.Inside.{Ready};
 ghost use Rattle.walk_curve.specs.Inside.{Standing, leftPart, AfterOf, walkedOf};
-use bound_node::higher::Verdict;
-use bound_node::pieces::Pieces;
+use bound_pieces::Pieces;
+use bound_tolerance_higher::Verdict;
 use curve_nodes::Curve;
 
 // Where a walk stands: a node, with the node's own curve. Every step follows from it alone, so no walk keeps a stack.
@@ -75,7 +75,7 @@ fn walk_low(rows: &[i64], pieces: Pieces, curve: Curve, t: i64) -> Walked
     loop {
         let node = part.node;
         let own = part.curve;
-        if bound_node::tolerance::meets(rows, pieces, own, curve_nodes::depth(node), t) {
+        if bound_tolerance::meets(rows, pieces, own, curve_nodes::depth(node), t) {
             leaves += 1;
             part = part.after();
             if part.node == 1 {
@@ -101,10 +101,10 @@ fn walk_higher(rows: &[i64], pieces: Pieces, curve: Curve, t: i64) -> Walked
         let node = part.node;
         let own = part.curve;
         let depth = curve_nodes::depth(node);
-        let met = match bound_node::higher::verdict_of(pieces, own, depth, t) {
+        let met = match bound_tolerance_higher::verdict_of(pieces, own, depth, t) {
             Verdict::Narrow => true,
             Verdict::Wide => false,
-            Verdict::Open => bound_node::higher::boxes_meet(rows, pieces, own.same(), depth, t),
+            Verdict::Open => bound_tolerance_higher::boxes_meet(rows, pieces, own.same(), depth, t),
         };
         if met {
             leaves += 1;

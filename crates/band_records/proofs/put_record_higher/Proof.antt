@@ -7,7 +7,7 @@ use mir.Facts.{toZ-pos}
 use Rattle.setting.specs.Setting.{lists, breakPoints}
 use Rattle.curve_nodes.specs.Nodes.{depth}
 use Rattle.curve_nodes.proofs.Numbers.{depth-under}
-use Rattle.bound_node.proofs.PiecesLaws.{scaled}
+use Rattle.bound_pieces.proofs.PiecesLaws.{scaled}
 use Rattle.band_records.specs.Records.{boxesTo, nodeNumbers}
 use Rattle.band_records.proofs.Writing.{kept, head-sets}
 use native.Mathlib.Omega.{arith}

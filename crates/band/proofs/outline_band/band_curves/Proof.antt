@@ -12,9 +12,9 @@ use lib.IntN.{ℤ, pos, natAbs}
 use Rattle.setting.specs.Setting.{HasRows}
 use Rattle.integers.specs.Entry.{entry}
 use Rattle.curve_halves.specs.Sizes.{Each}
-use Rattle.bound_rows.specs.Inside.{Copied}
-use Rattle.bound_node.specs.declared.pieces.Pieces.{Pieces}
-use Rattle.bound_node.specs.Inside.{piecesBy, piecesOf, Ready}
+use Rattle.bound_row_table.specs.Inside.{Copied}
+use Rattle.bound_pieces.specs.declared.Pieces.{Pieces}
+use Rattle.bound_pieces.specs.Inside.{piecesBy, piecesOf, Ready}
 use Rattle.band.proofs.outline_band.band_curves.Statement.{statement}
 use Rattle.band.proofs.outline_band.band_curves.Tie as tie
 

@@ -2,7 +2,7 @@
 use native.Mathlib.Omega.{arith}
 use borrow.Author.Needs.{needs}
 use Rattle.integers.proofs.Machine.{fits!, is! }
-use Rattle.bound_rows.proofs.Copying.{low-place}
+use Rattle.bound_row_table.proofs.Copying.{low-place}
 use Rattle.bound_coordinate.proofs.Coordinates.{bounded, pieces, stored-is}
 use Rattle.bound_coordinate.proofs.Chosen.{last-computed, terms-are}
 use Rattle.bound_coordinate.proofs.terms.terms_of.Statement.{statement}

@@ -1,0 +1,4 @@
+-- What a reader must believe of demand 3: the claim itself, the point between two curves, and the starred examples.
+pub mod Demand3
+pub mod Meeting
+pub mod Starred
