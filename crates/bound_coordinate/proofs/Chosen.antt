@@ -19,7 +19,7 @@ use Rattle.integers.proofs.Machine.{fits!, is!, held-add, held-stored}
 use Rattle.curve_halves.specs.Sizes.{Each}
 use Rattle.curve_nodes.specs.Differences.{difference}
 use Rattle.curve_nodes.proofs.Sizes.{difference-under}
-use Rattle.bound_row_table.specs.Inside.{placeOf, Copied}
+use Rattle.bound_row_table.specs.Inside.{rowPlace, Copied}
 use Rattle.bound_row_table.proofs.Copying.{low-place}
 use Rattle.bound_coordinate.specs.Inside.{Computed}
 use Rattle.bound_coordinate.specs.declared.terms.Terms.{Terms}
@@ -36,7 +36,7 @@ last-computed {B} d h e = record { is = e; size = subst (λ z. natAbs z ≤ B) (
 -- δ and ε are the second differences, p and q where their rows begin
 module _ (m d : ℕ) (cs : List ℤ) {start step δ ε : ℤ} {p q : ℕ}
     (es : start ≡ pos 10000 *ℤ (pos m *ℤ entry cs 0)) (et : step ≡ pos 10000 *ℤ (entry cs d -ℤ entry cs 0))
-    (eδ : δ ≡ difference cs 0) (eε : ε ≡ difference cs 1) (ep : p ≡ placeOf d 0) (eq : q ≡ placeOf d 1) where
+    (eδ : δ ≡ difference cs 0) (eε : ε ≡ difference cs 1) (ep : p ≡ rowPlace d 0) (eq : q ≡ rowPlace d 1) where
   pub terms-are : {r s : ℕ} → r ≡ chosen δ p → s ≡ chosen ε q
       → _≡_ {A = Terms} (record { start = start; step = step; difference0 = δ; difference1 = ε; row0 = r; row1 = s }) (termsOf m d cs)
   unfolding termsOf
@@ -52,7 +52,7 @@ module _ (m d : ℕ) (cs : List ℤ) {start step δ ε : ℤ} {p q : ℕ}
 -- those of degrees 4 and 5, whose rows begin from p on
 module _ (m d s : ℕ) (cs : List ℤ) {start step δ ε ζ η : ℤ} {p : ℕ}
     (es : start ≡ pos 10000 *ℤ (pos m *ℤ entry cs 0) +ℤ raiseOf m s) (et : step ≡ pos 10000 *ℤ (entry cs d -ℤ entry cs 0))
-    (eδ : δ ≡ difference cs 0) (eε : ε ≡ difference cs 1) (eζ : ζ ≡ difference cs 2) (eη : η ≡ difference cs 3) (ep : p ≡ placeOf d 0) where
+    (eδ : δ ≡ difference cs 0) (eε : ε ≡ difference cs 1) (eζ : ζ ≡ difference cs 2) (eη : η ≡ difference cs 3) (ep : p ≡ rowPlace d 0) where
   pub higher-terms-are : {a b c e : ℕ} → a ≡ chosen δ p → b ≡ chosen ε (p + 27) → c ≡ chosen ζ (p + 54) → e ≡ chosen η (p + 81)
       → _≡_ {A = Higher} (record {
         degree = d;
@@ -94,7 +94,7 @@ module _ {m s : ℕ} {cs : List ℤ} (most : m ≤ 8) (shallow : s ≤ 20) (h : 
   start-is = is! (held-stored w64 _ (held-add {x = first-start} (search (h, pieces most, bounded) depth 40) (held-raise most shallow))) tt
 
 -- ---- sizes
-pub place-under : (d : ℕ) → placeOf d 0 ≤ 189
+pub place-under : (d : ℕ) → rowPlace d 0 ≤ 189
 place-under d = cases (ltb 1 d) (ltb d 3) (ltb d 4) (ltb d 5)
   where
     cases : (a b c e : Bool) → cond a (cond b 54 (cond c 0 (cond e 108 189)) + 0) 81 ≤ 189

@@ -19,7 +19,7 @@ use Rattle.integers.proofs.Order.{lt-or-ge}
 use Rattle.curve_nodes.specs.Differences.{difference}
 use Rattle.bound_rows.specs.Rows.{Row, rowAt}
 use Rattle.bound_rows.specs.Table.{rowsOf}
-use Rattle.bound_row_table.specs.Inside.{blocksOf, placeOf, tripleAt, Copied}
+use Rattle.bound_row_table.specs.Inside.{blocksOf, rowPlace, tripleAt, Copied}
 use Rattle.bound_rows.proofs.Rule.{rows-count}
 use Rattle.bound_enclosure.specs.Bounds.{exchanged, chord, rowSum}
 use Rattle.bound_enclosure.specs.AtDepth.{lowOf, highOf}
@@ -151,31 +151,31 @@ module _ (σ : Setting) (has : HasRows (σ .pieces)) {d : ℕ} (most : d ≤ mos
       Read p j t = entry rows (p + (3 * i + t)) ≡ pos m *ℤ tripleAt (rowAt ρs j) i t
 
       -- the numbers of a difference that the degree does not have are zeros
-      row-read : (j t : ℕ) → t < 3 → Read (placeOf d j) j t
+      row-read : (j t : ℕ) → t < 3 → Read (rowPlace d j) j t
       row-read j t ht = ⊎-elim (λ l. h .row d j i t most takes (omega arith) hi ht) none (lt-or-ge (j + 1) d)
         where
-          none : d ≤ j + 1 → Read (placeOf d j) j t
+          none : d ≤ j + 1 → Read (rowPlace d j) j t
           none l =
               ap (λ (b : Bool). entry rows (cond b (blocksOf d + 27 * j) 81 + (3 * i + t))) (le-ltb (j + 1) d l)
               ∙ h .none (3 * i + t) (omega (arith, has .most))
               ∙ sym (ap (λ (ρ : Row). pos m *ℤ tripleAt ρ i t) (no-row ρs j (omega (arith, rows-count m d)))
               ∙ ap (λ z. pos m *ℤ z) (either (eqb t 1)) ∙ *ℤ-zero (pos m))
 
-      high-read : (j : ℕ) → pos m *ℤ highFactor j ≡ entry rows (chosen (δ j) (placeOf d j) + 3 * i)
+      high-read : (j : ℕ) → pos m *ℤ highFactor j ≡ entry rows (chosen (δ j) (rowPlace d j) + 3 * i)
       high-read j = sym (cases (ltZ (δ j) (pos 0)))
         where
-          cases : (b : Bool) → entry rows (cond b (placeOf d j + 1) (placeOf d j) + 3 * i)
+          cases : (b : Bool) → entry rows (cond b (rowPlace d j + 1) (rowPlace d j) + 3 * i)
               ≡ pos m *ℤ cond b (entry (rowAt ρs j .low) i) (entry (rowAt ρs j .high) i)
-          cases true = ap (entry rows) {y = placeOf d j + (3 * i + 1)} (omega arith) ∙ row-read j 1 (omega arith)
-          cases false = ap (entry rows) {y = placeOf d j + (3 * i + 0)} (omega arith) ∙ row-read j 0 (omega arith)
+          cases true = ap (entry rows) {y = rowPlace d j + (3 * i + 1)} (omega arith) ∙ row-read j 1 (omega arith)
+          cases false = ap (entry rows) {y = rowPlace d j + (3 * i + 0)} (omega arith) ∙ row-read j 0 (omega arith)
 
-      low-read : (j : ℕ) → pos m *ℤ lowFactor j ≡ entry rows (chosen (δ j) (placeOf d j) + (3 * i + 1))
+      low-read : (j : ℕ) → pos m *ℤ lowFactor j ≡ entry rows (chosen (δ j) (rowPlace d j) + (3 * i + 1))
       low-read j = sym (cases (ltZ (δ j) (pos 0))
           ∙ ap (λ (ρ : Row). pos m *ℤ cond (ltZ (δ j) (pos 0)) (entry (ρ .low) i) (entry (ρ .high) i)) (sym (exchanged-at ρs j)))
         where
-          cases : (b : Bool) → entry rows (cond b (placeOf d j + 1) (placeOf d j) + (3 * i + 1))
+          cases : (b : Bool) → entry rows (cond b (rowPlace d j + 1) (rowPlace d j) + (3 * i + 1))
               ≡ pos m *ℤ cond b (entry (rowAt ρs j .high) i) (entry (rowAt ρs j .low) i)
-          cases true = ap (entry rows) {y = placeOf d j + (3 * i + 2)} (omega arith) ∙ row-read j 2 (omega arith)
+          cases true = ap (entry rows) {y = rowPlace d j + (3 * i + 2)} (omega arith) ∙ row-read j 2 (omega arith)
           cases false = row-read j 1 (omega arith)
 
       -- ---- degrees 1 to 3
@@ -192,12 +192,12 @@ module _ (σ : Setting) (has : HasRows (σ .pieces)) {d : ℕ} (most : d ≤ mos
 
       -- ---- degrees 4 and 5: the rows of a difference begin 27 numbers after those of the one before
       module _ (many : 4 ≤ d) where
-        place-is : (j : ℕ) → j + 1 < d → placeOf d j ≡ placeOf d 0 + 27 * j
+        place-is : (j : ℕ) → j + 1 < d → rowPlace d j ≡ rowPlace d 0 + 27 * j
         place-is j l =
             ap (λ (b : Bool). cond b (blocksOf d + 27 * j) 81) (lt-ltb (j + 1) d l)
             ∙ sym (ap (λ (b : Bool). cond b (blocksOf d + 0) 81 + 27 * j) (lt-ltb 1 d (omega arith)) ∙ ap (λ (n : ℕ). n + 27 * j) (add-zero (blocksOf d)))
 
-        at-place : {x : ℤ} (j t : ℕ) → j + 1 < d → x ≡ entry rows (chosen (δ j) (placeOf d j) + t) → x ≡ entry rows (chosen (δ j) (placeOf d 0 + 27 * j) + t)
+        at-place : {x : ℤ} (j t : ℕ) → j + 1 < d → x ≡ entry rows (chosen (δ j) (rowPlace d j) + t) → x ≡ entry rows (chosen (δ j) (rowPlace d 0 + 27 * j) + t)
         at-place j t l e = e ∙ ap (λ (p : ℕ). entry rows (chosen (δ j) p + t)) (place-is j l)
 
         fourth : {x y : ℤ} → (4 < d → x ≡ y) → cond (ltb d 5) (pos 0) (x *ℤ δ 3) ≡ cond (ltb d 5) (pos 0) (y *ℤ δ 3)

@@ -12,7 +12,7 @@ use Rattle.integers.specs.Entry.{entry}
 use Rattle.integers.specs.Rounding.{floor, ceiling}
 use Rattle.curve_halves.specs.Sizes.{Each}
 use Rattle.curve_nodes.specs.Differences.{difference}
-use Rattle.bound_row_table.specs.Inside.{placeOf}
+use Rattle.bound_row_table.specs.Inside.{rowPlace}
 use Rattle.bound_coordinate.specs.declared.higher.Higher.{Higher}
 use Rattle.bound_coordinate.specs.Inside.{Computed}
 use Rattle.bound_coordinate.specs.Terms.{chosen, chordAt, pairOf, denominatorOf}
@@ -31,10 +31,10 @@ higherOf m d s cs = record {
   difference1 = difference cs 1;
   difference2 = difference cs 2;
   difference3 = difference cs 3;
-  row0 = chosen (difference cs 0) (placeOf d 0);
-  row1 = chosen (difference cs 1) (placeOf d 0 + 27);
-  row2 = chosen (difference cs 2) (placeOf d 0 + 54);
-  row3 = chosen (difference cs 3) (placeOf d 0 + 81);
+  row0 = chosen (difference cs 0) (rowPlace d 0);
+  row1 = chosen (difference cs 1) (rowPlace d 0 + 27);
+  row2 = chosen (difference cs 2) (rowPlace d 0 + 54);
+  row3 = chosen (difference cs 3) (rowPlace d 0 + 81);
 }
 
 -- the terms of m pieces, over 2^s, of a coordinate within 2^20

@@ -10,7 +10,7 @@ use lib.Signed.{ltZ}
 use Rattle.integers.specs.Entry.{entry}
 use Rattle.integers.specs.Rounding.{floor, ceiling}
 use Rattle.curve_nodes.specs.Differences.{difference}
-use Rattle.bound_row_table.specs.Inside.{placeOf}
+use Rattle.bound_row_table.specs.Inside.{rowPlace}
 use Rattle.bound_coordinate.specs.declared.terms.Terms.{Terms}
 
 -- where a difference begins to read the rows at p: a negative one, whose high is the low row's, one number further on
@@ -24,8 +24,8 @@ termsOf m d cs = record {
   step = pos 10000 *ℤ (entry cs d -ℤ entry cs 0);
   difference0 = difference cs 0;
   difference1 = difference cs 1;
-  row0 = chosen (difference cs 0) (placeOf d 0);
-  row1 = chosen (difference cs 1) (placeOf d 1);
+  row0 = chosen (difference cs 0) (rowPlace d 0);
+  row1 = chosen (difference cs 1) (rowPlace d 1);
 }
 
 -- 10000 m times the chord's value at break point i

@@ -4,7 +4,7 @@ ghost use Prim.Native.Nat.{_<_, _≤_, _^_};
 ghost use Rattle.integers.specs.Entry.{entry};
 ghost use Rattle.curve_halves.specs.Sizes.{Each};
 ghost use Rattle.curve_nodes.specs.Differences.{difference};
-ghost use Rattle.bound_row_table.specs.Inside.{placeOf};
+ghost use Rattle.bound_row_table.specs.Inside.{rowPlace};
 ghost use Rattle.bound_coordinate.specs.Inside.{Boundable, Computed};
 ghost use Rattle.bound_coordinate.specs.Terms.{chosen, termsOf};
 
@@ -43,7 +43,7 @@ fn last_of(c: [i64; 6], degree: u32) -> i64
 // Where the rows of a degree's first and of its second difference begin among the copied rows.
 fn first_place(degree: u32) -> usize
     requires { ⌜ degree ≤ 3 ⌝ }
-    ensures { λ r. ⌜ r ≡ placeOf degree 0 ⌝ }
+    ensures { λ r. ⌜ r ≡ rowPlace degree 0 ⌝ }
 {
     if degree < 2 {
         return 81;
@@ -56,7 +56,7 @@ fn first_place(degree: u32) -> usize
 
 fn second_place(degree: u32) -> usize
     requires { ⌜ degree ≤ 3 ⌝ }
-    ensures { λ r. ⌜ r ≡ placeOf degree 1 ⌝ }
+    ensures { λ r. ⌜ r ≡ rowPlace degree 1 ⌝ }
 {
     if degree < 3 { 81 } else { 27 }
 }

@@ -4,7 +4,7 @@ ghost use Prim.Native.Nat.{_<_, _≤_, _*_, _^_};
 ghost use lib.ListN.{length};
 ghost use Rattle.integers.specs.Entry.{entry};
 ghost use Rattle.curve_halves.specs.Sizes.{Each};
-ghost use Rattle.bound_row_table.specs.Inside.{placeOf};
+ghost use Rattle.bound_row_table.specs.Inside.{rowPlace};
 ghost use Rattle.bound_coordinate.specs.Inside.{HigherBoundable, Small, Computed};
 ghost use Rattle.bound_coordinate.specs.Terms.{chosen, pairOf};
 ghost use Rattle.bound_coordinate.specs.Higher.{higherOf, HigherComputable, HigherComputableAt};
@@ -27,7 +27,7 @@ fn last_of(c: [i64; 6], degree: u32) -> i64
 // Where the rows of a degree begin among the copied rows.
 fn place_of(degree: u32) -> usize
     requires { ⌜ (4 ≤ degree) × (degree ≤ 5) ⌝ }
-    ensures { λ r. ⌜ (r ≡ placeOf degree 0) × (r ≤ 189) ⌝ }
+    ensures { λ r. ⌜ (r ≡ rowPlace degree 0) × (r ≤ 189) ⌝ }
 {
     if degree < 5 { 108 } else { 189 }
 }

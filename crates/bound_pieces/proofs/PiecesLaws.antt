@@ -20,7 +20,7 @@ use Rattle.curve_nodes.specs.Differences.{largestOf}
 use Rattle.bound_rows.specs.Rows.{Row, rowAt}
 use Rattle.bound_rows.specs.Table.{table, rowsOf}
 use Rattle.bound_rows.specs.Rule.{gapOf}
-use Rattle.bound_row_table.specs.Inside.{placeOf, tripleAt, Copied}
+use Rattle.bound_row_table.specs.Inside.{rowPlace, tripleAt, Copied}
 use Rattle.bound_rows.proofs.Gaps.{ordered}
 use Rattle.bound_rows.proofs.Rule.{rows-ordered}
 use Rattle.bound_pieces.specs.declared.Pieces.{Pieces}
@@ -40,7 +40,7 @@ pub rows-most : {m : ℕ} {rows : List ℤ} → HasRows m → Copied m rows → 
 rows-most h c = record { under = λ j. le-trans (c .each .under j) (mul-le-mul (le-refl 9000) (h .most)) }
 
 module _ {m d k i start : ℕ} {rows : List ℤ} (h : HasRows m) (c : Copied m rows) (hk : k < d - 1) (most : d ≤ mostDegree)
-    (takes : degreePieces d m ≡ true) (hi : i ≤ m) (e : start ≡ placeOf d k) where
+    (takes : degreePieces d m ≡ true) (hi : i ≤ m) (e : start ≡ rowPlace d k) where
   abbrev ρ : Row
   ρ = rowAt (rowsOf m d) k
 

@@ -3,7 +3,7 @@ ghost use mathlib.Core.Path.{_≡_};
 ghost use mathlib.Core.Bool.{true};
 ghost use Prim.Native.Nat.{_≤_, _<_, _-_, _+_, _*_, max};
 ghost use Rattle.setting.specs.Setting.{HasRows, degreePieces};
-ghost use Rattle.bound_row_table.specs.Inside.{placeOf, Copied};
+ghost use Rattle.bound_row_table.specs.Inside.{rowPlace, Copied};
 ghost use Rattle.bound_pieces.specs.Inside.{gapAt, gapsOf, piecesBy, piecesOf};
 
 // The number of pieces, 840 over it, the largest gap of degree 2, the corner of degree 3, whether its gaps are those of
@@ -31,7 +31,7 @@ pub struct Gaps {
 // Where the rows of second difference k of a degree begin among the copied rows.
 fn start_of(degree: u32, k: usize) -> usize
     requires { ⌜ (k < degree - 1) × (degree ≤ 5) ⌝ }
-    ensures { λ r. ⌜ (r ≡ placeOf degree k) × (r ≤ 270) ⌝ }
+    ensures { λ r. ⌜ (r ≡ rowPlace degree k) × (r ≤ 270) ⌝ }
 {
     if degree < 3 {
         return 54;

@@ -20,7 +20,7 @@ use Rattle.integers.proofs.Size.{abs-mul}
 use Rattle.curve_halves.specs.Sizes.{Each}
 use Rattle.bound_rows.specs.Rows.{Row, rowAt}
 use Rattle.bound_rows.specs.Table.{table, fewer, startOf, rowFrom, rowsAt, rowsOf}
-use Rattle.bound_row_table.specs.Inside.{blocksOf, placeOf, tripleAt, numberAt, Put, PutRows, Copied}
+use Rattle.bound_row_table.specs.Inside.{blocksOf, rowPlace, tripleAt, numberAt, Put, PutRows, Copied}
 use Rattle.bound_row_table.proofs.Entries.{entries-entry, table-entry-small, first-entry-small}
 
 -- the entries of fewer pieces, of one second difference
@@ -159,11 +159,11 @@ module _ {m at : ℕ} (d : ℕ) {l l′ : List ℤ} (p : PutRows at (d - 1) m (s
   of-degree k i j hk hi hj =
       p .row k i j hk hi hj ∙ ap (λ (ρ : Row). pos m *ℤ tripleAt ρ i j) (sym (row-from m (startOf m d) (d - 1) k hk))
 
-place-is : (d k : ℕ) → k < d - 1 → placeOf d k ≡ blocksOf d + 27 * k
+place-is : (d k : ℕ) → k < d - 1 → rowPlace d k ≡ blocksOf d + 27 * k
 place-is d k h = ap (λ (b : Bool). cond b (blocksOf d + 27 * k) 81) (lt-ltb (k + 1) d (omega arith))
 
 -- those of degrees 2 and 3 stand first
-pub low-place : (d k : ℕ) → d ≤ 3 → k ≤ 1 → placeOf d k ≤ 81
+pub low-place : (d k : ℕ) → d ≤ 3 → k ≤ 1 → rowPlace d k ≤ 81
 low-place d k l hk = rw (lt-ltb d 4 (suc-le-suc l)) (cases (ltb (k + 1) d) (ltb d 3))
   where
     cases : (a b : Bool) → cond a (cond b 54 0 + 27 * k) 81 ≤ 81
@@ -174,7 +174,7 @@ low-place d k l hk = rw (lt-ltb d 4 (suc-le-suc l)) (cases (ltb (k + 1) d) (ltb 
 -- ---- degrees 3 and 2, and the zeros
 pub record Begun (m : ℕ) (rows : List ℤ) : Type 0 where
   pub row : (d k i j : ℕ) → d ≤ 3 → k < d - 1 → i ≤ m → j < 3
-      → entry rows (placeOf d k + (3 * i + j)) ≡ pos m *ℤ tripleAt (rowAt (rowsOf m d) k) i j
+      → entry rows (rowPlace d k + (3 * i + j)) ≡ pos m *ℤ tripleAt (rowAt (rowsOf m d) k) i j
   pub none : (i : ℕ) → i < 27 → entry rows (81 + i) ≡ pos 0
   pub small : Each (5000 * m) rows
   pub whole : length rows ≡ 297
@@ -227,7 +227,7 @@ module _ {m : ℕ} {begun quartics rows : List ℤ} (has : HasRows m) (h : Begun
   same p b = five .earlier p (omega arith) ∙ four .earlier p b
 
   row : (d k i j : ℕ) → d ≤ mostDegree → k < d - 1 → i ≤ m → j < 3
-      → entry rows (placeOf d k + (3 * i + j)) ≡ pos m *ℤ tripleAt (rowAt (rowsOf m d) k) i j
+      → entry rows (rowPlace d k + (3 * i + j)) ≡ pos m *ℤ tripleAt (rowAt (rowsOf m d) k) i j
   row (suc (suc (suc (suc zero)))) k i j l hk hi hj =
       ap (λ (p : ℕ). entry rows (p + (3 * i + j))) (place-is 4 k hk)
       ∙ five .earlier (108 + 27 * k + (3 * i + j)) (omega (arith, has .most)) ∙ of-degree 4 four k i j hk hi hj
@@ -237,9 +237,9 @@ module _ {m : ℕ} {begun quartics rows : List ℤ} (has : HasRows m) (h : Begun
   row zero k i j l hk hi hj = absurd (omega arith)
   row (suc zero) k i j l hk hi hj = absurd (omega arith)
   row (suc (suc zero)) k i j l hk hi hj =
-      same (placeOf 2 k + (3 * i + j)) (omega (arith, low-place 2 k (lit≤ tt) (omega arith), has .most)) ∙ h .row 2 k i j (lit≤ tt) hk hi hj
+      same (rowPlace 2 k + (3 * i + j)) (omega (arith, low-place 2 k (lit≤ tt) (omega arith), has .most)) ∙ h .row 2 k i j (lit≤ tt) hk hi hj
   row (suc (suc (suc zero))) k i j l hk hi hj =
-      same (placeOf 3 k + (3 * i + j)) (omega (arith, low-place 3 k (lit≤ tt) (omega arith), has .most)) ∙ h .row 3 k i j (lit≤ tt) hk hi hj
+      same (rowPlace 3 k + (3 * i + j)) (omega (arith, low-place 3 k (lit≤ tt) (omega arith), has .most)) ∙ h .row 3 k i j (lit≤ tt) hk hi hj
 
   pub all-copied : Copied m rows
   all-copied = record {

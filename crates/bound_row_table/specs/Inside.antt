@@ -18,8 +18,8 @@ use Rattle.bound_rows.specs.Table.{table, rowFrom, rowsOf}
 abbrev pub blocksOf : ℕ → ℕ
 blocksOf d = cond (ltb d 3) 54 (cond (ltb d 4) 0 (cond (ltb d 5) 108 189))
 
-abbrev pub placeOf : (d k : ℕ) → ℕ
-placeOf d k = cond (ltb (k + 1) d) (blocksOf d + 27 * k) 81
+abbrev pub rowPlace : (d k : ℕ) → ℕ
+rowPlace d k = cond (ltb (k + 1) d) (blocksOf d + 27 * k) 81
 
 -- Three numbers a break point: the high, the low, and the high again. From the first on they are high and low, from the
 -- second on low and high.
@@ -52,7 +52,7 @@ pub record PutRows (at n m from : ℕ) (before after : List ℤ) : Type 0 where
 -- them, m times the rows of degrees 4 and 5. Those of degrees 2 and 3 are smaller.
 pub record Copied (m : ℕ) (rows : List ℤ) : Type 0 where
   pub row : (d k i j : ℕ) → d ≤ mostDegree → degreePieces d m ≡ true → k < d - 1 → i ≤ m → j < 3
-      → entry rows (placeOf d k + (3 * i + j)) ≡ pos m *ℤ tripleAt (rowAt (rowsOf m d) k) i j
+      → entry rows (rowPlace d k + (3 * i + j)) ≡ pos m *ℤ tripleAt (rowAt (rowsOf m d) k) i j
   pub none : (i : ℕ) → i < 27 → entry rows (81 + i) ≡ pos 0
   pub small : (p : ℕ) → p < 108 → natAbs (entry rows p) ≤ 5000 * m
   pub each : Each (9000 * m) rows
