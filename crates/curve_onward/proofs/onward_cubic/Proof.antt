@@ -1,27 +1,23 @@
 -- One coordinate of a cubic carried on: the sums are those of its rises, carried on.
-use native.Mathlib.Nat.{one-mul}
+use Prim.Native.Nat.{_^_}
 use borrow.Author.Needs.{needs}
-use Rattle.integers.proofs.Machine.{fits! }
-use Rattle.curve_halves.proofs.Halving.{coordinate, coordinates, are! }
-use Rattle.curve_onward.specs.Onward.{risen, onwardAt, onward}
+use Rattle.curve_halves.specs.Sizes.{Each}
+use Rattle.curve_onward.proofs.Kept.{rise-fits, sum-fits, onward-are}
 use Rattle.curve_onward.proofs.onward_cubic.Statement.{statement}
 use Rattle.curve_onward.proofs.onward_cubic.Tie as tie
 
+each : (c : tie.After-c3) → Each (2 ^ 46) (c .before .before .before .before .args .t2)
+each c = c .before .before .before .before .pre .1
+
 returns : tie.Need-returns
-unfolding risen onwardAt onward
-returns c =
-    let s = c .before .before .before .before in
-    rw (one-mul (s .args .k)) (are! (search (coordinates, s .pre .1) depth 40 fits 9999) tt)
+returns c = onward-are (each c) 2 (c .before .before .before .before .args .k) tt
 
 pub onward-cubic-spec : {M : Type 1} → statement M
 onward-cubic-spec =
     tie.close
-    (tie.spec (λ c. search needs) (λ c. search needs) (λ c. search needs) (λ c. search needs)
-    (λ c. fits! (search coordinate depth 40) tt) (λ c. fits! (search coordinate depth 40) tt)
-    (λ c. fits! (search coordinate depth 40) tt) (λ c. fits! (search coordinate depth 40) tt)
-    (λ c. fits! (search coordinate depth 40) tt) (λ c. search needs) (λ c. search needs)
-    (λ c. fits! (search coordinate depth 40) tt) (λ c. fits! (search coordinate depth 40) tt) (λ c. search needs)
-    (λ c. search needs) (λ c. search needs) (λ c. fits! (search coordinate depth 40) tt)
-    (λ c. fits! (search coordinate depth 40) tt) (λ c. search needs) (λ c. search needs) (λ c. search needs)
-    (λ c. fits! (search coordinate depth 40) tt) (λ c. fits! (search coordinate depth 40) tt)
-    (λ c. fits! (search coordinate depth 40 fits 9999) tt) returns)
+    (tie.spec (λ c. search needs) (λ c. search needs) (λ c. search needs) (λ c. search needs) (λ c. rise-fits (each c) 0 0 tt)
+    (λ c. rise-fits (each c) 0 1 tt) (λ c. rise-fits (each c) 0 2 tt) (λ c. rise-fits (each c) 1 0 tt) (λ c. rise-fits (each c) 1 1 tt)
+    (λ c. search needs) (λ c. search needs) (λ c. rise-fits (each c) 2 0 tt) (λ c. sum-fits (each c) 0 _ 2 0 tt tt) (λ c. search needs)
+    (λ c. search needs) (λ c. search needs) (λ c. sum-fits (each c) 1 _ 1 0 tt tt) (λ c. sum-fits (each c) 1 _ 1 1 tt tt) (λ c. search needs)
+    (λ c. search needs) (λ c. search needs) (λ c. sum-fits (each c) 2 _ 0 0 tt tt) (λ c. sum-fits (each c) 2 _ 0 1 tt tt)
+    (λ c. sum-fits (each c) 2 _ 0 2 tt tt) returns)

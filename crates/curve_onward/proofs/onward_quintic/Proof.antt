@@ -1,16 +1,14 @@
 -- One coordinate of a quintic carried on: it begins where the coordinate ends, and its rises are the coordinate's, carried on by the degree below.
 use mathlib.Core.Path.{_≡_, _∙_, ap}
-use Prim.Native.Nat.{_*_, _^_}
-use native.Mathlib.Omega.{arith}
+use Prim.Native.Nat.{_^_}
 use lib.Dec.{lit≤}
 use borrow.Author.Needs.{needs}
-use Rattle.integers.proofs.Machine.{fits! }
 use Rattle.curve_halves.specs.Halves.{padded}
 use Rattle.curve_halves.specs.Sizes.{Each}
 use Rattle.curve_halves.proofs.Sizes.{each-wider}
-use Rattle.curve_halves.proofs.Halving.{coordinate, coordinates, are! }
-use Rattle.curve_onward.specs.Onward.{rises, risen, onward}
-use Rattle.curve_onward.proofs.RisesLaws.{each-rises, each-carried, risen-onward}
+use Rattle.curve_onward.specs.Onward.{rises, onward}
+use Rattle.curve_onward.proofs.RisesLaws.{each-rises}
+use Rattle.curve_onward.proofs.Kept.{next-fits, next-are}
 use Rattle.curve_onward.proofs.onward_quintic.Statement.{statement}
 use Rattle.curve_onward.proofs.onward_quintic.Tie as tie
 
@@ -20,33 +18,25 @@ rises-requires c κs = each-wider (lit≤ tt) (c .pre .1)
 onward-quartic-requires : tie.Need-onward-quartic-requires
 onward-quartic-requires c κs = (c .before .pre .0, rw (c .rises .ensures) (each-rises (c .before .pre .1)))
 
--- what the degree below gave
-carried : (c : tie.After-onward-quartic)
-    → let s = c .before .before .args in c .onward-quartic .result ≡ padded (onward 4 (s .k) (padded (rises (s .t2))))
-carried c = c .onward-quartic .ensures ∙ ap (λ ds. padded (onward 4 (c .before .before .args .k) ds)) (c .before .rises .ensures)
+each : (c : tie.After-s4) → Each (2 ^ 44) (c .before .before .before .before .before .before .before .before .args .t2)
+each c = c .before .before .before .before .before .before .before .before .pre .1
 
-small : (c : tie.After-s4)
+-- what the degree below gave
+given : (c : tie.After-s4)
     → let s = c .before .before .before .before .before .before in
-    Each (2 ^ 44) (s .before .before .args .t2) × Each (3 ^ 4 * (2 * 2 ^ 44)) (s .onward-quartic .result)
-small c =
+    s .onward-quartic .result ≡ padded (onward 4 (s .before .before .args .k) (padded (rises (s .before .before .args .t2))))
+given c =
     let s = c .before .before .before .before .before .before in
-    let h = s .before .before .pre .1 in
-    (h, each-carried 4 (s .before .before .args .k) _ (carried s) h)
+    s .onward-quartic .ensures ∙ ap (λ ds. padded (onward 4 (s .before .before .args .k) ds)) (s .before .rises .ensures)
 
 returns : tie.Need-returns
-unfolding risen
-returns c =
-    let s = c .before .before .before .before .before .before in
-    are! (search (coordinates, small c .0, small c .1) depth 40 fits 9999) tt
-    ∙ risen-onward 4 (s .before .before .args .k) _ (carried s) (omega arith)
+returns c = next-are (each c) 4 _ (given c) tt tt
 
 pub onward-quintic-spec : {M : Type 1} → statement M
 onward-quintic-spec =
     tie.close
-    (tie.spec rises-requires onward-quartic-requires (λ c. search needs) (λ c. search needs) (λ c. search needs)
+    (tie.spec rises-requires onward-quartic-requires (λ c. search needs) (λ c. search needs) (λ c. search needs) (λ c. search needs)
     (λ c. search needs) (λ c. search needs) (λ c. search needs) (λ c. search needs) (λ c. search needs)
-    (λ c. search needs) (λ c. fits! (search (coordinate, small c) depth 40 fits 9999) tt)
-    (λ c. fits! (search (coordinate, small c) depth 40 fits 9999) tt)
-    (λ c. fits! (search (coordinate, small c) depth 40 fits 9999) tt)
-    (λ c. fits! (search (coordinate, small c) depth 40 fits 9999) tt)
-    (λ c. fits! (search (coordinate, small c) depth 40 fits 9999) tt) returns)
+    (λ c. next-fits (each c) 4 _ (given c) tt 0 tt tt) (λ c. next-fits (each c) 4 _ (given c) tt 1 tt tt)
+    (λ c. next-fits (each c) 4 _ (given c) tt 2 tt tt) (λ c. next-fits (each c) 4 _ (given c) tt 3 tt tt)
+    (λ c. next-fits (each c) 4 _ (given c) tt 4 tt tt) returns)

@@ -1,17 +1,20 @@
 -- The rises of one coordinate.
+use Prim.Native.Nat.{_^_}
 use borrow.Author.Needs.{needs}
-use Rattle.integers.proofs.Machine.{fits! }
-use Rattle.curve_halves.proofs.Halving.{coordinate, coordinates, are! }
+use Rattle.curve_halves.specs.Sizes.{Each}
+use Rattle.curve_onward.proofs.Kept.{rise-fits, rises-are}
 use Rattle.curve_onward.proofs.rises.Statement.{statement}
 use Rattle.curve_onward.proofs.rises.Tie as tie
 
+each : (c : tie.After-c5) → Each (2 ^ 45) (c .before .before .before .before .before .before .args .t1)
+each c = c .before .before .before .before .before .before .pre
+
 returns : tie.Need-returns
-returns c = are! (search (coordinates, c .before .before .before .before .before .before .pre) depth 40) tt
+returns c = rises-are (each c) tt
 
 pub rises-spec : {M : Type 1} → statement M
 rises-spec =
     tie.close
-    (tie.spec (λ c. search needs) (λ c. search needs) (λ c. search needs) (λ c. search needs) (λ c. search needs)
-    (λ c. search needs) (λ c. fits! (search coordinate depth 40) tt) (λ c. fits! (search coordinate depth 40) tt)
-    (λ c. fits! (search coordinate depth 40) tt) (λ c. fits! (search coordinate depth 40) tt)
-    (λ c. fits! (search coordinate depth 40) tt) returns)
+    (tie.spec (λ c. search needs) (λ c. search needs) (λ c. search needs) (λ c. search needs) (λ c. search needs) (λ c. search needs)
+    (λ c. rise-fits (each c) 0 0 tt) (λ c. rise-fits (each c) 0 1 tt) (λ c. rise-fits (each c) 0 2 tt) (λ c. rise-fits (each c) 0 3 tt)
+    (λ c. rise-fits (each c) 0 4 tt) returns)
