@@ -1,7 +1,6 @@
--- Halving one coordinate in code. Its control values are bounded by `Each`, so each sum fits, and what is returned is a list of formulas in them:
---     add-s0 c = fits! (search coordinate depth 40) tt
---     returns c = simp one-*ℤ (are! (search (coordinates, c .before .before .pre) depth 40) tt)
--- with the path to `Each`. The formulas are the definition's own but for its factor 2^0, which `one-*ℤ` takes away.
+-- A list of control values as code returns it: each is a formula in control values that `Each` bounds, and the list is that of the formulas' values,
+--     returns c = are! (search (coordinates, c .before .pre) depth 40) tt
+-- with the path to `Each`.
 use mathlib.Core.Path.{_≡_, refl, ap₂}
 use mathlib.Core.Bool.{Bool, true, _&&_}
 use mathlib.Core.List.{List, [], _∷_}
