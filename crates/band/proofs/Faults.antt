@@ -1,4 +1,4 @@
--- The checks before the walk, 18, 1 to 6 and 17, refuse with their own numbers: so the answer of banding shows whether an outline passed them.
+-- The checks before the walk, 18, 1 to 6, 20 and 17, refuse with their own numbers: so the answer of banding shows whether an outline passed them.
 use mathlib.Core.Path.{_≡_, refl, ap, subst}
 use mathlib.Core.Bool.{Bool, true, false}
 use mathlib.Core.Logic.{_⊎_, inl, inr, ⊎-elim}

@@ -37,7 +37,7 @@ use Rattle.band.proofs.Faults.{Early, banded-curves, faultless-or}
 use Rattle.band.proofs.Answers.{all-records-length, written-refused}
 use Rattle.band.proofs.Cases.{wide-said, many-said, few-said, done-said, said-wide, said-many, said-few, said-done}
 
--- ---- the answer of banding, behind the checks before the walk: 18, 1 to 6 and 17
+-- ---- the answer of banding, behind the checks before the walk: 18, 1 to 6, 20 and 17
 module _ (σ : Setting) (T : ℤ) (ns : List ℤ) (room : ℕ) where
   -- an answer that is no refusal of these is the answer for the outline's curves
   of-curves : {v : Banded} → ((r : Refusal) → Early r → Refused r ≡ v → ⊥) → banded σ T ns room ≡ v

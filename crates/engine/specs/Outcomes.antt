@@ -20,16 +20,17 @@ use Rattle.demand_3.specs.Demand3.{OutlineDemand3}
 abbrev pub writtenFor : Setting → ℤ → List ℤ → (x y : ℤ) → List ℤ → List ℤ
 writtenFor σ T ns x y old = elim (pointFault x y) [ some r ↦ old | none ↦ written σ T ns old ]
 
--- ---- the answer the outcome is a judgement of the leaves rs in which nothing is refused, beside the report of a
--- curves, b leaves and c nodes
+-- ---- the answer
+-- The outcome is a judgement of the leaves rs in which nothing is refused, beside the report of a curves, b leaves and
+-- c nodes.
 pub record JudgedAs (σ : Setting) (T : ℤ) (ns rs : List ℤ) (x y : ℤ) (a b c : ℕ) (outcome : Outcome) : Type 0 where
   pub judgement : Judgement
   pub is : outcome ≡ Judged a b c judgement
   pub judged : Verdict σ none rs x y judgement
   pub demand-3 : OutlineDemand3 σ T ns rs x y judgement
 
--- checks 1 to 8, then 11, then the judgement of the leaves: of as many records as there are leaves, at the front of
--- what banding leaves in the list
+-- The checks of banding, then 11, then the judgement of the leaves: of as many records as there are leaves, at the
+-- front of what banding leaves in the list.
 abbrev pub Answered : Setting → ℤ → List ℤ → (x y : ℤ) → List ℤ → Outcome → Type 0
 Answered σ T ns x y old outcome =
     elim (banded σ T ns (length old)) [
