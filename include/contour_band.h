@@ -65,11 +65,12 @@ extern "C" {
 
 /* What the bench station takes; how many numbers it must lend for its leaves at most; and how many bytes of stack its call
  * takes at most, whatever it is given. The call calls nothing but functions of the library, none of which calls itself or
- * has an array that goes with the input; rust/contour-band/tests/stack.c measures it. */
+ * has an array that goes with the input; rust/contour-band/tests/stack.c measures it at every degree and every m, and what
+ * is promised is a fifth more than the most that was seen. */
 #define CONTOUR_BAND_STATION_CURVES_MAX 64
 #define CONTOUR_BAND_STATION_LEAVES_MAX 128
 #define CONTOUR_BAND_STATION_ROOM(m) (CONTOUR_BAND_STATION_LEAVES_MAX * CONTOUR_BAND_RECORD(m))
-#define CONTOUR_BAND_STATION_STACK 5120
+#define CONTOUR_BAND_STATION_STACK 6144
 
 /* The largest number of a box and of a point, in sixteenths of a stage unit; its negative is the least. */
 #define CONTOUR_BAND_FARTHEST 536870912

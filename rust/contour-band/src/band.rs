@@ -72,7 +72,7 @@ pub const STATION_LEAVES: usize = 128;
 /// Puts a band round an outline for the bench station, which has little memory: it takes
 /// [`STATION_CURVES`] curves and [`STATION_LEAVES`] leaves. What it accepts, [`band`] accepts with the same
 /// report and the same records; and what [`band`] accepts with no more curves and leaves than these, it
-/// accepts. All else is as in [`band`].
+/// accepts. A call takes at most 6 KiB of stack, whatever it is given. All else is as in [`band`].
 ///
 /// ```
 /// use contour_band::{band, record_length, station_band, Refusal, STATION_LEAVES};

@@ -81,14 +81,24 @@ fn a_c_program_gets_the_same_answers() {
     assert_eq!(printed(&c::root().join("rust/contour-band/tests/header.c"), "header"), EXPECTED);
 }
 
-/// What the header says of the station's stack. It is refused or it is banded, with the most leaves or few.
+/// What the header says of the station's stack, for curves of each degree. An outline is refused or it is
+/// banded, with the most leaves or few.
 #[test]
 fn the_station_takes_little_stack() {
     let printed = printed(&c::root().join("rust/contour-band/tests/stack.c"), "stack");
-    let bytes: Vec<i32> = printed.lines().map(|line| line.parse().expect("a number is printed")).collect();
-    let (least, most) = (bytes.iter().min().expect("some are"), bytes.iter().max().expect("some are"));
-    println!("the station's stack: {least} to {most} bytes in {} calls", bytes.len());
-    assert!(*most <= 5_120, "{most} bytes of stack");
+    let (promised, calls) = printed.split_once('\n').expect("lines are printed");
+    assert_eq!(promised, "6144");
+    let mut most = [0; 5];
+    for call in calls.lines() {
+        let (degree, bytes) = call.split_once(' ').expect("two numbers are printed");
+        let degree: usize = degree.parse().expect("a degree is printed");
+        let bytes: i32 = bytes.parse().expect("a number is printed");
+        assert!(bytes <= 6_144, "{bytes} bytes of stack at degree {degree}");
+        most[degree - 1] = bytes.max(most[degree - 1]);
+    }
+    println!("the station's stack in {} calls, the most bytes by degree: {most:?}", calls.lines().count());
+    // Some outline of each degree is walked: a refusal before the walk takes less than 300 bytes.
+    assert!(most.iter().all(|bytes| *bytes > 1_024), "{most:?}");
 }
 
 #[test]

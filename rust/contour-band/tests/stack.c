@@ -1,5 +1,6 @@
 /* How much stack contour_station_band takes: each call runs on a stack of its own, filled with one byte beforehand, and what it
- * did not touch is counted from the far end. Prints the bytes of each call, to be compared by header.rs. */
+ * did not touch is counted from the far end. Prints the bytes that the header promises, then a line for each call, its degree
+ * and its bytes, to be compared by header.rs. */
 #define _XOPEN_SOURCE 700
 #include "contour_band.h"
 
@@ -14,7 +15,7 @@ static unsigned char stack[SIZE];
 static ucontext_t caller, callee;
 
 /* What the call is given. */
-static int32_t outline[9 * 66], records[CONTOUR_BAND_STATION_ROOM(CONTOUR_BAND_PIECES_MAX)];
+static int32_t outline[(3 + 2 * CONTOUR_BAND_DEGREE_MAX) * 66], records[CONTOUR_BAND_STATION_ROOM(CONTOUR_BAND_PIECES_MAX)];
 static size_t outline_length, records_length;
 static int32_t tolerance;
 static uint32_t m;
@@ -58,6 +59,7 @@ static void curves(int count, int degree, int32_t far) {
 int main(void) {
     const int32_t far[] = {0, 1, 800, CONTOUR_BAND_COORDINATE_MAX};
     const int32_t tolerances[] = {1, 2, 3, 100, CONTOUR_BAND_TOLERANCE_MAX};
+    printf("%d\n", CONTOUR_BAND_STATION_STACK);
     /* A program's first call of a function may be the loader's too. */
     m = 1;
     tolerance = 100;
@@ -65,12 +67,12 @@ int main(void) {
     touched(1);
     for (m = 0; m <= CONTOUR_BAND_PIECES_MAX + 1; m++) {
         for (int count = 0; count <= 66; count += count < 4 ? 1 : 31) {
-            for (int degree = 1; degree <= 3; degree++) {
+            for (int degree = 1; degree <= CONTOUR_BAND_DEGREE_MAX; degree++) {
                 for (int i = 0; i < 4 * 5 * 2; i++) {
                     curves(count, degree, far[i / 10]);
                     tolerance = tolerances[i % 10 / 2];
                     records_length = i % 2 ? sizeof records / sizeof *records : 0;
-                    printf("%d\n", touched(1) - touched(0));
+                    printf("%d %d\n", degree, touched(1) - touched(0));
                 }
             }
         }
