@@ -1,6 +1,6 @@
 -- What a caller may conclude from demand 3. Each law uses a definition in which it ends, so that a weaker one is seen here.
 use mathlib.Core.Path.{_≡_, refl, sym, _∙_, subst}
-use mathlib.Core.List.{List, [], _∷_, List·Memᴰ}
+use mathlib.Core.List.{List, [], _∷_, List·Memᴰ, List·Memᴰ·eq-of-singleton}
 use mathlib.Core.Option.{some}
 use Prim.Native.Nat.{ℕ, _+_, _*_, _≤_, _<_}
 use lib.Dec.{lit<}
@@ -9,15 +9,16 @@ use lib.IntN.{ℤ, pos, negℤ, _+ℤ_, pow, one}
 use lib.Signed.{_≤ℤ_, leZ-yes}
 use Rattle.integers.specs.Entry.{entry}
 use Rattle.integers.specs.First.{firstBad}
-use Rattle.integers.proofs.Ring.{sides}
+use Rattle.integers.specs.Squares.{squared}
+use Rattle.integers.proofs.Ring.{ring, sides}
 use Rattle.integers.proofs.Between.{between-low}
-use Rattle.integers.proofs.Order.{NonNeg, gap, natural, nonneg-by, le-by, pos-lt, pow-positive, *ℤ-cancel, _+₀_, _×₀_}
+use Rattle.integers.proofs.Order.{NonNeg, gap, natural, nonneg-by, le-by, pos-lt, pow-positive, times-positive, *ℤ-cancel, _+₀_, _×₀_}
 use Rattle.curve_bernstein.specs.Value.{choose, sum, value}
 use Rattle.curve_halves.specs.Sizes.{Each}
 use Rattle.curve_nodes.specs.declared.Curve.{Curve}
 use Rattle.curve_nodes.specs.Bounds.{Sized}
 use Rattle.curve_nodes.specs.Nodes.{depth}
-use Rattle.curve_nodes.specs.Points.{Equals, Near}
+use Rattle.curve_nodes.specs.Points.{Equals, Within, Near}
 use Rattle.curve_nodes.specs.Differences.{largestOf, bend, largest}
 use Rattle.curve_nodes.proofs.Points.{within-near}
 use Rattle.curve_nodes.proofs.Values.{value-high, value-low}
@@ -138,3 +139,36 @@ eighths-flat-from-37 = leZ-yes tt
 pub eighths-not-flat-at-36 : Flat (lists 8) (pos 36) bow 0 → ⊥
 unfolding largest bend largestOf gapOf rowsOf table
 eighths-not-flat-at-36 f = f .le
+
+-- ---- an outline that is one point, (0 0): what is judged on lies in the circle of radius T round it, and not only in the square
+abbrev zeros : List ℤ
+zeros = pos 0 ∷ pos 0 ∷ pos 0 ∷ pos 0 ∷ pos 0 ∷ pos 0 ∷ []
+
+abbrev dot : Curve
+dot = record { degree = 1; x = zeros; y = zeros }
+
+abbrev dotted : List ℤ
+dotted = pos 1 ∷ pos 0 ∷ pos 0 ∷ pos 0 ∷ pos 0 ∷ []
+
+of-dotted : outlined (standard .most) (standard .pieces) dotted ≡ curves (dot ∷ [])
+unfolding outlined outlineFrom faultAt firstBad curveAt
+of-dotted = refl
+
+dot-value : (p r : ℤ) → value p r 1 zeros ≡ pos 0
+unfolding value sum choose pow one
+dot-value p r = ring (p ∷ r ∷ []) (search sides depth 40 fits 9999) refl
+
+in-circle : (T x y : ℤ) (p r : ℕ) → 0 < p + r → Within T dot p r x y → (squared x +ℤ squared y) ≤ℤ squared T
+in-circle T x y p r nonzero w =
+    let W = pow (pos (p + r)) 1 in
+    let h = rw (dot-value (pos p) (pos r)) at (w .distance) in
+    let positive = pow-positive (pos-lt nonzero) 1 in
+    *ℤ-cancel (times-positive positive positive) (le-by (W ∷ x ∷ y ∷ T ∷ []) (gap h) (search sides depth 40 fits 9999) refl)
+
+pub on-in-circle : (T : ℤ) (old : List ℤ) (a b c : ℕ) → banded standard T dotted (length old) ≡ Done a b c → (x y : ℤ) (answer : Judgement)
+    → JudgedSo standard (take (recordLength standard * b) (written standard T dotted old)) x y answer → IsOn answer → (squared x +ℤ squared y) ≤ℤ squared T
+on-in-circle T old a b c done x y answer judged on =
+    let d = claim standard T dotted old a b c done x y answer judged in
+    let s = d .demand-3 .every-on-near on in
+    let one = List·Memᴰ·eq-of-singleton (subst (λ cs. List·Memᴰ (s .curve) cs) (same-curves (d .are) of-dotted) (of-member (s .of))) in
+    in-circle T x y (s .p) (s .r) (s .some) (subst (λ e. Within T e (s .p) (s .r) x y) one (s .near))
