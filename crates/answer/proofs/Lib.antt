@@ -3,4 +3,5 @@ pub mod Bands
 pub mod Judging
 pub mod Answers
 pub mod TextDemand
+pub mod Consequences
 pub mod Examples

@@ -2,7 +2,8 @@
 use mathlib.Core.Path.{_≡_, refl, sym, _∙_, subst}
 use mathlib.Core.List.{List, [], _∷_, List·Memᴰ, List·Memᴰ·eq-of-singleton}
 use mathlib.Core.Option.{some}
-use Prim.Native.Nat.{ℕ, _+_, _*_, _≤_, _<_}
+use Prim.Native.Nat.{ℕ, _+_, _*_, _^_, _≤_, _<_}
+use native.Mathlib.Omega.{arith}
 use lib.Dec.{lit<}
 use lib.ListN.{length, take}
 use lib.IntN.{ℤ, pos, negℤ, _+ℤ_, pow, one}
@@ -17,7 +18,7 @@ use Rattle.curve_bernstein.specs.Value.{choose, sum, value}
 use Rattle.curve_halves.specs.Sizes.{Each}
 use Rattle.curve_nodes.specs.declared.Curve.{Curve}
 use Rattle.curve_nodes.specs.Bounds.{Sized}
-use Rattle.curve_nodes.specs.Nodes.{depth}
+use Rattle.curve_nodes.specs.Nodes.{depth, start}
 use Rattle.curve_nodes.specs.Points.{Equals, Within, Near}
 use Rattle.curve_nodes.specs.Differences.{largestOf, bend, largest}
 use Rattle.curve_nodes.proofs.Points.{within-near}
@@ -35,13 +36,14 @@ use Rattle.band.specs.Outcomes.{Flat}
 use Rattle.band.proofs.Theorems.{done-exactly}
 use Rattle.judge.specs.declared.judging.Judgement.{Judgement}
 use Rattle.judge.specs.Judging.{Judged as JudgedSo}
-use Rattle.demand_3.specs.Demand3.{CurveOf, IsOn, Somewhere, OutlineDemand3}
+use Rattle.demand_3.specs.Demand3.{CurveOf, IsOn, Somewhere, Shallow, OutlineDemand3}
+use Rattle.demand_3.specs.Meeting.{CoveredTwice}
 use Rattle.demand_3.specs.Starred.{A}
 use Rattle.demand_3.proofs.Demand3.{small, of-member, demand-3}
 use Rattle.demand_3.proofs.Meeting.{same-curves}
 
 -- ---- a point near a curve lies no farther than T from the square in which control points lie, 16 × 1,048,576 sixteenths each way
-abbrev Reach : ℤ → ℤ → Type 0
+abbrev pub Reach : ℤ → ℤ → Type 0
 Reach T z = (negℤ (pos 16777216 +ℤ T) ≤ℤ z) × (z ≤ℤ (pos 16777216 +ℤ T))
 
 near-in-reach : (T : ℤ) (d p r : ℕ) (cs : List ℤ) → Each 1048576 cs → 0 < p + r → (z : ℤ) → Near T d p r cs z → Reach T z
@@ -65,6 +67,13 @@ somewhere-in-reach T cs sized x y nonneg s =
       near-in-reach T (c .degree) (s .p) (s .r) (c .y) (each .1) (s .some) y (near .1),
     )
 
+-- ---- the node that stands in a record of depth at most j
+pub shallow-depth : {σ : Setting} {rs : List ℤ} {i j n : ℕ} → Shallow σ rs i j → entry rs (recordLength σ * i + 1) ≡ pos n → depth n ≤ j
+shallow-depth {j = j} s is = subst (λ m. depth m ≤ j) (natural-is (sym (s .is) ∙ is)) (s .depth-at-most)
+  where
+    natural-is : {m n : ℕ} → pos m ≡ pos n → m ≡ n
+    natural-is e = cc
+
 -- ---- an outline that is banded, and whatever judging answers to its leaves
 module _ (σ : Setting) (T : ℤ) (ns old : List ℤ) (a b c : ℕ) (done : banded σ T ns (length old) ≡ Done a b c) where
   abbrev leaves : List ℤ
@@ -87,14 +96,10 @@ module _ (σ : Setting) (T : ℤ) (ns old : List ℤ) (a b c : ℕ) (done : band
         → (k : ℕ) (c : Curve) → CurveOf cs k c → entry leaves (recordLength σ * i) ≡ pos k
         → (j : ℕ) → Flat σ T c j → (n : ℕ) → entry leaves (recordLength σ * i + 1) ≡ pos n → depth n ≤ j
     leaf-depth i h cs o k c of e j flat n is =
-        let s = claim .demand-3 .every-leaf-shallow i h k c (rw (same-curves (claim .are) o) of) e j flat in
-        subst (λ m. depth m ≤ j) (natural-is (sym (s .is) ∙ is)) (s .depth-at-most)
-      where
-        natural-is : {m n : ℕ} → pos m ≡ pos n → m ≡ n
-        natural-is e = cc
+        shallow-depth (claim .demand-3 .every-leaf-shallow i h k c (rw (same-curves (claim .are) o) of) e j flat) is
 
 -- ---- curve A: half-way it is at (240 360), which is on at every tolerance and with every list lent
-abbrev curveA : Curve
+abbrev pub curveA : Curve
 curveA = record {
   degree = 3;
   x = pos 0 ∷ pos 10 ∷ pos 20 ∷ pos 30 ∷ pos 0 ∷ pos 0 ∷ [];
@@ -105,7 +110,7 @@ of-a : outlined (standard .most) (standard .pieces) A ≡ curves (curveA ∷ [])
 unfolding outlined outlineFrom faultAt firstBad curveAt
 of-a = refl
 
-half-way : Equals curveA 1 1 (pos 240) (pos 360)
+pub half-way : Equals curveA 1 1 (pos 240) (pos 360)
 unfolding value sum choose pow one
 half-way = record { in-x = refl; in-y = refl }
 
@@ -172,3 +177,9 @@ on-in-circle T old a b c done x y answer judged on =
     let s = d .demand-3 .every-on-near on in
     let one = List·Memᴰ·eq-of-singleton (subst (λ cs. List·Memᴰ (s .curve) cs) (same-curves (d .are) of-dotted) (of-member (s .of))) in
     in-circle T x y (s .p) (s .r) (s .some) (subst (λ e. Within T e (s .p) (s .r) x y) one (s .near))
+
+-- ---- the point between two curves: of the leaf that holds it at the end of the one, the stretch ends where the curve does; of the leaf that holds it
+-- at the start of the next, the stretch begins where that curve does
+pub twice-at-the-ends : {σ : Setting} {rs : List ℤ} {k : ℕ} {x y : ℤ} {answer : Judgement} (t : CoveredTwice σ rs k x y answer)
+    → (2 ^ depth (t .last-leaf .node) ≤ start (t .last-leaf .node) + 1) × (start (t .first-leaf .node) ≡ 0)
+twice-at-the-ends t = (omega (arith, t .last-leaf .parameter .to), omega (arith, t .first-leaf .parameter .from))
