@@ -1,11 +1,11 @@
--- Examples of banding beside the starred ones, by computation: what stands behind the records, two curves, the spots of 7, 8
--- and 19, and a list that is left as it was.
+-- Examples of banding beside the starred ones, by computation: what stands behind the records, two curves, the spots of 7, 8,
+-- 18 and 19, and a list that is left as it was.
 use mathlib.Core.Path.{_≡_, refl}
 use mathlib.Core.List.{List, [], _∷_, _++_}
 use Prim.Native.Nat.{ℕ}
 use lib.ListN.{replicate}
 use lib.IntN.{ℤ, pos}
-use Rattle.setting.specs.Setting.{standard, limited}
+use Rattle.setting.specs.Setting.{standard, lists, limited}
 use Rattle.refusals.specs.Refusals.{numberOf, spotOf}
 use Rattle.band.specs.declared.banding.Banded.{Banded}
 use Rattle.band.specs.declared.banding.Banded.the-variants.{Done, Refused}
@@ -58,6 +58,15 @@ two-curves = refl
 pub second-too-wide : refusal (answer (pos 2) (pos 1 ∷ pos 0 ∷ pos 1 ∷ pos 0 ∷ pos 0 ∷ tall) 0) ≡ (7, 768)
 unfolding computing
 second-too-wide = refl
+
+-- ---- 18: no pieces, or nine; before 1 and 6
+pub no-pieces : refusal (banded (lists 0) (pos 1) [] 0) ≡ (18, 0)
+unfolding computing
+no-pieces = refl
+
+pub nine-pieces : refusal (banded (lists 9) (pos 1) [] 0) ≡ (18, 0)
+unfolding computing
+nine-pieces = refl
 
 -- ---- 19: more leaves than the one that is taken; after 7 and before 8, and its spot is all of them
 pub too-many : refusal (banded (limited 64 1 3) (pos 2) three-lines 0) ≡ (19, 3)

@@ -10,3 +10,4 @@ pub mod Sound
 pub mod Faults
 pub mod Theorems
 pub mod Station
+pub mod Consequences
