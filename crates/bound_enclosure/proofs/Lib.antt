@@ -3,5 +3,6 @@ pub mod Examples
 pub mod SecondDifferences
 pub mod Negation
 pub mod Enclosure
+pub mod Consequences
 pub mod Width
 pub mod Reduced

@@ -3,13 +3,14 @@
 use mathlib.Core.Path.{_≡_, refl}
 use mathlib.Core.Bool.{Bool, cond, _&&_}
 use mathlib.Core.List.{[], _∷_}
-use Prim.Native.Nat.{ℕ, _-_}
+use Prim.Native.Nat.{ℕ, _-_, _≤_, _<_, suc-le-suc}
 use lib.Dec.{T, eqb}
 use lib.IntN.{ℤ, pos, negℤ, _+ℤ_, _-ℤ_, _*ℤ_, pow, one}
-use lib.Signed.{leZ}
+use lib.Signed.{leZ, leZ-yes}
 use Rattle.integers.specs.Entry.{entry}
 use Rattle.integers.proofs.Ring.{ring, sides}
-use Rattle.integers.proofs.Table.{every-below}
+use Rattle.integers.proofs.Order.{≤ℤ-antisymm}
+use Rattle.integers.proofs.Table.{and-left, and-right, every-below, below}
 use Rattle.curve_bernstein.specs.Value.{choose, sum, value}
 use Rattle.curve_nodes.specs.Differences.{difference}
 use Rattle.bound_rows.specs.Hats.{hat}
@@ -39,3 +40,14 @@ as-said d k = same (entry (hat d k) 0) (pos 0) && same (entry (hat d k) d) (pos 
 pub hats-tested : T (every-below 6 (λ d. every-below (d - 1) (as-said d)))
 unfolding hat
 hats-tested = tt
+
+-- so each second difference of each of them
+pub hat-difference : (d k l : ℕ) → d ≤ 5 → k < d - 1 → l < d - 1 → difference (hat d k) l ≡ cond (eqb k l) (pos d) (pos 0)
+hat-difference d k l hd hk hl =
+    let ends = same (entry (hat d k) 0) (pos 0) && same (entry (hat d k) d) (pos 0) in
+    let differs : ℕ → Bool = λ l. same (difference (hat d k) l) (cond (eqb k l) (pos d) (pos 0)) in
+    let x = difference (hat d k) l in
+    let y = cond (eqb k l) (pos d) (pos 0) in
+    let said = below (d - 1) (as-said d) (below 6 (λ d. every-below (d - 1) (as-said d)) hats-tested d (suc-le-suc hd)) k hk in
+    let t = below (d - 1) differs (and-right ends (every-below (d - 1) differs) said) l hl in
+    ≤ℤ-antisymm (leZ-yes (and-left (leZ x y) (leZ y x) t)) (leZ-yes (and-right (leZ x y) (leZ y x) t))

@@ -9,3 +9,4 @@ pub mod Places
 pub mod Tabled
 pub mod Claim
 pub mod Rule
+pub mod Consequences
