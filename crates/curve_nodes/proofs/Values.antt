@@ -2,6 +2,7 @@
 use mathlib.Core.Path.{_≡_, refl, _∙_, ap, ap₂}
 use mathlib.Core.List.{List}
 use Prim.Native.Nat.{ℕ, zero, suc, _-_, _≤_, _<_}
+use native.Mathlib.Nat.{le-of-eq}
 use lib.IntN.{ℤ, pos, negℤ, _+ℤ_, _*ℤ_}
 use lib.Signed.{_≤ℤ_}
 use Rattle.setting.specs.Setting.{mostDegree}
@@ -28,6 +29,10 @@ pub mirror-curve : (c : Curve) → c .degree ≤ mostDegree → reversedOf (righ
 unfolding leftHalf rightHalf reversedOf
 mirror-curve c h =
     ap₂ (λ (xs ys : List ℤ). record { degree = c .degree; x = xs; y = ys }) (mirror-padded (c .degree) h (c .x)) (mirror-padded (c .degree) h (c .y))
+
+-- so at the greatest degree too
+pub mirror-quintic : (c : Curve) → c .degree ≡ 5 → reversedOf (rightHalf c) ≡ leftHalf (reversedOf c)
+mirror-quintic c e = mirror-curve c (le-of-eq e)
 
 module _ (p r : ℤ) (b : ℕ) (hb : b < 2) (c : Curve) (h : c .degree ≤ mostDegree) where
   pub curve-half-x : value p r (c .degree) (halfOf b c .x) ≡ value (pos b *ℤ (p +ℤ r) +ℤ p) (pos (1 - b) *ℤ (p +ℤ r) +ℤ r) (c .degree) (c .x)
