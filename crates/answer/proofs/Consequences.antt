@@ -1,5 +1,5 @@
--- What a reader of the answer may conclude from demand 3 of the text program. Each law uses a definition in which it ends, so that a weaker one is seen
--- here.
+-- What a reader of the answer may conclude from demand 3 of the text program. Each law uses a definition in which it ends, so that a weaker one is
+-- seen here.
 use mathlib.Core.Path.{_≡_, refl, sym, _∙_, subst}
 use mathlib.Core.List.{List, [], _∷_, _++_, append-cancel-left, append-cancel-right}
 use mathlib.Core.Option.{none}

@@ -1,4 +1,4 @@
--- What the enclosure says of document 01's own rows: three pieces, degrees 1 to 3. It uses that the table has these rows, so that less of it is seen here.
+-- The enclosure by document 01's own rows: three pieces, degrees 1 to 3. It uses that the table has them, so that a weaker law of it is seen here.
 use mathlib.Core.Path.{subst}
 use mathlib.Core.List.{List}
 use Prim.Native.Nat.{ℕ, _≤_, _<_}

@@ -1,5 +1,5 @@
--- What the rule of the table and document 01's claim say of single entries of a row. Each law uses a definition in which they end, so that a weaker one
--- is seen here.
+-- What the rule of the table and document 01's claim say of single entries of a row. Each law uses a definition in which they end, so that a weaker
+-- one is seen here.
 use mathlib.Core.Path.{_≡_, refl}
 use mathlib.Core.List.{List, [], _∷_}
 use Prim.Native.Nat.{ℕ, zero, suc, _+_, _<_}
@@ -36,15 +36,21 @@ module _ (ρ : Row) (ruled : Ruled 2 2 0 ρ) where
   unfolding hat value sum choose pow one floor ceiling
   at-least = (ruled .low 0 (lit≤ tt), ruled .low 1 (lit≤ tt), ruled .low 2 (lit≤ tt))
 
+  first-half-way : Place 2 0 2 2 1 3
+  first-half-way = record { whole = refl; at = refl }
+
+  last-half-way : Place 2 1 2 2 3 1
+  last-half-way = record { whole = refl; at = refl }
+
   first-piece : (low 0 +ℤ low 1) ≤ℤ minus 3750
   unfolding hat value sum choose pow one
   first-piece = *ℤ-cancel {k = pos 16} (ltZ-yes tt)
-      (le-by (low 0 ∷ low 1 ∷ []) (gap (ruled .under 0 2 2 1 3 (lit< tt) (record { whole = refl; at = refl }))) (search sides depth 40 fits 9999) refl)
+      (le-by (low 0 ∷ low 1 ∷ []) (gap (ruled .under 0 2 2 1 3 (lit< tt) first-half-way)) (search sides depth 40 fits 9999) refl)
 
   last-piece : (low 1 +ℤ low 2) ≤ℤ minus 3750
   unfolding hat value sum choose pow one
   last-piece = *ℤ-cancel {k = pos 16} (ltZ-yes tt)
-      (le-by (low 1 ∷ low 2 ∷ []) (gap (ruled .under 1 2 2 3 1 (lit< tt) (record { whole = refl; at = refl }))) (search sides depth 40 fits 9999) refl)
+      (le-by (low 1 ∷ low 2 ∷ []) (gap (ruled .under 1 2 2 3 1 (lit< tt) last-half-way)) (search sides depth 40 fits 9999) refl)
 
   pub ruled-low : (low 0 ≡ minus 625) × (low 1 ≡ minus 3125) × (low 2 ≡ minus 625)
   ruled-low = (

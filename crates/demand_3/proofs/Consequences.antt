@@ -171,15 +171,16 @@ in-circle T x y p r nonzero w =
     *ℤ-cancel (times-positive positive positive) (le-by (W ∷ x ∷ y ∷ T ∷ []) (gap h) (search sides depth 40 fits 9999) refl)
 
 pub on-in-circle : (T : ℤ) (old : List ℤ) (a b c : ℕ) → banded standard T dotted (length old) ≡ Done a b c → (x y : ℤ) (answer : Judgement)
-    → JudgedSo standard (take (recordLength standard * b) (written standard T dotted old)) x y answer → IsOn answer → (squared x +ℤ squared y) ≤ℤ squared T
+    → JudgedSo standard (take (recordLength standard * b) (written standard T dotted old)) x y answer → IsOn answer
+    → (squared x +ℤ squared y) ≤ℤ squared T
 on-in-circle T old a b c done x y answer judged on =
     let d = claim standard T dotted old a b c done x y answer judged in
     let s = d .demand-3 .every-on-near on in
     let one = List·Memᴰ·eq-of-singleton (subst (λ cs. List·Memᴰ (s .curve) cs) (same-curves (d .are) of-dotted) (of-member (s .of))) in
     in-circle T x y (s .p) (s .r) (s .some) (subst (λ e. Within T e (s .p) (s .r) x y) one (s .near))
 
--- ---- the point between two curves: of the leaf that holds it at the end of the one, the stretch ends where the curve does; of the leaf that holds it
--- at the start of the next, the stretch begins where that curve does
+-- ---- the point between two curves: the leaf that holds it at the end of the one has a stretch that ends where the curve does, and the leaf that
+-- holds it at the start of the next has one that begins where that curve does
 pub twice-at-the-ends : {σ : Setting} {rs : List ℤ} {k : ℕ} {x y : ℤ} {answer : Judgement} (t : CoveredTwice σ rs k x y answer)
     → (2 ^ depth (t .last-leaf .node) ≤ start (t .last-leaf .node) + 1) × (start (t .first-leaf .node) ≡ 0)
 twice-at-the-ends t = (omega (arith, t .last-leaf .parameter .to), omega (arith, t .first-leaf .parameter .from))
