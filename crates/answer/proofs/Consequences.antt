@@ -1,7 +1,7 @@
 -- What a reader of the answer may conclude from demand 3 of the text program. Each law uses a definition in which it ends, so that a weaker one is
 -- seen here.
 use mathlib.Core.Path.{_≡_, refl, sym, _∙_, subst}
-use mathlib.Core.List.{List, [], _∷_, _++_, append-cancel-left, append-cancel-right}
+use mathlib.Core.List.{List, [], _∷_, _++_, append-nil, append-cancel-left, append-cancel-right}
 use mathlib.Core.Option.{none}
 use Prim.Native.Nat.{ℕ, _+_, _*_, _≤_, _<_}
 use lib.Dec.{lit<}
@@ -81,6 +81,12 @@ module _ (s : List ℕ) (T : ℤ) (outline : List ℤ) (before : List (ℤ × �
       → (j : ℕ) → Flat standard T curve j → (n : ℕ) → entry leaves (recordLength standard * i + 1) ≡ pos n → depth n ≤ j
   leaf-depth i h cs o k curve of e j flat n is =
       shallow-depth (claim .every-leaf-shallow i h k curve (rw (same-curves (claim .are) o) of) e j flat) is
+
+-- ---- a text without points: the answer is the lines of its band alone
+pub band-alone : (s : List ℕ) (T : ℤ) (outline : List ℤ) → meaning s ≡ means T outline [] → (a b c : ℕ) → banded texts T outline lent ≡ Done a b c
+    → answerOf s ≡ bandLines a b c (textRecords T outline)
+unfolding pointAnswers
+band-alone s T outline m a b c done = text-demand-3 s T outline [] m a b c done .all-lines ∙ append-nil (bandLines a b c (textRecords T outline))
 
 -- ---- curve A: half-way it is at (240 360), and the line of this point says on, wherever it stands
 of-a : outlined (texts .most) (texts .pieces) A ≡ curves (curveA ∷ [])
