@@ -126,31 +126,65 @@ static void print_leaf(const int32_t *record) {
     printf("\n");
 }
 
-/* Judges every point of a file against the records, and prints the judgements and their counts. */
-static void judge_points(const char *file, const int32_t *records, size_t records_length) {
+/* Room for so many things of a size, with what stands in the room there was. */
+static void *larger(void *old, size_t count, size_t size) {
+    void *room = realloc(old, count * size);
+    if (room == NULL) {
+        fprintf(stderr, "there is no memory for the points\n");
+        exit(EXIT_FAILURE);
+    }
+    return room;
+}
+
+/* Reads the points file: x and y of each point, and how many points there are. */
+static int32_t *read_points(const char *file, size_t *count) {
     char line[100];
-    int points = 0, on = 0, off = 0, refused = 0;
+    size_t room = 1024;
+    int32_t *points = larger(NULL, 2 * room, sizeof *points);
     FILE *stream = opened(file);
-    for (; fgets(line, sizeof line, stream) != NULL; points++) {
-        int32_t x, y;
-        if (!ends(after(point(after(line, "(point"), &x, &y), ")"))) {
-            stop(file, points + 1, "(point (x y)) is expected");
+    for (*count = 0; fgets(line, sizeof line, stream) != NULL; (*count)++) {
+        if (*count == room) {
+            room *= 2;
+            points = larger(points, 2 * room, sizeof *points);
         }
-        const struct contour_band_judgement judgement = contour_judge(records, records_length, M, x, y);
-        printf("(%d %d) ", (int)x, (int)y);
-        if (judgement.refusal != CONTOUR_BAND_ACCEPTED) {
-            refused++;
-            printf("refused %u %llu\n", (unsigned)judgement.refusal, (unsigned long long)judgement.spot);
-        } else if (judgement.on) {
-            on++;
-            printf("on, record %llu cover %llu\n", (unsigned long long)judgement.leaf, (unsigned long long)judgement.cover);
-        } else {
-            off++;
-            printf("off\n");
+        if (!ends(after(point(after(line, "(point"), &points[2 * *count], &points[2 * *count + 1]), ")"))) {
+            stop(file, (int)*count + 1, "(point (x y)) is expected");
         }
     }
     fclose(stream);
-    printf("points %d: on %d, off %d, refused %d\n", points, on, off, refused);
+    return points;
+}
+
+/* Judges every point of a file against the records, and prints the judgements and their counts. */
+static void judge_points(const char *file, const int32_t *records, size_t records_length) {
+    size_t count;
+    int on = 0, off = 0, refused = 0;
+    int32_t *points = read_points(file, &count);
+    const size_t length = CONTOUR_BAND_ANSWER * count;
+    int64_t *answers = larger(NULL, length + 1, sizeof *answers);
+    const struct contour_band_points judged =
+        contour_judge_points(records, records_length, M, points, 2 * count, answers, length);
+    if (judged.refusal != CONTOUR_BAND_ACCEPTED) {
+        fprintf(stderr, "%s: refused %u %llu\n", file, (unsigned)judged.refusal, (unsigned long long)judged.spot);
+        exit(EXIT_FAILURE);
+    }
+    for (size_t i = 0; i < count; i++) {
+        const int64_t *answer = answers + CONTOUR_BAND_ANSWER * i;
+        printf("(%d %d) ", (int)points[2 * i], (int)points[2 * i + 1]);
+        if (answer[0] == 1) {
+            on++;
+            printf("on, record %lld cover %lld\n", (long long)answer[1], (long long)answer[2]);
+        } else if (answer[0] == 0) {
+            off++;
+            printf("off\n");
+        } else {
+            refused++;
+            printf("refused %lld %lld\n", (long long)answer[0], (long long)answer[1]);
+        }
+    }
+    printf("points %d: on %d, off %d, refused %d\n", (int)count, on, off, refused);
+    free(points);
+    free(answers);
 }
 
 int main(int count, char **arguments) {

@@ -6,7 +6,7 @@
 //! `(point (240 363))` for each point. Tolerance and points are in sixteenths of a stage unit. These are the
 //! forms of document 01's text program, read less strictly: leading zeros pass, and a last line without end.
 
-use contour_band::{band, judge, leaves, record_length, Judgement};
+use contour_band::{band, judge_points, leaves, record_length, Judgement};
 use std::process::ExitCode;
 use std::{env, fs};
 
@@ -54,9 +54,13 @@ fn inspect(outline_file: &str, points_file: &str) -> Result<(), String> {
         println!();
     }
 
+    // Each point's answer is three numbers.
+    let mut answers = vec![0; 3 * points.len()];
+    let judgements = judge_points(&records, M, &points.concat(), &mut answers)
+        .map_err(|refusal| format!("{points_file}: {refusal}"))?;
     let (mut on, mut off, mut refused) = (0, 0, 0);
-    for &[x, y] in &points {
-        match judge(&records, M, x, y) {
+    for (&[x, y], judgement) in points.iter().zip(judgements) {
+        match judgement {
             Ok(Judgement::On { leaf, cover }) => {
                 on += 1;
                 println!("({x} {y}) on, record {leaf} cover {cover}");

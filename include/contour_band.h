@@ -33,11 +33,11 @@
  * Ownership: every list is the caller's, before and after. A call reads and writes the lists it is lent and no other memory,
  * allocates nothing, and keeps no pointer and no state once it has returned. Every call returns.
  *
- * Pointers: each must be aligned for int32_t and must not be NULL, also where a length is 0. Lists that one call is lent must
- * not overlap. Lengths count numbers, not bytes, and every length and all contents are taken.
+ * Pointers: each must be aligned for the numbers it points to and must not be NULL, also where a length is 0. Lists that one
+ * call is lent must not overlap. Lengths count numbers, not bytes, and every length and all contents are taken.
  *
- * Threads: any number of calls may run at once as long as no list that one of them writes to (the records, the vertices) is
- * lent to another. Lists that are only read (the outline, the leaves) may be shared. */
+ * Threads: any number of calls may run at once as long as no list that one of them writes to (the records, the answers, the
+ * vertices) is lent to another. Lists that are only read (the outline, the leaves, the points) may be shared. */
 #ifndef CONTOUR_BAND_H
 #define CONTOUR_BAND_H
 
@@ -72,6 +72,11 @@ extern "C" {
 #define CONTOUR_BAND_STATION_ROOM(m) (CONTOUR_BAND_STATION_LEAVES_MAX * CONTOUR_BAND_RECORD(m))
 #define CONTOUR_BAND_STATION_STACK 6144
 
+/* How many numbers each point of a list wants for its answer; and how many bytes of stack judging a list of points takes at
+ * most, whatever it is given, which rust/contour-band/tests/stack.c measures. */
+#define CONTOUR_BAND_ANSWER 3
+#define CONTOUR_BAND_POINTS_STACK 34816
+
 /* The largest number of a box and of a point, in sixteenths of a stage unit; its negative is the least. */
 #define CONTOUR_BAND_FARTHEST 536870912
 
@@ -79,8 +84,10 @@ extern "C" {
 #define CONTOUR_BAND_VERTEX_ROOM 16
 
 /* The refusals, each with its condition and its spot. They stand in the order in which an operation tries them: banding 18, 1
- * to 8, 17 and 20 (5, 2, 20, 3, 4 and 17 curve by curve), and 19 for the bench station alone; judging 18 and 9 to 11,
- * banding and judging together those of banding and then 11, drawing 12 and 13. A refusal leaves every lent list as it was. */
+ * to 8, 17 and 20 (5, 2, 20, 3, 4 and 17 curve by curve), and 19 for the bench station alone; judging 18 and 9 to 11, a list
+ * of points 18, 9, 10, 101 and then 8, and 11 is the answer to a point; banding and judging together those of banding and then
+ * 11, drawing 12 and 13. A refusal leaves every lent list as it was. Numbers from 101 on stand in no document: they are the
+ * engine's own. */
 enum contour_band_refusal {
     CONTOUR_BAND_ACCEPTED = 0,         /* nothing is refused; 0 */
     CONTOUR_BAND_PIECES = 18,          /* m is not 1 to 8; 0 */
@@ -95,9 +102,11 @@ enum contour_band_refusal {
     CONTOUR_BAND_TOO_WIDE = 7,         /* a box at the last depth, 8, or 4 for degrees 4 and 5, has a longer diagonal than the
                                         * tolerance; 512 * curve + node, for the first */
     CONTOUR_BAND_TOO_MANY_LEAVES = 19, /* the bench station's outline has more than 128 leaves; the number of leaves */
-    CONTOUR_BAND_TOO_FEW_RECORDS = 8,  /* records_length is less than (6 + 4 * m) * leaves; the number of leaves */
+    CONTOUR_BAND_TOO_FEW_RECORDS = 8,  /* records_length is less than (6 + 4 * m) * leaves; the number of leaves. Of points:
+                                        * answers_length is less than 3 * points; the number of points */
     CONTOUR_BAND_LEAVES_LENGTH = 9,    /* leaves_length is 0 or no multiple of 6 + 4 * m; leaves_length */
     CONTOUR_BAND_LEAVES_NUMBER = 10,   /* a number of the leaves is bad, see contour_judge; the index of the first such */
+    CONTOUR_BAND_ODD_POINTS = 101,     /* points_length is odd; points_length */
     CONTOUR_BAND_POINT = 11,           /* a coordinate of the point is beyond the farthest; 0 for x, else 1 */
     CONTOUR_BAND_BOX_NUMBER = 12,      /* a number of the boxes is bad, see contour_draw; the first such's place, 0 to 7 */
     CONTOUR_BAND_TOO_FEW_VERTICES = 13 /* vertices_length is less than 16; vertices_length */
@@ -165,6 +174,29 @@ struct contour_band_judgement {
  * (1 - s) * box i + s * box i + 1. The point is on where some cover of some record holds it, edges included. The
  * first record of the list that holds it is named, and in it the lowest cover that does. Every call checks the whole list. */
 struct contour_band_judgement contour_judge(const int32_t *leaves, size_t leaves_length, uint32_t m, int32_t x, int32_t y);
+
+/* What judging a list of points answers, beside the numbers that it writes. */
+struct contour_band_points {
+    uint32_t refusal; /* 0 where the lists are accepted, else the number of the refusal: 18, 9, 10, 101 or 8 */
+    uint64_t spot;    /* the refusal's spot; 0 where the lists are accepted */
+    uint64_t points;  /* how many points there are; 0 where a list is refused */
+};
+
+/* Judges points against one list of leaf records, which is checked once: with many points this is far faster than a call of
+ * contour_judge for each.
+ *
+ * leaves, m: as for contour_judge.
+ * points: x and y of each point, in sixteenths of a stage unit; there may be none.
+ * answers: where three numbers are written for each point, in the order of the points: 1, record and cover, as contour_judge
+ *     names them, where the point is on; 0, 0, 0 where it is off; 11, spot, 0 where it is refused. A point that is refused
+ *     does not end the call.
+ *
+ * Accepted: the first CONTOUR_BAND_ANSWER * points numbers of the answers are written, and the numbers past them stay as they
+ * were.
+ * Refused: every number of the answers stays as it was. */
+struct contour_band_points contour_judge_points(const int32_t *leaves, size_t leaves_length, uint32_t m,
+                                                const int32_t *points, size_t points_length, int64_t *answers,
+                                                size_t answers_length);
 
 /* What banding and judging answer together. */
 struct contour_band_outcome {

@@ -33,7 +33,7 @@ use Rattle.text_lines.proofs.Gathering.{Gathering, gathering-start, gathered-ov
 use Rattle.text_lines.proofs.Gathering.{gathered-point}
 use Rattle.judge.specs.declared.judging.Judgement.{Judgement}
 use Rattle.judge.specs.declared.judging.Judgement.the-variants.{On, Off, Refused}
-use Rattle.judge.specs.Judging.{pointFault, judgingFault, Judged}
+use Rattle.judge.specs.Judging.{pointFault, listFault, judgingFault, Judged}
 use Rattle.judge.specs.Judgements.{judgement}
 use Rattle.judge.specs.Judging.{Passed}
 use Rattle.judge.proofs.Judgements.{is-judged, judged-is, judged-on, judged-fault}
@@ -89,7 +89,7 @@ short-point x y = go (inRange x) (inRange y)
 
 pub fault-fine : (ns : List ℤ) → Passed standard ns → (x y : ℤ) → judgingFault standard ns x y ≡ pointFault x y
 unfolding judgingFault
-fault-fine ns f x y = rw (judgingFault, f .whole, f .numbers)
+fault-fine ns f x y = rw (judgingFault, listFault, f .whole, f .numbers)
 
 short-on : (leaf cover : ℕ) → leaf < 1000 → cover < 10 → length (onLine leaf cover) ≤ 18
 unfolding onLine spacedNatural

@@ -1,10 +1,12 @@
 // Answers in numbers, as the C interface gives them: 0 and 0 and what was found, or a refusal's number and spot.
 ghost use mathlib.Core.Path.{_≡_};
 ghost use Rattle.contour.specs.Numbers.{bandAnswerOf, judgingAnswerOf};
+ghost use Rattle.contour.specs.Points.{pointsAnswerOf};
 ghost use Rattle.contour.specs.Drawings.{drawingOf};
 use band::banding::Banded;
 use draw::drawing::Drawn;
 use judge::judging::Judgement;
+use judge_points::answers::PointsJudged;
 
 // What banding answers, in numbers: a refusal's number and spot, or 0 and 0 and the report.
 #[repr(C)]
@@ -104,6 +106,32 @@ pub fn drawing_in_numbers(drawn: Drawn) -> Drawing
             refusal: refusal.number(),
             spot: refusal.spot() as u64,
             vertices: 0,
+        },
+    }
+}
+
+// What judging a list of points answers, in numbers: a refusal's number and spot, or 0 and 0 and the count of points.
+#[repr(C)]
+pub struct PointsAnswer {
+    pub refusal: u32,
+    pub spot: u64,
+    pub points: u64,
+}
+
+// The numbers of an answer for a list of points.
+pub fn points_in_numbers(answered: PointsJudged) -> PointsAnswer
+    ensures { λ r. ⌜ r ≡ pointsAnswerOf answered ⌝ }
+{
+    match answered {
+        PointsJudged::Points(count) => PointsAnswer {
+            refusal: 0,
+            spot: 0,
+            points: count as u64,
+        },
+        PointsJudged::Refused(refusal) => PointsAnswer {
+            refusal: refusal.number(),
+            spot: refusal.spot() as u64,
+            points: 0,
         },
     }
 }

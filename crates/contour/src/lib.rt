@@ -3,17 +3,21 @@ ghost use mathlib.Core.Path.{_≡_};
 ghost use lib.ListN.{length};
 ghost use Rattle.setting.specs.Setting.{lists, station};
 ghost use Rattle.band.specs.Banding.{banded, written};
+ghost use Rattle.judge_points.specs.Points.{pointsJudged, judgedInto};
 ghost use Rattle.draw.specs.Drawing.{drawn, drawnInto};
 ghost use Rattle.contour.specs.Numbers.{bandAnswerOf};
+ghost use Rattle.contour.specs.Points.{pointsAnswerOf};
 ghost use Rattle.contour.specs.Drawings.{drawingOf};
 ghost use Rattle.engine.specs.Outcomes.{writtenFor};
 ghost use Rattle.contour.specs.Answers.{outcomeAnswerOf, JudgedInNumbers, AnsweredInNumbers};
 use crate::c_answers::Answer;
 use crate::c_answers::Drawing;
 use crate::c_answers::JudgingAnswer;
+use crate::c_answers::PointsAnswer;
 use crate::c_answers::drawing_in_numbers;
 use crate::c_answers::in_numbers;
 use crate::c_answers::judgement_in_numbers;
+use crate::c_answers::points_in_numbers;
 use boxes::Box;
 use engine::Outcome;
 use engine::band_and_judge;
@@ -62,6 +66,24 @@ pub extern "C" fn contour_judge(leaves: &[i32], m: u32, x: i32, y: i32) -> Judgi
 {
     let judgement = judge::judge(leaves, m, x, y);
     judgement_in_numbers(judgement)
+}
+
+// Judges points, x and y of each in sixteenths, against a list of leaf records of m pieces, and writes three numbers
+// for each to the front of the list.
+#[no_mangle]
+pub extern "C" fn contour_judge_points(
+    leaves: &[i32],
+    m: u32,
+    points: &[i32],
+    answers: &mut [i64],
+) -> PointsAnswer
+    ensures { λ r. ⌜ r ≡ pointsAnswerOf (pointsJudged (lists m) (now (leaves .entry)) (now (points .entry))
+        (length (now (answers .entry)))) ⌝ }
+    ensures { λ r. ⌜ now (answers .exit) ≡ judgedInto (lists m) (now (leaves .entry)) (now (points .entry))
+        (now (answers .entry)) ⌝ }
+{
+    let answered = judge_points::judge_points(leaves, m, points, answers);
+    points_in_numbers(answered)
 }
 
 // What banding and judging together answer, in numbers: a refusal's number and spot, or 0 and 0, banding's report and

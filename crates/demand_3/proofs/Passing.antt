@@ -27,7 +27,7 @@ use Rattle.boxes.proofs.Records.{place-below, record-below}
 use Rattle.band_records.specs.Ranges.{SoundRecord, SoundList}
 use Rattle.band_records.proofs.Sound.{each-side}
 use Rattle.judge_list.specs.Checks.{lengthFine, numberFine, numberFault}
-use Rattle.judge.specs.Judging.{pointFault, judgingFault}
+use Rattle.judge.specs.Judging.{pointFault, listFault, judgingFault}
 
 -- ---- 9
 module _ (σ : Setting) where
@@ -88,6 +88,7 @@ pub none-refused : (σ : Setting) → HasRows (σ .pieces) → {n : ℕ} {rs : L
 unfolding judgingFault
 none-refused σ rows {n} {rs} some sound x y fx fy = rw (
   judgingFault,
+  listFault,
   has-rows-fine (σ .pieces) rows,
   length-fine σ (length rs) n some (sound .whole),
   no-bad-number sound,

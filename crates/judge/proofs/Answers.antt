@@ -2,9 +2,9 @@
 use mathlib.Core.Path.{_≡_, refl, sym, _∙_, ap, subst}
 use mathlib.Core.Bool.{Bool, true, false, not}
 use mathlib.Core.List.{List}
-use mathlib.Core.Option.{none, some}
+use mathlib.Core.Option.{Option, none, some}
 use Prim.Native.Nat.{ℕ, _%_, _≤_, _<_}
-use borrow.Author.Tests.{le-leb, lt-leb}
+use borrow.Author.Tests.{le-leb, lt-leb, leb-true}
 use lib.Dec.{T, eqb, leb, eqb→eq, eqb-refl}
 use lib.ListN.{length}
 use lib.IntN.{ℤ}
@@ -17,8 +17,11 @@ use Rattle.judge_list.specs.Checks.{lengthFine, numberFault}
 use Rattle.judge_list.proofs.Numbers.{inList}
 use Rattle.judge.specs.declared.judging.Judgement.{Judgement}
 use Rattle.judge.specs.declared.judging.Judgement.the-variants.{Refused}
-use Rattle.judge.specs.Judging.{judgingFault, Passed, Verdict, Judged}
-use Rattle.integers.proofs.Both.{and-false}
+use Rattle.judge.specs.declared.judging.Checked.the-variants.{Fine, Refused as NotChecked}
+use Rattle.judge.specs.Judging.{listFault, judgingFault, Passed, Verdict, Judged}
+use Rattle.judge.specs.Inside.{checkedOf}
+use Rattle.integers.proofs.Clash.{clash}
+use Rattle.integers.proofs.Both.{and-false, both-true}
 
 eqb-is : (a b : ℕ) → a ≡ b → eqb a b ≡ true
 eqb-is a b e = go (eqb a b) (subst (λ n. T (eqb a n)) e (eqb-refl a))
@@ -44,22 +47,20 @@ pieces-none {m} h = rw (lt-leb 1 m h)
 pub pieces-many : {m : ℕ} → 8 < m → piecesFine m ≡ false
 pieces-many {m} h = rw (lt-leb m 8 h) (and-false (leb 1 m))
 
-module _ (σ : Setting) (ns : List ℤ) (x y : ℤ) where
+module _ (σ : Setting) (ns : List ℤ) where
   -- ---- 18
-  pub pieces-bad : piecesFine (σ .pieces) ≡ false → judgingFault σ ns x y ≡ some Pieces
-  unfolding judgingFault
-  pieces-bad e = rw (judgingFault, e)
+  pub pieces-bad : piecesFine (σ .pieces) ≡ false → listFault σ ns ≡ some Pieces
+  pieces-bad e = rw (listFault, e)
 
   module _ (has : HasRows (σ .pieces)) where
     -- ---- 9
-    length-bad : lengthFine σ (length ns) ≡ false → judgingFault σ ns x y ≡ some (LeafListLength (length ns))
-    unfolding judgingFault
-    length-bad e = rw (judgingFault, pieces-fine has, e)
+    length-bad : lengthFine σ (length ns) ≡ false → listFault σ ns ≡ some (LeafListLength (length ns))
+    length-bad e = rw (listFault, pieces-fine has, e)
 
-    pub list-empty : length ns ≡ 0 → judgingFault σ ns x y ≡ some (LeafListLength (length ns))
+    pub list-empty : length ns ≡ 0 → listFault σ ns ≡ some (LeafListLength (length ns))
     list-empty e = length-bad (rw (eqb-is (length ns) 0 e))
 
-    pub list-cut : (length ns % recordLength σ ≡ 0 → ⊥) → judgingFault σ ns x y ≡ some (LeafListLength (length ns))
+    pub list-cut : (length ns % recordLength σ ≡ 0 → ⊥) → listFault σ ns ≡ some (LeafListLength (length ns))
     list-cut n = length-bad (rw (eqb-not (length ns % recordLength σ) 0 n) (and-false (not (eqb (length ns) 0))))
 
     module _ (some-numbers : length ns ≡ 0 → ⊥) (whole : length ns % recordLength σ ≡ 0) where
@@ -67,33 +68,70 @@ module _ (σ : Setting) (ns : List ℤ) (x y : ℤ) where
       length-fine = rw (eqb-not (length ns) 0 some-numbers, eqb-is (length ns % recordLength σ) 0 whole)
 
       -- ---- 10
-      pub number-bad : (i : ℕ) → i ≡ placeOr (length ns) (numberFault σ ns) → i < length ns → judgingFault σ ns x y ≡ some (LeafListNumber i)
-      unfolding judgingFault
+      pub number-bad : (i : ℕ) → i ≡ placeOr (length ns) (numberFault σ ns) → i < length ns → listFault σ ns ≡ some (LeafListNumber i)
       number-bad i e h =
           let f = place-some (length ns) (numberFault σ ns) (subst (λ k. k < length ns) e h) ∙ ap some (sym e) in
-          rw (judgingFault, pieces-fine has, length-fine, f)
+          rw (listFault, pieces-fine has, length-fine, f)
 
-      module _ (all : length ns ≤ placeOr (length ns) (numberFault σ ns)) where
-        numbers-fine : numberFault σ ns ≡ none
-        unfolding numberFault
-        numbers-fine = place-none (inList σ ns) (length ns) all
+      pub list-fine : length ns ≤ placeOr (length ns) (numberFault σ ns) → listFault σ ns ≡ none
+      unfolding numberFault
+      list-fine all = let f = place-none (inList σ ns) (length ns) all in rw (listFault, pieces-fine has, length-fine, f)
 
-        pub passed : Passed σ ns
-        passed = record { whole = length-fine; numbers = numbers-fine }
+  -- ---- a list that passed
+  pub list-passed : listFault σ ns ≡ none → HasRows (σ .pieces) × Passed σ ns
+  list-passed e = go (piecesFine (σ .pieces)) (lengthFine σ (length ns)) (numberFault σ ns) refl refl refl e
+    where
+      rows : (m : ℕ) → piecesFine m ≡ true → HasRows m
+      rows m f =
+          let s = both-true (leb 1 m) (leb m 8) f in
+          record { least = leb-true 1 m (s .0); most = leb-true m 8 (s .1) }
 
-    -- ---- 11, of a list that passed
-    module _ (p : Passed σ ns) where
-      pub x-bad : inRange x ≡ false → judgingFault σ ns x y ≡ some PointX
-      unfolding judgingFault
-      x-bad e = rw (judgingFault, pieces-fine has, p .whole, p .numbers, e)
+      go : (a b : Bool) (o : Option ℕ) → piecesFine (σ .pieces) ≡ a → lengthFine σ (length ns) ≡ b → numberFault σ ns ≡ o
+          → _≡_ {A = Option Refusal} (elim a [
+            | false ↦ some Pieces
+            | true ↦ elim b [
+              | false ↦ some (LeafListLength (length ns))
+              | true ↦ elim o [ some i ↦ some (LeafListNumber i) | none ↦ none ]
+            ]
+          ]) none → HasRows (σ .pieces) × Passed σ ns
+      go true true none p l n f = (rows (σ .pieces) p, record { whole = l; numbers = n })
+      go true true (some i) p l n f = clash (cc)
+      go true false o p l n f = clash (cc)
+      go false b o p l n f = clash (cc)
 
-      pub y-bad : inRange x ≡ true → inRange y ≡ false → judgingFault σ ns x y ≡ some PointY
-      unfolding judgingFault
-      y-bad e f = rw (judgingFault, pieces-fine has, p .whole, p .numbers, e, f)
+  pub checked-fine : Fine ≡ checkedOf (listFault σ ns) → listFault σ ns ≡ none
+  checked-fine e = go (listFault σ ns) e
+    where
+      go : (o : Option Refusal) → Fine ≡ checkedOf o → o ≡ none
+      go none f = refl
+      go (some r) f = clash (cc)
 
-      pub none-bad : inRange x ≡ true → inRange y ≡ true → judgingFault σ ns x y ≡ none
-      unfolding judgingFault
-      none-bad e f = rw (judgingFault, pieces-fine has, p .whole, p .numbers, e, f)
+  pub checked-refused : {r : Refusal} → NotChecked r ≡ checkedOf (listFault σ ns) → listFault σ ns ≡ some r
+  checked-refused {r} e = go (listFault σ ns) e
+    where
+      go : (o : Option Refusal) → NotChecked r ≡ checkedOf o → o ≡ some r
+      go none f = clash (cc)
+      go (some q) f = cc
+
+module _ (σ : Setting) (ns : List ℤ) (x y : ℤ) where
+  -- ---- 18, 9 and 10 come before the point
+  pub list-first : {r : Refusal} → listFault σ ns ≡ some r → judgingFault σ ns x y ≡ some r
+  unfolding judgingFault
+  list-first e = rw (judgingFault, e)
+
+  -- ---- 11, of a list that passed
+  module _ (has : HasRows (σ .pieces)) (p : Passed σ ns) where
+    pub x-bad : inRange x ≡ false → judgingFault σ ns x y ≡ some PointX
+    unfolding judgingFault
+    x-bad e = rw (judgingFault, listFault, pieces-fine has, p .whole, p .numbers, e)
+
+    pub y-bad : inRange x ≡ true → inRange y ≡ false → judgingFault σ ns x y ≡ some PointY
+    unfolding judgingFault
+    y-bad e f = rw (judgingFault, listFault, pieces-fine has, p .whole, p .numbers, e, f)
+
+    pub none-bad : inRange x ≡ true → inRange y ≡ true → judgingFault σ ns x y ≡ none
+    unfolding judgingFault
+    none-bad e f = rw (judgingFault, listFault, pieces-fine has, p .whole, p .numbers, e, f)
 
   -- ---- the answer
   pub judged-refused : (r : Refusal) → judgingFault σ ns x y ≡ some r → Judged σ ns x y (Refused r)

@@ -6,15 +6,7 @@ use mathlib.Core.Bool.{Bool, true, false, not}
 use mathlib.Core.List.{List}
 use mathlib.Core.Option.{none, some}
 use Prim.Native.Nat.{ℕ, zero, suc, _+_, _*_, _-_, _/_, _%_, _≤_, _<_}
-use native.Mathlib.Nat.{
-  zero-add,
-  mul-zero,
-  mul-mod-right,
-  mul-le-mul-left,
-  mul-lt-mul-of-pos-left,
-  eq-or-lt-of-le,
-  lt-of-mul-lt-mul-left,
-}
+use native.Mathlib.Nat.{zero-add, zero-mod, mul-lt-mul-of-pos-left}
 use native.Mathlib.Omega.{arith}
 use lib.ListN.{length}
 use lib.IntN.{ℤ, pos, negℤ, natAbs}
@@ -32,7 +24,7 @@ use Rattle.boxes.specs.declared.Box.{Box}
 use Rattle.boxes.specs.Ranges.{farthest, inRange, lowFine, boxNumberFine, placeOr}
 use Rattle.setting.specs.Setting.{Setting, breakPoints, covers, recordLength}
 use Rattle.boxes.specs.Records.{boxIndex, boxAtIndex}
-use Rattle.boxes.proofs.Records.{record-left, whole-is}
+use Rattle.boxes.proofs.Records.{record-left, record-next, one-record, whole-is}
 use Rattle.boxes.proofs.Faults.{place-some, place-none}
 use Rattle.judge_list.specs.Checks.{numberFault}
 use Rattle.judge_list.specs.Inside.{fineAt, recordFaultAt}
@@ -41,9 +33,10 @@ use Rattle.judge_cover.specs.Covers.{CoverHolds}
 use Rattle.judge_cover.specs.Deciding.{held}
 use Rattle.judge_cover.specs.Inside.{BoxInRange}
 use Rattle.judge_cover.proofs.Deciding.{held-exactly}
-use Rattle.judge.specs.declared.judging.Judgement.the-variants.{On, Off}
-use Rattle.judge.specs.Judging.{Passed, Verdict}
-use Rattle.judge.specs.Inside.{RecordAt, heldAt, holderAt, ApartTo}
+use Rattle.judge.specs.declared.judging.Judgement.the-variants.{Off}
+use Rattle.judge.specs.declared.holder.Holder.{Holder}
+use Rattle.judge.specs.Judging.{Passed, FirstHolder, Verdict}
+use Rattle.judge.specs.Inside.{RecordAt, heldAt, holderAt, ApartTo, Searched, FoundTo}
 use Rattle.judge.proofs.Apart.{apart-held}
 use Rattle.judge.proofs.Judgements.{whole-of}
 
@@ -150,69 +143,76 @@ module _ {σ : Setting} {ns : List ℤ} (passed : Passed σ ns) where
           let t = none-bad (inList σ ns) (length ns) 0 (passed .numbers) (at + k) (omega arith) in
           rw zero-add (sym (in-record σ ns at e k l) ∙ (rw zero-add at t))
 
--- the first `leaf` records hold the point nowhere, and the next begins at index `at`
-pub record Searched (σ : Setting) (ns : List ℤ) (x y : ℤ) (at leaf : ℕ) : Type 0 where
-  pub begins : at ≡ recordLength σ * leaf
-  pub no-cover : (k i : ℕ) → k < leaf → i < covers σ → heldAt ns x y (recordLength σ * k) i ≡ false
+pub searched-none : (σ : Setting) (ns : List ℤ) (x y : ℤ) → Searched σ ns x y 0
+searched-none σ ns x y = record { begins = zero-mod (recordLength σ); no-cover = λ k i h n l. absurd (omega arith) }
 
-pub searched-none : (σ : Setting) (ns : List ℤ) (x y : ℤ) → Searched σ ns x y 0 0
-searched-none σ ns x y = record { begins = sym (mul-zero (recordLength σ)); no-cover = λ k i h l. absurd (omega arith) }
-
-module _ {σ : Setting} {ns : List ℤ} {x y : ℤ} {at leaf : ℕ} (s : Searched σ ns x y at leaf) where
+module _ {σ : Setting} {ns : List ℤ} {x y : ℤ} {at : ℕ} (s : Searched σ ns x y at) where
   not-held : (k i : ℕ) → heldAt ns x y (recordLength σ * k) i ≡ false → CoverHolds σ ns k i x y → ⊥
   not-held k i e c = both e (held-exactly (boxAtIndex ns (boxIndex σ k i)) (boxAtIndex ns (boxIndex σ k (suc i))) x y .1 c)
     where
       both : {b : Bool} → b ≡ false → b ≡ true → ⊥
       both f t = clash (cc)
 
-  pub begins-whole : at % recordLength σ ≡ 0
-  begins-whole = ap (λ n. n % recordLength σ) (s .begins) ∙ mul-mod-right (recordLength σ) leaf
-
-  pub searched-more : covers σ ≤ placeOr (covers σ) (holderAt σ ns x y at) → Searched σ ns x y (at + recordLength σ) (leaf + 1)
+  pub searched-more : covers σ ≤ placeOr (covers σ) (holderAt σ ns x y at) → Searched σ ns x y (at + recordLength σ)
   searched-more h = record {
-    begins = let b = s .begins in omega arith;
-    no-cover = λ k i l m. ⊎-elim (λ e. last k i m e) (λ n. s .no-cover k i n m) (eq-or-lt-of-le {n = k} {m = leaf} (omega arith));
+    begins = record-next (recordLength σ) at (s .begins);
+    no-cover = λ k i l r m. ⊎-elim (λ n. s .no-cover k i n r m) (λ n. last k i m (one-record (recordLength σ) k (s .begins) n l))
+        (lt-or-ge (recordLength σ * k) at);
   }
     where
-      last : (k i : ℕ) → i < covers σ → k ≡ leaf → heldAt ns x y (recordLength σ * k) i ≡ false
+      last : (k i : ℕ) → i < covers σ → recordLength σ * k ≡ at → heldAt ns x y (recordLength σ * k) i ≡ false
       last k i m e =
-          let a : at ≡ recordLength σ * k = s .begins ∙ ap (λ n. recordLength σ * n) (sym e) in
-          holder-none σ ns x y (recordLength σ * k) (subst (λ b. covers σ ≤ placeOr (covers σ) (holderAt σ ns x y b)) a h) i m
+          holder-none σ ns x y (recordLength σ * k) (subst (λ b. covers σ ≤ placeOr (covers σ) (holderAt σ ns x y b)) (sym e) h) i m
 
   -- records that the point is apart from are searched as well
-  pub searched-over : {to : ℕ} → ApartTo σ x y ns at to → Searched σ ns x y to (to / recordLength σ)
-  searched-over {to} a =
-      let e = whole-is (recordLength σ) to (a .whole) in
-      record {
-        begins = e;
-        no-cover = λ k i l m. ⊎-elim
-            (λ n. s .no-cover k i n m)
-            (λ n. apart-held σ ns x y (recordLength σ * k) (a .each k (from k n) (before k l e)) i m)
-            (lt-or-ge k leaf);
-      }
-    where
-      from : (k : ℕ) → leaf ≤ k → at ≤ recordLength σ * k
-      from k n = let b = s .begins in omega (arith, mul-le-mul-left {m = leaf} {n = k} (recordLength σ) n)
+  pub searched-over : {to : ℕ} → ApartTo σ x y ns at to → Searched σ ns x y to
+  searched-over {to} a = record {
+    begins = a .whole;
+    no-cover = λ k i l r m. ⊎-elim
+        (λ n. s .no-cover k i n r m)
+        (λ n. apart-held σ ns x y (recordLength σ * k) (a .each k n l) i m)
+        (lt-or-ge (recordLength σ * k) at);
+  }
 
-      before : (k : ℕ) → k < to / recordLength σ → to ≡ recordLength σ * (to / recordLength σ) → recordLength σ * k < to
-      before k l e =
-          let p : 0 < recordLength σ = omega arith in
-          omega (arith, mul-lt-mul-of-pos-left {m = k} {n = to / recordLength σ} l p)
+  -- a search that went farther went as far as any record before
+  pub searched-back : {to : ℕ} → to % recordLength σ ≡ 0 → to ≤ at → Searched σ ns x y to
+  searched-back e h = record { begins = e; no-cover = λ k i l r m. s .no-cover k i (omega arith) r m }
 
-  pub found-on : (i : ℕ) → at < length ns → i ≡ placeOr (covers σ) (holderAt σ ns x y at) → i < covers σ → Verdict σ none ns x y (On leaf i)
+  -- past the end of the list there is nothing to search
+  pub searched-past : {to : ℕ} → to % recordLength σ ≡ 0 → length ns ≤ at → Searched σ ns x y to
+  searched-past e h = record { begins = e; no-cover = λ k i l r m. s .no-cover k i (omega arith) r m }
+
+  -- the record at index `at` is the first that holds the point
+  pub found-on : (i : ℕ) → at < length ns → i ≡ placeOr (covers σ) (holderAt σ ns x y at) → i < covers σ
+      → FirstHolder σ ns x y (at / recordLength σ) i
   found-on i h e l =
-      let b = s .begins in
+      let leaf = at / recordLength σ in
+      let b : at ≡ recordLength σ * leaf = whole-is (recordLength σ) at (s .begins) in
       record {
         inside = omega arith;
         cover = l;
         holds =
             held-exactly (boxAtIndex ns (boxIndex σ leaf i)) (boxAtIndex ns (boxIndex σ leaf (suc i))) x y .0
-            (rw (s .begins) at (holder-holds σ ns x y at i e l));
-        none-earlier = λ k q m n. not-held k q (s .no-cover k q m n);
-        none-lower = λ q m. not-held leaf q (rw (s .begins) at (holder-first σ ns x y at i e l q m));
+            (subst (λ n. heldAt ns x y n i ≡ true) b (holder-holds σ ns x y at i e l));
+        none-earlier = λ k q m n. not-held k q (let l = before k m b in s .no-cover k q l (omega arith) n);
+        none-lower = λ q m. not-held leaf q (subst (λ n. heldAt ns x y n q ≡ false) b (holder-first σ ns x y at i e l q m));
       }
+    where
+      before : (k : ℕ) → k < at / recordLength σ → at ≡ recordLength σ * (at / recordLength σ) → recordLength σ * k < at
+      before k l b =
+          let p : 0 < recordLength σ = omega arith in
+          omega (arith, mul-lt-mul-of-pos-left {m = k} {n = at / recordLength σ} l p)
 
   pub found-off : length ns ≤ at → Verdict σ none ns x y Off
-  found-off h k i l m =
-      let b = s .begins in
-      not-held k i (s .no-cover k i (lt-of-mul-lt-mul-left (recordLength σ) {m = k} {n = leaf} (omega arith)) m)
+  found-off h k i l m = not-held k i (s .no-cover k i (omega arith) l m)
+
+-- ---- the answer of a search
+module _ {σ : Setting} {ns : List ℤ} {x y : ℤ} {to : ℕ} {h : Holder} where
+  pub held-found : (i : ℕ) → h .cover ≡ i → i < covers σ → FirstHolder σ ns x y (h .leaf) i → FoundTo σ ns x y to h
+  held-found i e l f = record {
+    on = λ m. subst (λ n. FirstHolder σ ns x y (h .leaf) n) (sym e) f;
+    off = λ m. absurd (omega arith);
+  }
+
+  pub none-found : h .cover ≡ covers σ → Searched σ ns x y to → FoundTo σ ns x y to h
+  none-found e s = record { on = λ m. absurd (omega arith); off = λ m. s }

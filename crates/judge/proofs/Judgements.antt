@@ -14,18 +14,18 @@ use borrow.Author.Tests.{not-false}
 use Rattle.integers.proofs.Clash.{clash}
 use Rattle.integers.proofs.First.{none-bad, bad-is, bad-below, bad-first}
 use Rattle.integers.proofs.Order.{lt-or-ge}
-use Rattle.setting.specs.Setting.{Setting, piecesFine, covers, recordLength}
+use Rattle.setting.specs.Setting.{Setting, covers, recordLength}
 use Rattle.boxes.specs.Records.{boxIndex, boxAtIndex}
 use Rattle.boxes.proofs.Records.{begins-among, among-begins, place-is, record-is, comes-before, place-below, record-below}
 use Rattle.refusals.specs.declared.Refusal.{Refusal}
-use Rattle.refusals.specs.declared.Refusal.the-variants.{Pieces, LeafListLength, LeafListNumber}
-use Rattle.judge_list.specs.Checks.{lengthFine, numberFault}
+use Rattle.judge_list.specs.Checks.{lengthFine}
 use Rattle.judge_cover.specs.Covers.{CoverHolds}
 use Rattle.judge_cover.proofs.Deciding.{held-exactly}
 use Rattle.judge.specs.declared.judging.Judgement.{Judgement}
 use Rattle.judge.specs.declared.judging.Judgement.the-variants.{On, Off, Refused}
-use Rattle.judge.specs.Judging.{pointFault, judgingFault, FirstHolder, Verdict, Judged}
+use Rattle.judge.specs.Judging.{pointFault, listFault, judgingFault, FirstHolder, Verdict, Judged}
 use Rattle.judge.specs.Judgements.{coverHeld, firstHeld, named, judgement}
+use Rattle.judge.proofs.Answers.{list-passed}
 
 -- ---- one answer
 module _ (σ : Setting) (ns : List ℤ) (x y : ℤ) where
@@ -118,18 +118,11 @@ module _ (σ : Setting) (ns : List ℤ) (x y : ℤ) (whole : length ns % recordL
 module _ (σ : Setting) (ns : List ℤ) (x y : ℤ) where
   none-whole : judgingFault σ ns x y ≡ none → length ns % recordLength σ ≡ 0
   unfolding judgingFault
-  none-whole e = whole-of σ (length ns) (fine (piecesFine (σ .pieces)) (lengthFine σ (length ns)) (numberFault σ ns) e)
+  none-whole e = whole-of σ (length ns) (list-passed σ ns (fine (listFault σ ns) e) .1 .whole)
     where
-      fine : (a b : Bool) (o : Option ℕ) → _≡_ {A = Option Refusal} (elim a [
-        | false ↦ some Pieces
-        | true ↦ elim b [
-          | false ↦ some (LeafListLength (length ns))
-          | true ↦ elim o [ some i ↦ some (LeafListNumber i) | none ↦ pointFault x y ]
-        ]
-      ]) none → b ≡ true
-      fine true true o f = refl
-      fine true false o f = clash (cc)
-      fine false b o f = clash (cc)
+      fine : (o : Option Refusal) → _≡_ {A = Option Refusal} (elim o [ some r ↦ some r | none ↦ pointFault x y ]) none → o ≡ none
+      fine none f = refl
+      fine (some r) f = clash (cc)
 
   -- the function's answer is one that judging may give, and so the only one
   pub is-judged : Judged σ ns x y (judgement σ ns x y)

@@ -66,10 +66,10 @@ module _ (test compared : ℤ → Bool) (turn : (a : ℤ) (t : Bool) → compare
     (p : Passing test ns at n i)
     (h : i < n) (fits : SFits w32 (entry ns (at + 4 * i))) where
   abbrev read : ℤ
-  read = stored w64 (stored w32 (entry ns (at + 4 * i)))
+  read = stored w32 (entry ns (at + 4 * i))
 
   pub read-fails : compared read ≡ true → false ≡ allPass test ns at n
-  read-fails e = pass-fails test ns at n i h (turn _ true (rw (widened fits) at e))
+  read-fails e = pass-fails test ns at n i h (turn _ true (rw (toZ-ofZ fits) at e))
 
   pub read-passes : compared read ≡ false → Passing test ns at n (i + 1)
-  read-passes e = pass-more test ns at p h (turn _ false (rw (widened fits) at e))
+  read-passes e = pass-more test ns at p h (turn _ false (rw (toZ-ofZ fits) at e))

@@ -1,8 +1,8 @@
 -- For contracts of private functions: how the code searches a leaf list that has passed its checks for the first cover
 -- that holds a point. Places are counted from the index `at` where a record begins.
-use mathlib.Core.Bool.{Bool, true, not, _&&_, _||_}
+use mathlib.Core.Bool.{Bool, true, false, not, _&&_, _||_}
 use mathlib.Core.List.{List}
-use mathlib.Core.Option.{Option, none}
+use mathlib.Core.Option.{Option, none, some}
 use mathlib.Core.Path.{_≡_}
 use Prim.Native.Nat.{ℕ, zero, suc, _+_, _*_, _%_, _≤_, _<_}
 use lib.ListN.{length}
@@ -15,6 +15,11 @@ use Rattle.boxes.specs.Ranges.{farthest}
 use Rattle.boxes.specs.Records.{boxAtIndex}
 use Rattle.judge_list.specs.Inside.{recordFaultAt}
 use Rattle.judge_cover.specs.Deciding.{held}
+use Rattle.refusals.specs.declared.Refusal.{Refusal}
+use Rattle.judge.specs.declared.holder.Holder.{Holder}
+use Rattle.judge.specs.declared.judging.Checked.{Checked}
+use Rattle.judge.specs.declared.judging.Checked.the-variants.{Fine, Refused}
+use Rattle.judge.specs.Judging.{FirstHolder}
 
 -- a point that passes check 11
 pub record InRange (x y : ℤ) : Type 0 where
@@ -59,3 +64,26 @@ pub record ApartTo (σ : Setting) (x y : ℤ) (ns : List ℤ) (from to : ℕ) : 
   pub whole : to % recordLength σ ≡ 0
   pub after : from ≤ to
   pub each : (k : ℕ) → from ≤ recordLength σ * k → recordLength σ * k < to → apart σ x y ns (recordLength σ * k) ≡ true
+
+-- a record begins at index `to` of the list, or the list ends there
+pub record EndsAt (σ : Setting) (ns : List ℤ) (to : ℕ) : Type 0 where
+  pub whole : to % recordLength σ ≡ 0
+  pub within : to ≤ length ns
+
+-- ---- the search as far as index `at`, where a record begins or would begin: no cover of a record before it holds the
+-- point
+pub record Searched (σ : Setting) (ns : List ℤ) (x y : ℤ) (at : ℕ) : Type 0 where
+  pub begins : at % recordLength σ ≡ 0
+  pub no-cover : (k i : ℕ) → recordLength σ * k < at → recordLength σ * k < length ns → i < covers σ
+      → heldAt ns x y (recordLength σ * k) i ≡ false
+
+-- what a search as far as index `to` found: the first holder of the whole list; or, with a cover that no record has,
+-- that no record before `to` holds the point
+pub record FoundTo (σ : Setting) (ns : List ℤ) (x y : ℤ) (to : ℕ) (h : Holder) : Type 0 where
+  pub on : h .cover < covers σ → FirstHolder σ ns x y (h .leaf) (h .cover)
+  pub off : covers σ ≤ h .cover → Searched σ ns x y to
+
+-- ---- the checks of a leaf list, as the code hands on what they find
+abbrev pub checkedOf : Option Refusal → Checked
+checkedOf (some r) = Refused r
+checkedOf none = Fine

@@ -24,16 +24,20 @@ pointFault x y =
       | true ↦ elim (inRange y) [ false ↦ some PointY | true ↦ none ]
     ]
 
--- ---- 18, 9, 10 and 11 in this order
-unfoldable pub judgingFault : Setting → List ℤ → (x y : ℤ) → Option Refusal
-judgingFault σ ns x y =
+-- ---- 18, 9 and 10 in this order: the checks that do not look at the point
+abbrev pub listFault : Setting → List ℤ → Option Refusal
+listFault σ ns =
     elim (piecesFine (σ .pieces)) [
       | false ↦ some Pieces
       | true ↦ elim (lengthFine σ (length ns)) [
         | false ↦ some (LeafListLength (length ns))
-        | true ↦ elim (numberFault σ ns) [ some i ↦ some (LeafListNumber i) | none ↦ pointFault x y ]
+        | true ↦ elim (numberFault σ ns) [ some i ↦ some (LeafListNumber i) | none ↦ none ]
       ]
     ]
+
+-- ---- 18, 9, 10 and 11 in this order
+unfoldable pub judgingFault : Setting → List ℤ → (x y : ℤ) → Option Refusal
+judgingFault σ ns x y = elim (listFault σ ns) [ some r ↦ some r | none ↦ pointFault x y ]
 
 -- a list that passes 9 and 10
 pub record Passed (σ : Setting) (ns : List ℤ) : Type 0 where

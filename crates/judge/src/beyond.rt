@@ -3,16 +3,16 @@ ghost use mathlib.Core.Path.{_≡_};
 ghost use Prim.Native.Nat.{_+_, _*_, _%_, _≤_};
 ghost use lib.ListN.{length};
 ghost use Rattle.setting.specs.Setting.{lists, HasRows, recordLength};
-ghost use Rattle.judge.specs.Inside.{belowAll, aboveAll, beyond, apart, ApartTo};
+ghost use Rattle.judge.specs.Inside.{belowAll, aboveAll, beyond, apart, EndsAt, ApartTo};
 
 // Whether z is below the m + 1 numbers that stand four apart from index `at` on.
-fn below_all(leaves: &[i32], m: usize, at: usize, z: i64) -> bool
+fn below_all(leaves: &[i32], m: usize, at: usize, z: i32) -> bool
     requires { ⌜ at + (4 * m + 1) ≤ length (now leaves) ⌝ }
     ensures { λ r. ⌜ r ≡ belowAll (lists m) z (now (leaves .entry)) at ⌝ }
 {
     let mut i: usize = 0;
     while i <= m {
-        let low = leaves[at + 4 * i] as i64;
+        let low = leaves[at + 4 * i];
         if low <= z {
             return false;
         }
@@ -22,13 +22,13 @@ fn below_all(leaves: &[i32], m: usize, at: usize, z: i64) -> bool
 }
 
 // Whether z is above the m + 1 numbers that stand four apart from index `at` on.
-fn above_all(leaves: &[i32], m: usize, at: usize, z: i64) -> bool
+fn above_all(leaves: &[i32], m: usize, at: usize, z: i32) -> bool
     requires { ⌜ at + (4 * m + 1) ≤ length (now leaves) ⌝ }
     ensures { λ r. ⌜ r ≡ aboveAll (lists m) z (now (leaves .entry)) at ⌝ }
 {
     let mut i: usize = 0;
     while i <= m {
-        let high = leaves[at + 4 * i] as i64;
+        let high = leaves[at + 4 * i];
         if z <= high {
             return false;
         }
@@ -39,7 +39,7 @@ fn above_all(leaves: &[i32], m: usize, at: usize, z: i64) -> bool
 
 // Whether z is below every low of the boxes of a record of m pieces, the first of which stands at index `at`, or above
 // every high.
-fn beyond(leaves: &[i32], m: usize, at: usize, z: i64) -> bool
+fn beyond(leaves: &[i32], m: usize, at: usize, z: i32) -> bool
     requires { ⌜ at + (4 * m + 2) ≤ length (now leaves) ⌝ }
     ensures { λ r. ⌜ r ≡ beyond (lists m) z (now (leaves .entry)) at ⌝ }
 {
@@ -51,7 +51,7 @@ fn beyond(leaves: &[i32], m: usize, at: usize, z: i64) -> bool
 
 // Whether the point (x, y) is apart from the record of m pieces that begins at index `at`: beyond all its boxes on one
 // side.
-fn apart(leaves: &[i32], m: usize, at: usize, x: i64, y: i64) -> bool
+fn apart(leaves: &[i32], m: usize, at: usize, x: i32, y: i32) -> bool
     requires { ⌜ at + recordLength (lists m) ≤ length (now leaves) ⌝ }
     ensures { λ r. ⌜ r ≡ apart (lists m) x y (now (leaves .entry)) at ⌝ }
 {
@@ -61,16 +61,15 @@ fn apart(leaves: &[i32], m: usize, at: usize, x: i64, y: i64) -> bool
     beyond(leaves, m, at + 4, y)
 }
 
-// The index of the first record of m pieces from index `from` on that the point (x, y) is not apart from, or one past
-// the last record.
-fn near_from(leaves: &[i32], m: usize, from: usize, x: i64, y: i64) -> usize
-    requires { ⌜ (HasRows m) × (length (now leaves) % recordLength (lists m) ≡ 0)
-        × (from % recordLength (lists m) ≡ 0) ⌝ }
+// The index of the first record of m pieces from index `from` on that the point (x, y) is not apart from, or `to` where
+// it is apart from every record before.
+fn near_from(leaves: &[i32], m: usize, from: usize, to: usize, x: i32, y: i32) -> usize
+    requires { ⌜ (HasRows m) × (EndsAt (lists m) (now leaves) to) × (from % recordLength (lists m) ≡ 0) ⌝ }
     ensures { λ r. ⌜ ApartTo (lists m) x y (now (leaves .entry)) from r ⌝ }
 {
     let record_length = 6 + 4 * m;
     let mut at = from;
-    while at < leaves.len() {
+    while at < to {
         if !apart(leaves, m, at, x, y) {
             return at;
         }
@@ -79,21 +78,21 @@ fn near_from(leaves: &[i32], m: usize, from: usize, x: i64, y: i64) -> usize
     at
 }
 
-// The index of the first record of m pieces from index `from` on that the point (x, y) is not apart from, or one past
-// the last record. Each m has a call of its own, so that the compiler knows how many boxes a record has.
-pub fn next_near(leaves: &[i32], m: usize, from: usize, x: i64, y: i64) -> usize
-    requires { ⌜ (HasRows m) × (length (now leaves) % recordLength (lists m) ≡ 0)
-        × (from % recordLength (lists m) ≡ 0) ⌝ }
+// The index of the first record of m pieces from index `from` on that the point (x, y) is not apart from, or `to` where
+// it is apart from every record before. Each m has a call of its own, so that the compiler knows how many boxes there
+// are in a record.
+pub fn next_near(leaves: &[i32], m: usize, from: usize, to: usize, x: i32, y: i32) -> usize
+    requires { ⌜ (HasRows m) × (EndsAt (lists m) (now leaves) to) × (from % recordLength (lists m) ≡ 0) ⌝ }
     ensures { λ r. ⌜ ApartTo (lists m) x y (now (leaves .entry)) from r ⌝ }
 {
     match m {
-        1 => near_from(leaves, 1, from, x, y),
-        2 => near_from(leaves, 2, from, x, y),
-        3 => near_from(leaves, 3, from, x, y),
-        4 => near_from(leaves, 4, from, x, y),
-        5 => near_from(leaves, 5, from, x, y),
-        6 => near_from(leaves, 6, from, x, y),
-        7 => near_from(leaves, 7, from, x, y),
-        _ => near_from(leaves, 8, from, x, y),
+        1 => near_from(leaves, 1, from, to, x, y),
+        2 => near_from(leaves, 2, from, to, x, y),
+        3 => near_from(leaves, 3, from, to, x, y),
+        4 => near_from(leaves, 4, from, to, x, y),
+        5 => near_from(leaves, 5, from, to, x, y),
+        6 => near_from(leaves, 6, from, to, x, y),
+        7 => near_from(leaves, 7, from, to, x, y),
+        _ => near_from(leaves, 8, from, to, x, y),
     }
 }

@@ -4,7 +4,7 @@ ghost use mathlib.Core.Option.{none};
 ghost use Rattle.setting.specs.Setting.{lists, HasRows, covers};
 ghost use Rattle.boxes.specs.Ranges.{placeOr};
 ghost use Rattle.judge.specs.Judging.{Passed, Verdict};
-ghost use Rattle.judge.specs.Inside.{InRange, RecordAt, holderAt};
+ghost use Rattle.judge.specs.Inside.{InRange, RecordAt, holderAt, EndsAt, Searched, FoundTo};
 use crate::beyond::next_near;
 use crate::judging::Judgement;
 use judge_cover::cover_test::holds;
@@ -27,21 +27,42 @@ fn first_cover(leaves: &[i32], m: usize, at: usize, x: i64, y: i64) -> usize
     m
 }
 
-// The first record of m pieces and its first cover that hold the point (x, y), or off. Covers are tried only of records
-// that the point is not apart from.
-pub fn find(leaves: &[i32], m: usize, x: i64, y: i64) -> Judgement
+// A record and a cover of it that hold a point; where none was found the cover is m.
+pub struct Holder {
+    pub leaf: usize,
+    pub cover: usize,
+}
+
+// The first record of m pieces and its first cover that hold the point (x, y), looked for from index `from` to before
+// index `to`: no record before `from` holds it. Covers are tried only of records that the point is not apart from.
+pub fn find_to(leaves: &[i32], m: usize, from: usize, to: usize, x: i32, y: i32) -> Holder
+    requires { ⌜ (HasRows m) × (Passed (lists m) (now leaves)) × (InRange x y) × (EndsAt (lists m) (now leaves) to)
+        × (Searched (lists m) (now leaves) x y from) ⌝ }
+    ensures { λ r. ⌜ FoundTo (lists m) (now (leaves .entry)) x y to r ⌝ }
+{
+    let record_length = 6 + 4 * m;
+    let mut at = next_near(leaves, m, from, to, x, y);
+    while at < to {
+        let cover = first_cover(leaves, m, at, x as i64, y as i64);
+        if cover < m {
+            let leaf = at / record_length;
+            return Holder { leaf, cover };
+        }
+        at = next_near(leaves, m, at + record_length, to, x, y);
+    }
+    Holder { leaf: 0, cover: m }
+}
+
+// The first record of m pieces and its first cover that hold the point (x, y), or off.
+pub fn find(leaves: &[i32], m: usize, x: i32, y: i32) -> Judgement
     requires { ⌜ (HasRows m) × (Passed (lists m) (now leaves)) × (InRange x y) ⌝ }
     ensures { λ r. ⌜ Verdict (lists m) none (now (leaves .entry)) x y r ⌝ }
 {
-    let record_length = 6 + 4 * m;
-    let mut at = next_near(leaves, m, 0, x, y);
-    while at < leaves.len() {
-        let cover = first_cover(leaves, m, at, x, y);
-        if cover < m {
-            let leaf = at / record_length;
-            return Judgement::On { leaf, cover };
-        }
-        at = next_near(leaves, m, at + record_length, x, y);
+    let holder = find_to(leaves, m, 0, leaves.len(), x, y);
+    let leaf = holder.leaf;
+    let cover = holder.cover;
+    if cover < m {
+        return Judgement::On { leaf, cover };
     }
     Judgement::Off
 }

@@ -3,8 +3,10 @@ ghost use mathlib.Core.Path.{_≡_};
 ghost use lib.ListN.{length};
 ghost use Rattle.setting.specs.Setting.{lists, station};
 ghost use Rattle.band.specs.Banding.{banded, written};
+ghost use Rattle.judge_points.specs.Points.{pointsJudged, judgedInto};
 ghost use Rattle.draw.specs.Drawing.{drawn, drawnInto};
 ghost use Rattle.contour.specs.Numbers.{bandAnswerOf};
+ghost use Rattle.contour.specs.Points.{pointsAnswerOf};
 ghost use Rattle.contour.specs.Drawings.{drawingOf};
 ghost use Rattle.engine.specs.Outcomes.{writtenFor};
 ghost use Rattle.contour.specs.Answers.{JudgedInNumbers, AnsweredInNumbers};
@@ -13,6 +15,7 @@ use contour::OutcomeAnswer;
 use contour::c_answers::Answer;
 use contour::c_answers::Drawing;
 use contour::c_answers::JudgingAnswer;
+use contour::c_answers::PointsAnswer;
 
 pub fn contour_band(outline: &[i32], tolerance: i32, m: u32, records: &mut [i32]) -> Answer
     ensures { λ r. ⌜ r
@@ -51,6 +54,20 @@ pub fn contour_band_and_judge(
     ensures { λ r. ⌜ AnsweredInNumbers (lists m) tolerance (now (outline .entry)) x y (now (records .entry)) r ⌝ }
 {
     contour::contour_band_and_judge(outline, tolerance, m, records, x, y)
+}
+
+pub fn contour_judge_points(
+    leaves: &[i32],
+    m: u32,
+    points: &[i32],
+    answers: &mut [i64],
+) -> PointsAnswer
+    ensures { λ r. ⌜ r ≡ pointsAnswerOf (pointsJudged (lists m) (now (leaves .entry)) (now (points .entry))
+        (length (now (answers .entry)))) ⌝ }
+    ensures { λ r. ⌜ now (answers .exit) ≡ judgedInto (lists m) (now (leaves .entry)) (now (points .entry))
+        (now (answers .entry)) ⌝ }
+{
+    contour::contour_judge_points(leaves, m, points, answers)
 }
 
 pub fn contour_draw(first: Box, second: Box, vertices: &mut [i32]) -> Drawing

@@ -4,11 +4,13 @@ ghost use lib.ListN.{length};
 ghost use Rattle.setting.specs.Setting.{lists, station};
 ghost use Rattle.band.specs.Banding.{banded, written};
 ghost use Rattle.judge.specs.Judging.{Judged};
+ghost use Rattle.judge_points.specs.Points.{pointsJudged, judgedInto};
 ghost use Rattle.draw.specs.Drawing.{drawn, drawnInto};
 use band::banding::Banded;
 use boxes::Box;
 use draw::drawing::Drawn;
 use judge::judging::Judgement;
+use judge_points::answers::PointsJudged;
 
 pub fn band(outline: &[i32], tolerance: i32, m: u32, records: &mut [i32]) -> Banded
     ensures { λ r. ⌜ r ≡ banded (lists m) tolerance (now (outline .entry)) (length (now (records .entry))) ⌝ }
@@ -30,6 +32,15 @@ pub fn judge(leaves: &[i32], m: u32, x: i32, y: i32) -> Judgement
     ensures { λ r. ⌜ Judged (lists m) (now (leaves .entry)) x y r ⌝ }
 {
     judge::judge(leaves, m, x, y)
+}
+
+pub fn judge_points(leaves: &[i32], m: u32, points: &[i32], answers: &mut [i64]) -> PointsJudged
+    ensures { λ r. ⌜ r ≡ pointsJudged (lists m) (now (leaves .entry)) (now (points .entry))
+        (length (now (answers .entry))) ⌝ }
+    ensures { λ r. ⌜ now (answers .exit) ≡ judgedInto (lists m) (now (leaves .entry)) (now (points .entry))
+        (now (answers .entry)) ⌝ }
+{
+    judge_points::judge_points(leaves, m, points, answers)
 }
 
 pub fn draw(first: Box, second: Box, vertices: &mut [i32]) -> Drawn

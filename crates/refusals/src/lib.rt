@@ -17,7 +17,7 @@ pub enum Refusal {
     EmptyOutline,
     // 7: the first node at the last depth that does not meet the tolerance.
     TooWide { curve: u32, node: u32 },
-    // 8: the records lent are too few for this many leaves.
+    // 8: the numbers lent are too few for the records of this many leaves, or for the answers to this many points.
     TooFewRecords(usize),
     // 9: the leaf list is empty or its length is no multiple of a record's.
     LeafListLength(usize),
@@ -45,6 +45,8 @@ pub enum Refusal {
     TooManyLeaves(usize),
     // 20: a degree takes more pieces, at this index.
     DegreePieces(usize),
+    // 101: a list of points has an odd count of numbers, this one.
+    OddPoints(usize),
 }
 
 impl Refusal {
@@ -74,6 +76,7 @@ impl Refusal {
             Refusal::Pieces => 18,
             Refusal::TooManyLeaves(_) => 19,
             Refusal::DegreePieces(_) => 20,
+            Refusal::OddPoints(_) => 101,
         }
     }
 
@@ -103,6 +106,7 @@ impl Refusal {
             Refusal::Pieces => 0,
             Refusal::TooManyLeaves(leaves) => leaves,
             Refusal::DegreePieces(index) => index,
+            Refusal::OddPoints(count) => count,
         }
     }
 }

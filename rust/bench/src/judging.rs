@@ -19,6 +19,17 @@ pub fn run() {
         row(&format!("a third of each, m {m}"), &leaves, &mixed(&leaves));
         row(&format!("refused, leaves checked, m {m}"), &leaves, &refused());
     }
+    println!();
+    println!(
+        "The same points in one call, all of which the proved engine judges with one check of the leaves."
+    );
+    println!("{:<32} {:>7} {:>7} {}  answers", "points", "on", "off", heading("plain"));
+    for m in [3, 1, 8] {
+        let leaves = leaves(m);
+        list_row(&format!("on the band, m {m}"), &leaves, &near(&leaves));
+        list_row(&format!("beside the band, m {m}"), &leaves, &beside(&leaves));
+        list_row(&format!("far from the band, m {m}"), &leaves, &far());
+    }
 }
 
 /// Times both engines on the same points and prints a line.
@@ -44,6 +55,32 @@ fn row(name: &str, leaves: &Leaves, points: &[Point]) {
         name,
         count(true),
         count(false),
+        times,
+        if same { "equal" } else { "DIFFERENT" },
+    );
+    assert!(same, "{name}: the engines differ");
+}
+
+/// Times both engines on the same points in one call and prints a line.
+fn list_row(name: &str, leaves: &Leaves, points: &[Point]) {
+    let Leaves { ref records, m } = *leaves;
+    let numbers: Vec<i32> = points.iter().flat_map(|&(x, y)| [x, y]).collect();
+    let (mut by_plain, mut by_proved) = (vec![-1; 3 * points.len()], vec![-1; 3 * points.len()]);
+    let (times, plain, proved) = by_turns(
+        || plain::judge_points(black_box(records), m, black_box(&numbers), &mut by_plain).ok(),
+        || {
+            let judged =
+                contour_band::judge_points(black_box(records), m, black_box(&numbers), &mut by_proved);
+            judged.ok().map(|judgements| judgements.len())
+        },
+    );
+    let count = |answer| by_plain.chunks_exact(3).filter(|three| three[0] == answer).count();
+    let same = plain == proved && by_plain == by_proved;
+    println!(
+        "{:<32} {:>7} {:>7} {}  {}",
+        name,
+        count(1),
+        count(0),
         times,
         if same { "equal" } else { "DIFFERENT" },
     );

@@ -23,6 +23,17 @@ pub struct Leaves {
     pub m: u32,
 }
 
+impl Leaves {
+    /// Puts the records in another order, in which no neighbours stay together.
+    pub fn scatter(&mut self) {
+        let length = record_length(self.m);
+        let count = self.records.len() / length;
+        // The step is prime and divides no count that is used here, so each record comes once.
+        let record = |i: usize| &self.records[length * (7_919 * i % count)..][..length];
+        self.records = (0..count).map(record).collect::<Vec<_>>().concat();
+    }
+}
+
 /// A point in sixteenths of a stage unit.
 pub type Point = (i32, i32);
 

@@ -76,6 +76,53 @@ pub fn judge(leaves: &[i32], m: u32, x: i32, y: i32) -> Result<Judgement, Refusa
     Ok(Judgement::new(answer.on, answer.leaf, answer.cover))
 }
 
+/// Judges points, x and y of each one after the other, against one list of leaf records of `m` pieces. The list is
+/// checked once, so with many points this is far faster than a call of [`judge`] for each.
+///
+/// Returns what judging says of each point, in their order; a point that is refused does not end it. Each answer is
+/// three numbers, which stand at the front of `answers` afterwards: 1, record and cover where the point is on; 0, 0, 0
+/// where it is off; 11, spot, 0 where it is refused. What stood behind them stays. A call takes 34 KiB of stack.
+///
+/// ```
+/// use contour_band::{band, judge_points, Judgement, Refusal};
+///
+/// let mut records = [0; 18];
+/// band(&[3, 0, 0, 10, 30, 20, 30, 30, 0], 44, 3, &mut records)?;
+///
+/// let points = [[240, 363], [240, 364], [0, i32::MAX]];
+/// let mut answers = [-1; 10];
+/// let judgements = judge_points(&records, 3, &points.concat(), &mut answers)?;
+/// assert_eq!(
+///     judgements.collect::<Vec<_>>(),
+///     [Ok(Judgement::On { leaf: 0, cover: 1 }), Ok(Judgement::Off), Err(Refusal::PointY)]
+/// );
+/// assert_eq!(answers, [1, 0, 1, 0, 0, 0, 11, 1, 0, -1]);
+/// # Ok::<(), Refusal>(())
+/// ```
+///
+/// # Errors
+///
+/// [`Refusal::Pieces`], [`Refusal::LeafListLength`], [`Refusal::LeafListNumber`], [`Refusal::OddPoints`] and, with fewer
+/// than three numbers for each point in `answers`, [`Refusal::TooFewRecords`], the first in this order. Each leaves
+/// `answers` unaltered.
+pub fn judge_points<'a>(
+    leaves: &[i32],
+    m: u32,
+    points: &[i32],
+    answers: &'a mut [i64],
+) -> Result<impl ExactSizeIterator<Item = Result<Judgement, Refusal>> + 'a, Refusal> {
+    let answer = library::judge_points(leaves, m, points, answers);
+    if answer.refusal != 0 {
+        return Err(Refusal::new(answer.refusal, answer.spot));
+    }
+    let written = &answers[..3 * answer.points as usize];
+    Ok(written.chunks_exact(3).map(|three| match three[0] {
+        0 => Ok(Judgement::Off),
+        1 => Ok(Judgement::On { leaf: three[1] as usize, cover: three[2] as usize }),
+        number => Err(Refusal::new(number as u32, three[1] as u64)),
+    }))
+}
+
 /// What banding an outline and judging a point come to, where nothing is refused.
 #[derive(Debug, Clone, Copy, PartialEq, Eq, Hash)]
 pub struct Outcome {

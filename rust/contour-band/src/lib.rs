@@ -6,7 +6,8 @@
 //! curve, m straight pieces with a box at each of their m + 1 ends. The caller chooses m, 1 to 8, or 3 to 8
 //! where a curve has degree 4 or 5. [`station_band`] does the same for the bench station, which takes less.
 //! [`leaves`] reads the records. [`judge`] says of a measured point whether it lies on what the boxes cover,
-//! and [`band_and_judge`] does both. [`draw`] draws the convex hull of two boxes.
+//! [`judge_points`] of many at once, and [`band_and_judge`] bands and judges a point. [`draw`] draws the convex
+//! hull of two boxes.
 //!
 //! Two lines at the root of the repository build the archive that is linked, and run a program with it:
 //!
@@ -17,7 +18,8 @@
 //!
 //! The engine takes any numbers and any lengths and always returns. It allocates nothing and keeps nothing:
 //! every list is the caller's, and calls from several threads do not disturb one another. What breaks a
-//! bound is a [`Refusal`], with the number and the spot that documents 01 and 02 give.
+//! bound is a [`Refusal`], with the number and the spot that documents 01 and 02 give, or from 101 on with one of the
+//! engine's own.
 //!
 //! ```
 //! use contour_band::{band, judge, leaves, record_length, Judgement, Refusal};
@@ -53,6 +55,6 @@ mod refusal;
 
 pub use band::{band, station_band, Report, STATION_CURVES, STATION_LEAVES};
 pub use cover::{draw, VERTEX_ROOM};
-pub use judge::{band_and_judge, judge, Judgement, Outcome, FARTHEST};
+pub use judge::{band_and_judge, judge, judge_points, Judgement, Outcome, FARTHEST};
 pub use leaf::{leaves, record_length, Bounds, BoxBounds, Leaf};
 pub use refusal::Refusal;

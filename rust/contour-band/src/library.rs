@@ -27,6 +27,16 @@ pub struct Judgement {
     pub cover: u64,
 }
 
+/// `struct contour_band_points`.
+#[repr(C)]
+#[derive(Debug, Clone, Copy, PartialEq, Eq)]
+pub struct Points {
+    /// 0 where nothing is refused.
+    pub refusal: u32,
+    pub spot: u64,
+    pub points: u64,
+}
+
 /// `struct contour_band_outcome`.
 #[repr(C)]
 #[derive(Debug, Clone, Copy, PartialEq, Eq)]
@@ -83,6 +93,16 @@ extern "C" {
 
     fn contour_judge(leaves: *const i32, leaves_length: usize, m: u32, x: i32, y: i32) -> Judgement;
 
+    fn contour_judge_points(
+        leaves: *const i32,
+        leaves_length: usize,
+        m: u32,
+        points: *const i32,
+        points_length: usize,
+        answers: *mut i64,
+        answers_length: usize,
+    ) -> Points;
+
     fn contour_band_and_judge(
         outline: *const i32,
         outline_length: usize,
@@ -126,6 +146,22 @@ pub fn judge(leaves: &[i32], m: u32, x: i32, y: i32) -> Judgement {
     // Safety: the slice gives a valid, aligned part of memory, and the function is proved to stay
     // inside it for all contents and lengths.
     unsafe { contour_judge(leaves.as_ptr(), leaves.len(), m, x, y) }
+}
+
+/// The answer for a list of points. Writes to `answers` as the header says.
+pub fn judge_points(leaves: &[i32], m: u32, points: &[i32], answers: &mut [i64]) -> Points {
+    // Safety: as for `band`.
+    unsafe {
+        contour_judge_points(
+            leaves.as_ptr(),
+            leaves.len(),
+            m,
+            points.as_ptr(),
+            points.len(),
+            answers.as_mut_ptr(),
+            answers.len(),
+        )
+    }
 }
 
 /// The outcome for an outline and a point. Writes to `records` as the header says.

@@ -50,9 +50,10 @@ pub enum Refusal {
         /// The first such node of the walk: 256 to 511, or 16 to 31 where the curve's degree is 4 or 5.
         node: u32,
     },
-    /// 8: the lent list has fewer numbers than the leaves need.
+    /// 8: the lent list has fewer numbers than the leaves need, or the answers to a list of points.
     TooFewRecords {
-        /// How many leaves the outline has; each needs [`record_length`](crate::record_length) numbers.
+        /// How many leaves the outline has; each needs [`record_length`](crate::record_length) numbers. Of a list of
+        /// points, how many points there are; each needs three.
         leaves: usize,
     },
     /// 19: the outline has more leaves than the bench station takes, which is 128.
@@ -70,6 +71,11 @@ pub enum Refusal {
     LeafListNumber {
         /// The index of the first such number; for a low above its high, the low's.
         index: usize,
+    },
+    /// 101: the list of points has an odd count of numbers.
+    OddPoints {
+        /// The list's length.
+        length: usize,
     },
     /// 11: the point's x is beyond ±[`FARTHEST`](crate::FARTHEST).
     PointX,
@@ -89,7 +95,7 @@ pub enum Refusal {
 }
 
 impl Refusal {
-    /// The refusal's number in documents 01 and 02.
+    /// The refusal's number in documents 01 and 02; numbers from 101 on are the engine's own.
     pub fn number(self) -> u32 {
         match self {
             Refusal::Tolerance => 1,
@@ -109,6 +115,7 @@ impl Refusal {
             Refusal::Pieces => 18,
             Refusal::TooManyLeaves { .. } => 19,
             Refusal::TooFewPieces { .. } => 20,
+            Refusal::OddPoints { .. } => 101,
         }
     }
 
@@ -123,7 +130,9 @@ impl Refusal {
             | Refusal::LeafListNumber { index }
             | Refusal::Gap { index }
             | Refusal::TooFewPieces { index } => index as u64,
-            Refusal::CutShort { length } | Refusal::LeafListLength { length } => length as u64,
+            Refusal::CutShort { length }
+            | Refusal::LeafListLength { length }
+            | Refusal::OddPoints { length } => length as u64,
             Refusal::TooWide { curve, node } => 512 * curve as u64 + u64::from(node),
             Refusal::TooFewRecords { leaves } | Refusal::TooManyLeaves { leaves } => leaves as u64,
             Refusal::BoxNumber { place } => place as u64,
@@ -157,6 +166,7 @@ impl Refusal {
             18 => Refusal::Pieces,
             19 => Refusal::TooManyLeaves { leaves: place },
             20 => Refusal::TooFewPieces { index: place },
+            101 => Refusal::OddPoints { length: place },
             _ => panic!("the library answered refusal {number} at {spot}, which does not exist"),
         }
     }
@@ -179,7 +189,7 @@ impl fmt::Display for Refusal {
                 write!(f, "node {node} of curve {curve} is too wide after its last halving")
             }
             Refusal::TooFewRecords { leaves } => {
-                write!(f, "the list has no room for {leaves} leaves")
+                write!(f, "the list has no room for {leaves} leaves or points")
             }
             Refusal::TooManyLeaves { leaves } => {
                 write!(f, "the outline has {leaves} leaves, more than are taken")
@@ -188,6 +198,7 @@ impl fmt::Display for Refusal {
             Refusal::LeafListNumber { .. } => {
                 write!(f, "a number of the leaf list is outside its range, or a low is above its high")
             }
+            Refusal::OddPoints { .. } => write!(f, "the list of points has an odd count of numbers"),
             Refusal::PointX => write!(f, "the point's x is outside its range"),
             Refusal::PointY => write!(f, "the point's y is outside its range"),
             Refusal::BoxNumber { place } => {
@@ -209,7 +220,7 @@ mod tests {
     #[test]
     fn number_and_spot_are_what_the_library_answered() {
         let places = [0, 1, 17, 575, 32_767];
-        for number in (2..=10).chain(12..=13).chain([17, 19, 20]) {
+        for number in (2..=10).chain(12..=13).chain([17, 19, 20, 101]) {
             for place in places {
                 // 6 has the spot 0 only.
                 let spot = if number == 6 { 0 } else { place };

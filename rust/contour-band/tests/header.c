@@ -1,4 +1,5 @@
-/* A C caller of the header: bands curve A, judges points, draws two boxes, and prints the answers, to be compared by header.rs. */
+/* A C caller of the header: bands curve A, judges points, one by one and as a list, draws two boxes, and prints the answers, to
+ * be compared by header.rs. */
 #include "contour_band.h"
 
 #include <stdio.h>
@@ -32,6 +33,33 @@ static void judge(const int32_t *leaves, size_t leaves_length) {
     print_judgement(contour_judge(leaves, leaves_length + 1, M, 240, 363));
     print_judgement(contour_judge(leaves + 1, leaves_length, M, 240, 363));
     print_judgement(contour_judge(leaves, leaves_length, CONTOUR_BAND_PIECES_MAX + 1, 240, 363));
+}
+
+/* Judges a list of points and prints the answer, and the list of answers with one number past it. */
+static void judge_points(const int32_t *leaves, size_t leaves_length, uint32_t m, size_t points_length, size_t answers_length) {
+    const int32_t points[8] = {240, 363, 240, 364, -CONTOUR_BAND_FARTHEST - 1, 0, 0, CONTOUR_BAND_FARTHEST + 1};
+    int64_t answers[4 * CONTOUR_BAND_ANSWER + 1];
+    for (int i = 0; i <= 4 * CONTOUR_BAND_ANSWER; i++) {
+        answers[i] = -1;
+    }
+    const struct contour_band_points answer =
+        contour_judge_points(leaves, leaves_length, m, points, points_length, answers, answers_length);
+    printf("%u %llu %llu:", (unsigned)answer.refusal, (unsigned long long)answer.spot, (unsigned long long)answer.points);
+    for (int i = 0; i <= 4 * CONTOUR_BAND_ANSWER; i++) {
+        printf(" %lld", (long long)answers[i]);
+    }
+    printf("\n");
+}
+
+static void judge_lists(const int32_t *leaves, size_t leaves_length) {
+    judge_points(leaves, leaves_length, M, 8, 12);
+    judge_points(leaves, leaves_length, M, 2, 3);
+    judge_points(leaves, leaves_length, M, 0, 0);
+    judge_points(leaves, leaves_length, CONTOUR_BAND_PIECES_MAX + 1, 7, 8);
+    judge_points(leaves, leaves_length + 1, M, 7, 8);
+    judge_points(leaves + 1, leaves_length, M, 7, 8);
+    judge_points(leaves, leaves_length, M, 7, 8);
+    judge_points(leaves, leaves_length, M, 6, 8);
 }
 
 static void band_and_judge(const int32_t *outline, int32_t *records) {
@@ -96,6 +124,7 @@ int main(void) {
     const int negative = -3;
     print(contour_band(outline, 9, 44, negative, records, CONTOUR_BAND_RECORD(M)));
     judge(records, CONTOUR_BAND_RECORD(M));
+    judge_lists(records, CONTOUR_BAND_RECORD(M));
     band_and_judge(outline, records);
     higher(records);
 

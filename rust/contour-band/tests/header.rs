@@ -24,6 +24,14 @@ const EXPECTED: &str = "\
 9 19 0 0 0
 10 1 0 0 0
 18 0 0 0 0
+0 0 4: 1 0 1 0 0 0 11 0 0 11 1 0 -1
+0 0 1: 1 0 1 -1 -1 -1 -1 -1 -1 -1 -1 -1 -1
+0 0 0: -1 -1 -1 -1 -1 -1 -1 -1 -1 -1 -1 -1 -1
+18 0 0: -1 -1 -1 -1 -1 -1 -1 -1 -1 -1 -1 -1 -1
+9 19 0: -1 -1 -1 -1 -1 -1 -1 -1 -1 -1 -1 -1 -1
+10 1 0: -1 -1 -1 -1 -1 -1 -1 -1 -1 -1 -1 -1 -1
+101 7 0: -1 -1 -1 -1 -1 -1 -1 -1 -1 -1 -1 -1 -1
+8 3 0: -1 -1 -1 -1 -1 -1 -1 -1 -1 -1 -1 -1 -1
 8 2 0 0 0
   0 0 0
 0 0 1 2 3
@@ -81,24 +89,33 @@ fn a_c_program_gets_the_same_answers() {
     assert_eq!(printed(&c::root().join("rust/contour-band/tests/header.c"), "header"), EXPECTED);
 }
 
-/// What the header says of the station's stack, for curves of each degree. An outline is refused or it is
-/// banded, with the most leaves or few.
+/// What the header says of the stack of a call: of the station's, for curves of each degree, refused or banded, with the
+/// most leaves or few; and of judging a list of points.
 #[test]
-fn the_station_takes_little_stack() {
+fn calls_take_little_stack() {
     let printed = printed(&c::root().join("rust/contour-band/tests/stack.c"), "stack");
-    let (promised, calls) = printed.split_once('\n').expect("lines are printed");
-    assert_eq!(promised, "6144");
     let mut most = [0; 5];
-    for call in calls.lines() {
-        let (degree, bytes) = call.split_once(' ').expect("two numbers are printed");
-        let degree: usize = degree.parse().expect("a degree is printed");
-        let bytes: i32 = bytes.parse().expect("a number is printed");
-        assert!(bytes <= 6_144, "{bytes} bytes of stack at degree {degree}");
-        most[degree - 1] = bytes.max(most[degree - 1]);
+    let mut points = 0;
+    for line in printed.lines() {
+        let (call, numbers) = line.split_once(' ').expect("a word and numbers are printed");
+        let numbers: Vec<i32> = numbers.split(' ').map(|n| n.parse().expect("a number is printed")).collect();
+        match (call, &numbers[..]) {
+            ("promised", &[station, judging]) => assert_eq!((station, judging), (6_144, 34_816)),
+            ("station", &[degree, bytes]) => {
+                assert!(bytes <= 6_144, "{bytes} bytes of stack at degree {degree}");
+                let at = usize::try_from(degree).expect("a degree is printed") - 1;
+                most[at] = bytes.max(most[at]);
+            }
+            ("points", &[bytes]) => {
+                assert!(bytes <= 34_816, "{bytes} bytes of stack");
+                points = bytes.max(points);
+            }
+            _ => panic!("{line}"),
+        }
     }
-    println!("the station's stack in {} calls, the most bytes by degree: {most:?}", calls.lines().count());
+    println!("the most bytes of stack: the station's by degree {most:?}, judging points {points}");
     // Some outline of each degree is walked: a refusal before the walk takes less than 300 bytes.
-    assert!(most.iter().all(|bytes| *bytes > 1_024), "{most:?}");
+    assert!(most.iter().all(|bytes| *bytes > 1_024) && points > 1_024, "{most:?} {points}");
 }
 
 #[test]

@@ -1,6 +1,6 @@
-/* How much stack contour_station_band takes: each call runs on a stack of its own, filled with one byte beforehand, and what it
- * did not touch is counted from the far end. Prints the bytes that the header promises, then a line for each call, its degree
- * and its bytes, to be compared by header.rs. */
+/* How much stack contour_station_band and contour_judge_points take: each call runs on a stack of its own, filled with one byte
+ * beforehand, and what it did not touch is counted from the far end. Prints the bytes that the header promises, then a line for
+ * each call, the station's with its degree, to be compared by header.rs. */
 #define _XOPEN_SOURCE 700
 #include "contour_band.h"
 
@@ -14,23 +14,30 @@
 static unsigned char stack[SIZE];
 static ucontext_t caller, callee;
 
-/* What the call is given. */
+/* What banding is given. */
 static int32_t outline[(3 + 2 * CONTOUR_BAND_DEGREE_MAX) * 66], records[CONTOUR_BAND_STATION_ROOM(CONTOUR_BAND_PIECES_MAX)];
 static size_t outline_length, records_length;
 static int32_t tolerance;
 static uint32_t m;
-static int calls;
 
-static void run(void) {
-    if (calls) {
-        contour_station_band(outline, outline_length, tolerance, m, records, records_length);
-    }
+/* What judging is given, with m: one record more than there are runs. */
+static int32_t leaves[2049 * CONTOUR_BAND_RECORD(CONTOUR_BAND_PIECES_MAX)];
+static const int32_t points[12] = {0, 0, 3, 1, 2049, 1, CONTOUR_BAND_FARTHEST, 0, CONTOUR_BAND_FARTHEST + 1, 0,
+                                   0, CONTOUR_BAND_FARTHEST + 1};
+static size_t leaves_length, points_length;
+static int64_t answers[6 * CONTOUR_BAND_ANSWER];
+
+static void nothing(void) {}
+
+static void station(void) { contour_station_band(outline, outline_length, tolerance, m, records, records_length); }
+
+static void judge_points(void) {
+    contour_judge_points(leaves, leaves_length, m, points, points_length, answers, sizeof answers / sizeof *answers);
 }
 
-/* The bytes of the stack that are touched, with the call and without. */
-static int touched(int with) {
+/* The bytes of the stack that are touched by a call. */
+static int touched(void (*run)(void)) {
     memset(stack, MARK, SIZE);
-    calls = with;
     getcontext(&callee);
     callee.uc_stack.ss_sp = stack;
     callee.uc_stack.ss_size = SIZE;
@@ -56,15 +63,24 @@ static void curves(int count, int degree, int32_t far) {
     }
 }
 
-int main(void) {
+/* So many records side by side, one wide and one high each. */
+static void squares(int count) {
+    leaves_length = 0;
+    for (int i = 0; i < count; i++) {
+        leaves[leaves_length++] = 0;
+        leaves[leaves_length++] = 1;
+        for (uint32_t end = 0; end <= m; end++) {
+            leaves[leaves_length++] = i;
+            leaves[leaves_length++] = i + 1;
+            leaves[leaves_length++] = 0;
+            leaves[leaves_length++] = 1;
+        }
+    }
+}
+
+static void measure_station(void) {
     const int32_t far[] = {0, 1, 800, CONTOUR_BAND_COORDINATE_MAX};
     const int32_t tolerances[] = {1, 2, 3, 100, CONTOUR_BAND_TOLERANCE_MAX};
-    printf("%d\n", CONTOUR_BAND_STATION_STACK);
-    /* A program's first call of a function may be the loader's too. */
-    m = 1;
-    tolerance = 100;
-    curves(1, 3, 800);
-    touched(1);
     for (m = 0; m <= CONTOUR_BAND_PIECES_MAX + 1; m++) {
         for (int count = 0; count <= 66; count += count < 4 ? 1 : 31) {
             for (int degree = 1; degree <= CONTOUR_BAND_DEGREE_MAX; degree++) {
@@ -72,10 +88,34 @@ int main(void) {
                     curves(count, degree, far[i / 10]);
                     tolerance = tolerances[i % 10 / 2];
                     records_length = i % 2 ? sizeof records / sizeof *records : 0;
-                    printf("%d %d\n", degree, touched(1) - touched(0));
+                    printf("station %d %d\n", degree, touched(station) - touched(nothing));
                 }
             }
         }
     }
+}
+
+static void measure_points(void) {
+    const int counts[] = {0, 1, 2, 64, 65, 2048, 2049};
+    for (m = CONTOUR_BAND_PIECES_MIN; m <= CONTOUR_BAND_PIECES_MAX; m++) {
+        for (int i = 0; i < 7; i++) {
+            squares(counts[i]);
+            for (points_length = 0; points_length <= 12; points_length++) {
+                printf("points %d\n", touched(judge_points) - touched(nothing));
+            }
+        }
+    }
+}
+
+int main(void) {
+    printf("promised %d %d\n", CONTOUR_BAND_STATION_STACK, CONTOUR_BAND_POINTS_STACK);
+    /* A program's first call of a function may be the loader's too. */
+    m = 1;
+    tolerance = 100;
+    curves(1, 3, 800);
+    touched(station);
+    touched(judge_points);
+    measure_station();
+    measure_points();
     return 0;
 }

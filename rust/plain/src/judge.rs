@@ -27,6 +27,27 @@ pub fn judge(leaves: &[i32], m: u32, x: i32, y: i32) -> Result<Judgement, Refusa
     for_pieces!(m, judge_leaves)(leaves, x, y)
 }
 
+/// Judges a list of points, x and y of each, against a list of leaf records of m pieces, and writes three numbers for each to
+/// the lent list. Returns how many points there are; whatever is refused, the list stays as it was.
+pub fn judge_points(leaves: &[i32], m: u32, points: &[i32], answers: &mut [i64]) -> Result<usize, Refusal> {
+    judge(leaves, m, 0, 0)?;
+    if points.len() % 2 != 0 {
+        return Err(Refusal::OddPoints { length: points.len() });
+    }
+    let count = points.len() / 2;
+    if answers.len() < 3 * count {
+        return Err(Refusal::TooFewRecords { leaves: count });
+    }
+    for (point, three) in points.chunks_exact(2).zip(answers.chunks_exact_mut(3)) {
+        three.copy_from_slice(&match judge(leaves, m, point[0], point[1]) {
+            Ok(Judgement::On { leaf, cover }) => [1, leaf as i64, cover as i64],
+            Ok(Judgement::Off) => [0; 3],
+            Err(refusal) => [i64::from(refusal.number()), refusal.spot() as i64, 0],
+        });
+    }
+    Ok(count)
+}
+
 /// Judges against records with B break points, which have B − 1 covers. Checks 9, 10 and 11.
 fn judge_leaves<const B: usize>(leaves: &[i32], x: i32, y: i32) -> Result<Judgement, Refusal> {
     leaf_list::check_leaves::<B>(leaves)?;

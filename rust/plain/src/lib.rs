@@ -33,6 +33,6 @@ pub mod text;
 
 pub use band::{band, station_band, Report};
 pub use hull::draw;
-pub use judge::{band_and_judge, judge, Judgement};
+pub use judge::{band_and_judge, judge, judge_points, Judgement};
 pub use pieces::record_length;
 pub use refusal::Refusal;

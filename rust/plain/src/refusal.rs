@@ -1,4 +1,5 @@
-//! Refusals, with the number and the spot that document 01, or a request of document 02, gives each.
+//! Refusals, with the number and the spot that document 01, or a request of document 02, gives each. Numbers from 101 on are
+//! of operations that no document has.
 
 /// Why an operation refused its input. Nothing that the caller lent is altered then.
 #[derive(Debug, Clone, Copy, PartialEq, Eq)]
@@ -96,6 +97,11 @@ pub enum Refusal {
         /// Where the degree stands in the outline.
         index: usize,
     },
+    /// 101: the list of points has an odd count of numbers.
+    OddPoints {
+        /// The length of the list.
+        length: usize,
+    },
 }
 
 impl Refusal {
@@ -122,6 +128,7 @@ impl Refusal {
             Refusal::Pieces => 18,
             Refusal::TooManyLeaves { .. } => 19,
             Refusal::TooFewPieces { .. } => 20,
+            Refusal::OddPoints { .. } => 101,
         }
     }
 
@@ -136,7 +143,9 @@ impl Refusal {
             | Refusal::LeafListNumber { index }
             | Refusal::Gap { index }
             | Refusal::TooFewPieces { index } => index,
-            Refusal::CutShort { length } | Refusal::LeafListLength { length } => length,
+            Refusal::CutShort { length }
+            | Refusal::LeafListLength { length }
+            | Refusal::OddPoints { length } => length,
             Refusal::TooWide { curve, node } => 512 * curve + node,
             Refusal::TooFewRecords { leaves } | Refusal::TooManyLeaves { leaves } => leaves,
             Refusal::BoxNumber { place } => place,

@@ -7,7 +7,6 @@ use borrow.Author.Tests.{not-true, not-false}
 use Rattle.setting.specs.Setting.{lists}
 use Rattle.boxes.specs.Ranges.{inRange}
 use Rattle.judge.specs.Inside.{InRange}
-use Rattle.judge.proofs.Passing.{wide-fits, widened}
 use Rattle.judge.proofs.Holders.{range-size}
 use Rattle.judge.proofs.Answers.{x-bad, y-bad, none-bad, judged-refused, judged-found}
 use Rattle.judge.proofs.judge_point.Statement.{statement}
@@ -46,19 +45,13 @@ y-fine c =
     rw (toZ-ofZ (c .before .before .before .before .fits .y)) at
     (sym (c .before .in-range2 .ensures) ∙ not-false (c .before .in-range2 .result) (c .if2 .left))
 
-cast-find : tie.Need-cast-find
-cast-find c = wide-fits (c .before .before .before .before .fits .x)
-
-cast-find-2 : tie.Need-cast-find-2
-cast-find-2 c = wide-fits (c .before .before .before .before .fits .y)
-
 find-requires : tie.Need-find-requires
 find-requires c κs =
     let d = c .before .before in
     let s = d .before .before in
     let a = s .args in
     let ranges : InRange (a .x) (a .y) = record { in-x = range-size (a .x) (x-fine d); in-y = range-size (a .y) (y-fine c) } in
-    (s .pre .0, s .pre .1, rw (widened (s .fits .x), widened (s .fits .y)) ranges)
+    (s .pre .0, s .pre .1, rw (toZ-ofZ (s .fits .x), toZ-ofZ (s .fits .y)) ranges)
 
 returns-3 : tie.Need-returns-3
 returns-3 c =
@@ -67,7 +60,7 @@ returns-3 c =
     let a = s .args in
     judged-found (lists (a .m)) (a .leaves .now) (a .x) (a .y) (c .find .result)
     (none-bad (lists (a .m)) (a .leaves .now) (a .x) (a .y) (s .pre .0) (s .pre .1) (x-fine d) (y-fine (c .before)))
-    (rw (widened (s .fits .x), widened (s .fits .y)) at (c .find .ensures))
+    (rw (toZ-ofZ (s .fits .x), toZ-ofZ (s .fits .y)) at (c .find .ensures))
 
 pub judge-point-spec : {M : Type 1} → statement M
-judge-point-spec = tie.close (tie.spec in-range-requires returns in-range-requires-2 returns-2 cast-find cast-find-2 find-requires returns-3)
+judge-point-spec = tie.close (tie.spec in-range-requires returns in-range-requires-2 returns-2 find-requires returns-3)

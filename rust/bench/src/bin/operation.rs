@@ -4,9 +4,12 @@
 //! `operation ENGINE OPERATION INPUT TIMES`. ENGINE is plain, proved or sampled. OPERATION and INPUT are
 //! band with an outline, a number of curves or a depth where it has one, a tolerance and m, as in
 //! nominal:16:3, cubics-64:16:8 and arches-3:44:3; judge with the place of the points and m, as in near:3, and
-//! with a number of curves where each is to have 256 leaves, as in near-4096:3; draw with the shape of the
-//! boxes. The first two print the number of leaves.
+//! with a number of curves where each is to have 256 leaves, as in near-4096:3; points, which judges TIMES points in
+//! one call, with the same, and with -scattered behind the place or the number where the records are to stand in no
+//! order, as in near-4096-scattered:3; with the place none it makes TIMES calls without a point; draw with the shape
+//! of the boxes. All but draw print the number of leaves.
 
+use bench::points::{Leaves, Point};
 use bench::sampled::{self, Packing, M};
 use bench::{outlines, pairs, points};
 use contour_band::{record_length, Refusal};
@@ -20,13 +23,14 @@ fn main() -> ExitCode {
         [engine, operation, input, times] => times.parse().ok().and_then(|times| match operation {
             "band" => band(engine, input, times),
             "judge" => judge(engine, input, times),
+            "points" => judge_points(engine, input, times),
             "draw" => draw(engine, input, times),
             _ => None,
         }),
         _ => None,
     };
     if done.is_none() {
-        eprintln!("usage: operation plain|proved|sampled band|judge|draw INPUT TIMES");
+        eprintln!("usage: operation plain|proved|sampled band|judge|points|draw INPUT TIMES");
         return ExitCode::FAILURE;
     }
     ExitCode::SUCCESS
@@ -73,23 +77,32 @@ fn band(engine: &str, input: &str, times: usize) -> Option<()> {
     Some(())
 }
 
-/// Judges one point at a time.
-fn judge(engine: &str, input: &str, times: usize) -> Option<()> {
+/// The leaves and the points of an input, and the place of the points.
+fn judged(input: &str) -> Option<(Leaves, Vec<Point>, &str)> {
     let (name, m) = with_pieces(input)?;
-    let (place, leaves) = match name.split_once('-') {
+    let (name, scattered) = name.strip_suffix("-scattered").map_or((name, false), |name| (name, true));
+    let (place, mut leaves) = match name.split_once('-') {
         Some((place, curves)) => (place, points::many(curves.parse().ok()?)),
         None => (name, points::leaves(m)),
     };
-    if leaves.m != m {
-        return None;
-    }
     let points = match place {
         "near" => points::near(&leaves),
         "beside" => points::beside(&leaves),
         "far" => points::far(),
         "refused" => points::refused(),
+        "none" => Vec::new(),
         _ => return None,
     };
+    if scattered {
+        leaves.scatter();
+    }
+    (leaves.m == m).then_some((leaves, points, place))
+}
+
+/// Judges one point at a time.
+fn judge(engine: &str, input: &str, times: usize) -> Option<()> {
+    let (leaves, points, place) = judged(input)?;
+    let m = leaves.m;
     for &(x, y) in points.iter().cycle().take(times) {
         let leaves = black_box(&leaves.records[..]);
         let refused = match engine {
@@ -98,6 +111,27 @@ fn judge(engine: &str, input: &str, times: usize) -> Option<()> {
             _ => return None,
         };
         assert_eq!(refused, place == "refused");
+    }
+    println!("{}", leaves.records.len() / record_length(m));
+    Some(())
+}
+
+/// Judges so many points in one call, or makes so many calls without a point.
+fn judge_points(engine: &str, input: &str, times: usize) -> Option<()> {
+    let (leaves, points, place) = judged(input)?;
+    let m = leaves.m;
+    let calls = if place == "none" { times } else { 1 };
+    let numbers: Vec<i32> = points.into_iter().cycle().take(times).flat_map(|(x, y)| [x, y]).collect();
+    let mut answers = vec![0; 3 * numbers.len() / 2];
+    for _ in 0..calls {
+        let (leaves, numbers) = (black_box(&leaves.records[..]), black_box(&numbers[..]));
+        let judged = match engine {
+            "plain" => plain::judge_points(leaves, m, numbers, &mut answers).ok()?,
+            "proved" => contour_band::judge_points(leaves, m, numbers, &mut answers).ok()?.len(),
+            _ => return None,
+        };
+        assert_eq!(judged, numbers.len() / 2);
+        black_box(&mut answers);
     }
     println!("{}", leaves.records.len() / record_length(m));
     Some(())

@@ -6,6 +6,7 @@ mod examples;
 mod finest;
 mod first;
 mod largest;
+mod many;
 mod most_records;
 mod pieces;
 mod random;

@@ -49,6 +49,22 @@ fn the_most_records() {
     }
     assert_eq!(judge(&records, FARTHEST, -FARTHEST), Answer::Off);
     assert_eq!(judge(&records, FARTHEST + 1, 0), Refused(11, 0));
+    // A list of points, for whose boxes the small stack has room: ends of curves and what lies beside them, far off, out of range.
+    let mut random = Random::new(733);
+    let mut points = vec![FARTHEST, -FARTHEST, FARTHEST + 1, 0];
+    for curve in [0, 1, 2_047, 2_048, 2_049, 4_094, 4_095] {
+        let (x, y) = curves(&outline)[curve].whole_point(1, 1).expect("an end is whole");
+        points.extend([x, y, x + random.between(-9, 9), y + random.between(-9, 9)]);
+    }
+    let (mut by_proved, mut by_plain) = (vec![7; 2 * points.len()], vec![7; 2 * points.len()]);
+    let judged = on_a_small_stack(|| {
+        contour_band::judge_points(&records, M, &points, &mut by_proved).map(|judgements| judgements.len())
+    });
+    assert_eq!(judged, Ok(points.len() / 2));
+    assert_eq!(plain::judge_points(&records, M, &points, &mut by_plain), Ok(points.len() / 2));
+    assert_eq!(by_proved, by_plain);
+    assert_eq!(by_proved[..6], [0, 0, 0, 11, 0, 0]);
+
     // The curve of the last record, and the last number of all.
     for (from_the_end, bad) in [(RECORD, 4_096), (1, i32::MAX)] {
         let at = RECORD * LEAVES - from_the_end;

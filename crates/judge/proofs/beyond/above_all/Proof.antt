@@ -3,18 +3,18 @@ use Prim.Native.Nat.{suc, _+_, _*_, _-_, _<_}
 use native.Mathlib.Omega.{arith}
 use borrow.Author.Needs.{needs}
 use lib.Signed.{leZ, ltZ}
-use mir.Syntax.{w32, w64}
+use mir.Syntax.{w32}
 use mir.Val.{SFits, toZ}
 use mir.Facts.{toZ-ofZ}
 use Rattle.integers.specs.Entry.{entry}
 use Rattle.integers.proofs.Ranges.{stored}
 use Rattle.integers.proofs.Between.{element-fits}
-use Rattle.judge.proofs.Passing.{Passing, pass-none, pass-done, turned, wide-fits, read-fails, read-passes}
+use Rattle.judge.proofs.Passing.{Passing, pass-none, pass-done, turned, read-fails, read-passes}
 use Rattle.judge.proofs.beyond.above_all.Statement.{statement}
 use Rattle.judge.proofs.beyond.above_all.Tie as tie
 
 abbrev Inv-loop : tie.InvT-loop
-Inv-loop leaves m at z i₀ i = Passing (λ a. ltZ a (toZ w64 z)) leaves at (suc m) i
+Inv-loop leaves m at z i₀ i = Passing (λ a. ltZ a (toZ w32 z)) leaves at (suc m) i
 
 abbrev μ-loop : tie.MeasureT-loop
 μ-loop leaves m at z i₀ i = suc m - i
@@ -31,7 +31,7 @@ returns c =
     let r = c .before in
     let l = r .before .before in
     let s = l .before in
-    let z = stored w64 (s .args .z) in
+    let z = stored w32 (s .args .z) in
     rw (toZ-ofZ (s .fits .z)) at
     (read-fails (λ a. ltZ a z) (leZ z) (turned z) (s .args .leaves .now) (s .args .at) (l .loop .inv) (in-turn (r .before)) (fits r)
     (c .if1 .taken))
@@ -41,20 +41,20 @@ loop-again c =
     let r = c .before in
     let l = r .before .before in
     let s = l .before in
-    let z = stored w64 (s .args .z) in
+    let z = stored w32 (s .args .z) in
     read-passes (λ a. ltZ a z) (leZ z) (turned z) (s .args .leaves .now) (s .args .at) (l .loop .inv) (in-turn (r .before)) (fits r)
     (c .if1 .left)
 
 returns-2 : tie.Need-returns-2 Inv-loop μ-loop
 returns-2 c =
     let s = c .before .before in
-    let z = stored w64 (s .args .z) in
+    let z = stored w32 (s .args .z) in
     rw (toZ-ofZ (s .fits .z)) at (pass-done (λ a. ltZ a z) (s .args .leaves .now) (s .args .at) (c .before .loop .inv) (c .loop-test .left))
 
 pub above-all-spec : {M : Type 1} → statement M
 above-all-spec =
     tie.close
     (tie.spec Inv-loop μ-loop
-    (λ c. let z = stored w64 (c .args .z) in pass-none (λ a. ltZ a z) (c .args .leaves .now) (c .args .at) (suc (c .args .m)))
-    (λ c. search needs) (λ c. search needs) (λ c. search needs) (λ c. search needs) (λ c. wide-fits (fits c)) returns (λ c. search needs)
+    (λ c. let z = stored w32 (c .args .z) in pass-none (λ a. ltZ a z) (c .args .leaves .now) (c .args .at) (suc (c .args .m)))
+    (λ c. search needs) (λ c. search needs) (λ c. search needs) (λ c. search needs) returns (λ c. search needs)
     (λ c. omega arith) loop-again returns-2)

@@ -5,7 +5,7 @@ use native.Mathlib.Omega.{arith}
 use borrow.Author.Needs.{needs}
 use borrow.Author.Tests.{not-false}
 use lib.ListN.{length}
-use mir.Syntax.{w64}
+use mir.Syntax.{w32}
 use mir.Val.{toZ}
 use mir.Facts.{toZ-ofZ}
 use Rattle.setting.specs.Setting.{lists, recordLength}
@@ -17,17 +17,18 @@ use Rattle.judge.proofs.beyond.near_from.Statement.{statement}
 use Rattle.judge.proofs.beyond.near_from.Tie as tie
 
 abbrev Inv-loop : tie.InvT-loop
-Inv-loop leaves m from x y record-length at₀ at = ApartTo (lists m) (toZ w64 x) (toZ w64 y) leaves from at
+Inv-loop leaves m from to x y record-length at₀ at = ApartTo (lists m) (toZ w32 x) (toZ w32 y) leaves from at
 
 abbrev μ-loop : tie.MeasureT-loop
-μ-loop leaves m from x y record-length at₀ at = length leaves - at
+μ-loop leaves m from to x y record-length at₀ at = to - at
 
 -- one more record is there
 more : (c : tie.In-loop Inv-loop μ-loop)
     → let s = c .before .before in c .before .loop .at + recordLength (lists (s .args .m)) ≤ length (s .args .leaves .now)
 more c =
     let s = c .before .before in
-    record-left (recordLength (lists (s .args .m))) (c .before .loop .inv .whole) (s .pre .1) (c .loop-test .taken)
+    let e = s .pre .1 in
+    omega (arith, record-left (recordLength (lists (s .args .m))) (c .before .loop .inv .whole) (e .whole) (c .loop-test .taken), e .within)
 
 returns : tie.Need-returns Inv-loop μ-loop
 returns c =
