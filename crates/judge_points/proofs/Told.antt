@@ -8,7 +8,6 @@ use native.Mathlib.Omega.{arith}
 use lib.ListN.{length, drop, length-append}
 use lib.Seq.{sets, length-sets, sets-eq}
 use lib.IntN.{ℤ, pos}
-use Rattle.integers.specs.Entry.{entry}
 use Rattle.integers.proofs.Stores.{sets-append}
 use Rattle.setting.specs.Setting.{Setting, recordLength}
 use Rattle.judge.specs.declared.judging.Judgement.{Judgement}
@@ -16,7 +15,7 @@ use Rattle.judge.specs.declared.judging.Judgement.the-variants.{On, Off, Refuse
 use Rattle.judge.specs.Judging.{FirstHolder, Judged}
 use Rattle.judge.specs.Judgements.{judgement}
 use Rattle.judge.proofs.Judgements.{judged-is}
-use Rattle.judge_points.specs.Points.{judgementNumbers, pointNumbers, numbersTo}
+use Rattle.judge_points.specs.Points.{judgementNumbers, pointJudgement, pointNumbers, numbersTo}
 
 -- ---- an answer that judging may give has the numbers of the one answer
 pub told : (σ : Setting) (ns : List ℤ) (x y : ℤ) (a : Judgement) → Judged σ ns x y a → judgementNumbers a ≡ judgementNumbers (judgement σ ns x y)
@@ -36,13 +35,7 @@ module _ (σ : Setting) (ns ps : List ℤ) where
   pub numbers-length : (n : ℕ) → length (numbersTo σ ns ps n) ≡ 3 * n
   unfolding numbersTo
   numbers-length zero = refl
-  numbers-length (suc n) =
-      omega (
-        arith,
-        length-append (numbersTo σ ns ps n) (pointNumbers σ ns ps n),
-        numbers-length n,
-        three-numbers (judgement σ ns (entry ps (2 * n)) (entry ps (2 * n + 1))),
-      )
+  numbers-length (suc n) = omega (arith, length-append (numbersTo σ ns ps n) (pointNumbers σ ns ps n), numbers-length n, three-numbers (pointJudgement σ ns ps n))
 
   next : (n : ℕ) → numbersTo σ ns ps (n + 1) ≡ numbersTo σ ns ps n ++ pointNumbers σ ns ps n
   unfolding numbersTo

@@ -26,9 +26,13 @@ judgementNumbers (On k i) = pos 1 ∷ pos k ∷ pos i ∷ []
 judgementNumbers Off = pos 0 ∷ pos 0 ∷ pos 0 ∷ []
 judgementNumbers (Refused r) = pos (numberOf r) ∷ pos (spotOf r) ∷ pos 0 ∷ []
 
--- the numbers of point i of the list ps, from 0: its x stands at index 2i, its y at 2i + 1
+-- ---- what judging says of point i of the list ps, from 0: its x stands at index 2i, its y at 2i + 1
+abbrev pub pointJudgement : Setting → (ns ps : List ℤ) → ℕ → Judgement
+pointJudgement σ ns ps i = judgement σ ns (entry ps (2 * i)) (entry ps (2 * i + 1))
+
+-- the numbers of point i
 abbrev pub pointNumbers : Setting → (ns ps : List ℤ) → ℕ → List ℤ
-pointNumbers σ ns ps i = judgementNumbers (judgement σ ns (entry ps (2 * i)) (entry ps (2 * i + 1)))
+pointNumbers σ ns ps i = judgementNumbers (pointJudgement σ ns ps i)
 
 -- the numbers of the first n points, one point after the other
 unfoldable pub numbersTo : Setting → (ns ps : List ℤ) → ℕ → List ℤ

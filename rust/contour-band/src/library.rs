@@ -299,6 +299,27 @@ mod tests {
     }
 
     #[test]
+    fn a_list_of_points_is_counted_unless_a_list_is_refused() {
+        let refused = |refusal, spot| Points { refusal, spot, points: 0 };
+        let points = [9, 4, 10, 0, 4, FAR + 1];
+        let mut bad = LEAVES;
+        bad[1] = 512;
+        let mut answers = [-1; 10];
+        for m in [0, 9, u32::MAX] {
+            assert_eq!(judge_points(&[], m, &points[..5], &mut []), refused(18, 0));
+        }
+        assert_eq!(judge_points(&LEAVES[..19], 3, &points[..5], &mut []), refused(9, 19));
+        assert_eq!(judge_points(&bad, 3, &points[..5], &mut []), refused(10, 1));
+        assert_eq!(judge_points(&LEAVES, 3, &points[..5], &mut answers), refused(101, 5));
+        assert_eq!(judge_points(&LEAVES, 3, &points, &mut answers[..8]), refused(8, 3));
+        assert_eq!(judge_points(&LEAVES, 3, &[], &mut []), refused(0, 0));
+        assert_eq!(answers, [-1; 10]);
+        let judged = judge_points(&LEAVES, 3, &points, &mut answers);
+        assert_eq!(judged, Points { refusal: 0, spot: 0, points: 3 });
+        assert_eq!(answers, [1, 1, 2, 0, 0, 0, 11, 1, 0, -1]);
+    }
+
+    #[test]
     fn an_outcome_has_a_report_unless_something_is_refused() {
         let line = [1, 0, 0, 0, 1];
         let mut records = [0; 18];

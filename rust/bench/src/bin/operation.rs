@@ -9,7 +9,7 @@
 //! order, as in near-4096-scattered:3; with the place none it makes TIMES calls without a point; draw with the shape
 //! of the boxes. All but draw print the number of leaves.
 
-use bench::points::{Leaves, Point};
+use bench::points::{Leaves, Point, POINTS};
 use bench::sampled::{self, Packing, M};
 use bench::{outlines, pairs, points};
 use contour_band::{record_length, Refusal};
@@ -120,11 +120,12 @@ fn judge(engine: &str, input: &str, times: usize) -> Option<()> {
 fn judge_points(engine: &str, input: &str, times: usize) -> Option<()> {
     let (leaves, points, place) = judged(input)?;
     let m = leaves.m;
-    let calls = if place == "none" { times } else { 1 };
-    let numbers: Vec<i32> = points.into_iter().cycle().take(times).flat_map(|(x, y)| [x, y]).collect();
-    let mut answers = vec![0; 3 * numbers.len() / 2];
+    let (calls, count) = if place == "none" { (times, 0) } else { (1, times) };
+    // The lists are those of all points, so that another count of points changes the call alone.
+    let numbers: Vec<i32> = points.into_iter().flat_map(|(x, y)| [x, y]).collect();
+    let mut answers = vec![0; 3 * POINTS];
     for _ in 0..calls {
-        let (leaves, numbers) = (black_box(&leaves.records[..]), black_box(&numbers[..]));
+        let (leaves, numbers) = (black_box(&leaves.records[..]), black_box(numbers.get(..2 * count)?));
         let judged = match engine {
             "plain" => plain::judge_points(leaves, m, numbers, &mut answers).ok()?,
             "proved" => contour_band::judge_points(leaves, m, numbers, &mut answers).ok()?.len(),
