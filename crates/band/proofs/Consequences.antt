@@ -14,7 +14,6 @@ use Rattle.curve_nodes.specs.Nodes.{depth}
 use Rattle.outline.specs.Checks.{Outlined, curves, outlined}
 use Rattle.walk_tree.specs.Leaves.{Ancestor}
 use Rattle.walk_curve.specs.Walked.{nodeMeets}
-use Rattle.band_passes.specs.Meeting.{FirstWide}
 use Rattle.band.specs.declared.banding.Banded.the-variants.{Done, Refused}
 use Rattle.band.specs.Banding.{banded, written}
 use Rattle.band.proofs.Theorems.{wide-exactly}

@@ -2,8 +2,7 @@
 -- one is seen here.
 use mathlib.Core.Path.{_≡_, refl}
 use mathlib.Core.List.{List, [], _∷_}
-use Prim.Native.Nat.{ℕ, zero, suc, _+_, _<_}
-use native.Mathlib.Omega.{arith}
+use Prim.Native.Nat.{ℕ, _+_}
 use lib.Dec.{lit≤, lit<}
 use lib.IntN.{ℤ, pos, negℤ, _+ℤ_, pow, one}
 use lib.Signed.{_≤ℤ_, ltZ-yes}
