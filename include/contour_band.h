@@ -1,4 +1,4 @@
-/* The C interface of the contour band engine: banding an outline, judging points, drawing the hull of two boxes.
+/* The C interface of the contour band engine: banding an outline or a B-spline, judging points, drawing the hull of two boxes.
  *
  * The library is made at the root of the repository, and a program is linked with it, by
  *
@@ -37,7 +37,8 @@
  * call is lent must not overlap. Lengths count numbers, not bytes, and every length and all contents are taken.
  *
  * Threads: any number of calls may run at once as long as no list that one of them writes to (the records, the answers, the
- * vertices) is lent to another. Lists that are only read (the outline, the leaves, the points) may be shared. */
+ * vertices) is lent to another. Lists that are only read (the outline, a spline's points, the leaves, the points) may be
+ * shared. */
 #ifndef CONTOUR_BAND_H
 #define CONTOUR_BAND_H
 
@@ -63,6 +64,12 @@ extern "C" {
 #define CONTOUR_BAND_COORDINATE_MAX 1048576
 #define CONTOUR_BAND_CURVES_MAX 4096
 
+/* What a B-spline's list of points may have: how many numbers, two for each point, and coordinates in stage units. */
+#define CONTOUR_BAND_SPLINE_LENGTH_MIN 8
+#define CONTOUR_BAND_SPLINE_LENGTH_MAX 8198
+#define CONTOUR_BAND_SPLINE_COORDINATE_MIN (-131072)
+#define CONTOUR_BAND_SPLINE_COORDINATE_MAX 131072
+
 /* What the bench station takes; how many numbers it must lend for its leaves at most; and how many bytes of stack its call
  * takes at most, whatever it is given. The call calls nothing but functions of the library, none of which calls itself or
  * has an array that goes with the input; rust/contour-band/tests/stack.c measures it at every degree and every m, and what
@@ -84,10 +91,10 @@ extern "C" {
 #define CONTOUR_BAND_VERTEX_ROOM 16
 
 /* The refusals, each with its condition and its spot. They stand in the order in which an operation tries them: banding 18, 1
- * to 8, 17 and 20 (5, 2, 20, 3, 4 and 17 curve by curve), and 19 for the bench station alone; judging 18 and 9 to 11, a list
- * of points 18, 9, 10, 101 and then 8, and 11 is the answer to a point; banding and judging together those of banding and then
- * 11, drawing 12 and 13. A refusal leaves every lent list as it was. Numbers from 101 on stand in no document: they are the
- * engine's own. */
+ * to 8, 17 and 20 (5, 2, 20, 3, 4 and 17 curve by curve), and 19 for the bench station alone; banding a B-spline 18, 1, 24,
+ * 25, 7 and 8; judging 18 and 9 to 11, a list of points 18, 9, 10, 101 and then 8, and 11 is the answer to a point; banding and
+ * judging together those of banding and then 11, drawing 12 and 13. A refusal leaves every lent list as it was. Numbers from
+ * 101 on stand in no document: they are the engine's own. */
 enum contour_band_refusal {
     CONTOUR_BAND_ACCEPTED = 0,         /* nothing is refused; 0 */
     CONTOUR_BAND_PIECES = 18,          /* m is not 1 to 8; 0 */
@@ -99,6 +106,8 @@ enum contour_band_refusal {
     CONTOUR_BAND_CUT_SHORT = 3,        /* the outline ends inside a curve; the outline's length */
     CONTOUR_BAND_COORDINATE = 4,       /* a coordinate is outside its range; the index of the curve's first such */
     CONTOUR_BAND_GAP = 17,             /* a curve does not begin where the one before it ends; the index of its degree */
+    CONTOUR_BAND_SPLINE_LENGTH = 24,   /* points_length is odd, below 8 or above 8,198; points_length */
+    CONTOUR_BAND_SPLINE_COORDINATE = 25, /* a coordinate of a B-spline is outside its range; the index of the first such */
     CONTOUR_BAND_TOO_WIDE = 7,         /* a box at the last depth, 8, or 4 for degrees 4 and 5, has a longer diagonal than the
                                         * tolerance; 512 * curve + node, for the first */
     CONTOUR_BAND_TOO_MANY_LEAVES = 19, /* the bench station's outline has more than 128 leaves; the number of leaves */
@@ -152,6 +161,24 @@ struct contour_band_answer contour_band(const int32_t *outline, size_t outline_l
  * is 8 or 19, and its spot says how many leaves there are. */
 struct contour_band_answer contour_station_band(const int32_t *outline, size_t outline_length, int32_t tolerance,
                                                 uint32_t m, int32_t *records, size_t records_length);
+
+/* Puts a band round a uniform cubic B-spline.
+ *
+ * points: x and y of each of its n points, in stage units: points_length is 2 * n, and n is 4 to 4,099. Four neighbours b0 to
+ *     b3 make one cubic curve, with control points (b0 + 4 b1 + b2) / 6, (2 b1 + b2) / 3, (b1 + 2 b2) / 3 and
+ *     (b1 + 4 b2 + b3) / 6: n - 3 curves, numbered from 0, of which curve k is that of points k to k + 3, and each begins where
+ *     the one before it ends. Sixths are carried exactly, and only the bounds of a box are rounded. Give the first three
+ *     points again at the end to close the spline.
+ * tolerance, m, records: as for contour_band.
+ *
+ * Accepted: the report and the records are those of contour_band, of these curves; contour_judge and contour_judge_points take
+ * the records, with points in sixteenths of a stage unit.
+ * Refused: every number of the records stays as it was. The refusals are 18, 1, 24, 25, 7 and 8, in this order. With a
+ * records_length of 0 the answer is refusal 8 for any list of points that is otherwise accepted, so its spot says how many
+ * leaves to lend room for.
+ * Stack: CONTOUR_BAND_STATION_STACK bytes are enough, whatever is given. */
+struct contour_band_answer contour_spline_band(const int32_t *points, size_t points_length, int32_t tolerance, uint32_t m,
+                                               int32_t *records, size_t records_length);
 
 /* What judging answers. */
 struct contour_band_judgement {

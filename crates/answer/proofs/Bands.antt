@@ -18,7 +18,7 @@ use Rattle.band.specs.declared.banding.Banded.{Banded}
 use Rattle.band.specs.declared.banding.Banded.the-variants.{Refused}
 use Rattle.band_records.specs.Records.{allRecords}
 use Rattle.band_passes.specs.Leaves.{curvesOf}
-use Rattle.band.specs.Banding.{bandOutlined, banded, writtenBy, written}
+use Rattle.band.specs.Banding.{bandGiven, writtenGiven, bandOutlined, banded, writtenBy, written}
 use Rattle.write_numbers.specs.Appends.{Appended}
 use Rattle.write_numbers.proofs.Appends.{appended-front, appended-length}
 use Rattle.text_lines.specs.declared.text.TextCheck.{TextCheck}
@@ -33,7 +33,7 @@ use Rattle.answer.specs.Bands.{bandOf, recordsAfter}
 -- ---- `band_text`: banding looks at an outline through its checks alone
 banded-same : (σ : Setting) (T : ℤ) (ns ms : List ℤ) (room : ℕ) → outlined (σ .most) (σ .pieces) ns ≡ outlined (σ .most) (σ .pieces) ms
     → banded σ T ns room ≡ banded σ T ms room
-unfolding banded
+unfolding bandGiven
 banded-same σ T ns ms room e = ap (λ (o : Outlined). elim (piecesFine (σ .pieces)) [
   | false ↦ Refused Pieces
   | true ↦ elim (toleranceFine T) [ false ↦ Refused WrongTolerance | true ↦ bandOutlined σ T o room ]
@@ -41,7 +41,7 @@ banded-same σ T ns ms room e = ap (λ (o : Outlined). elim (piecesFine (σ .pie
 
 written-same : (σ : Setting) (T : ℤ) (ns ms old : List ℤ) → outlined (σ .most) (σ .pieces) ns ≡ outlined (σ .most) (σ .pieces) ms
     → written σ T ns old ≡ written σ T ms old
-unfolding written
+unfolding writtenGiven
 written-same σ T ns ms old e =
     ap (λ (b : Banded). writtenBy b (allRecords σ T 0 (curvesOf (outlined (σ .most) (σ .pieces) ns))) old) (banded-same σ T ns ms (length old) e)
     ∙ ap (λ (o : Outlined). writtenBy (banded σ T ms (length old)) (allRecords σ T 0 (curvesOf o)) old) e

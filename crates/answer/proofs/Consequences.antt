@@ -62,7 +62,7 @@ module _ (s : List ℕ) (T : ℤ) (outline : List ℤ) (before : List (ℤ × �
   on-in-reach k i e =
       let sized = accepted-all 64 3 outline 0 (claim .all) (outlined-from 64 3 outline (claim .all) (claim .are)) in
       let least = between-low (pos 2) (pos 1048576) T (done-exactly texts T outline lent a b c .0 done .1 .tolerance) in
-      somewhere-in-reach T (claim .all) sized x y (nonneg-by (T ∷ []) (gap least +₀ natural 2) (search sides depth 20) refl)
+      somewhere-in-reach standard T (claim .all) sized x y (nonneg-by (T ∷ []) (gap least +₀ natural 2) (search sides depth 20) refl)
       (this .every-on-near (record { leaf = k; cover = i; is = line-is (onLine k i) e }))
 
   -- in range, the first record and cover that hold the point are said, and off where none does

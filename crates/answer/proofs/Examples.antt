@@ -18,7 +18,7 @@ use Rattle.walk_tree.specs.Tree.{ends, met, firstFailing}
 use Rattle.band_records.specs.Records.{recordOf, allRecords}
 use Rattle.band_records.specs.Records as Records
 use Rattle.band_passes.specs.Leaves.{firstTooWide, leavesOf, nodesOf}
-use Rattle.band.specs.Banding.{bandCurves, banded, written}
+use Rattle.band.specs.Banding.{bandGiven, writtenGiven, bandCurves}
 use Rattle.text_numbers.specs.Numerals.{valueFrom, digitCount, naturalAt, numberAt}
 use Rattle.text_forms.specs.Pairs as Pairs
 use Rattle.text_forms.specs.Forms as Forms
@@ -42,8 +42,8 @@ use Rattle.answer.specs.Answers.{answerTo, answerOf}
 computing : List ℕ → List ℕ
 unfolding answerOf answerTo bandLines pointAnswers pointAnswer judgingFault numberFault judgement firstHeld held meaning meaningOf faultFrom
     numbersOfCurve linesOf linesFrom gather Forms.formAt Pairs.startsWith Forms.toleranceFormAt Forms.pointFormAt Forms.curveFormAt Forms.curveThird
-    Forms.curveFourth Forms.curveEnd Pairs.spacedPairAt Pairs.pairAt Pairs.numberThen numberAt naturalAt valueFrom digitCount written allRecords
-    Records.recordsOf recordOf banded bandCurves firstTooWide leavesOf nodesOf ends met firstFailing outlined outlineFrom faultAt firstBad curveAt
+    Forms.curveFourth Forms.curveEnd Pairs.spacedPairAt Pairs.pairAt Pairs.numberThen numberAt naturalAt valueFrom digitCount writtenGiven allRecords
+    Records.recordsOf recordOf bandGiven bandCurves firstTooWide leavesOf nodesOf ends met firstFailing outlined outlineFrom faultAt firstBad curveAt
     descend descendIn depth nodeCurve meets boxAt table rowsOf high low rowSum floor ceiling leftHalf rightHalf left right triangle pow one leafLines leafLine
     boxesBytes boxBytes fourNumbers doneLine refusedLine onLine spaced spacedNatural decimal digits
 computing = answerOf

@@ -72,7 +72,7 @@ module _ (T : ℤ) (outline : List ℤ) (a b c : ℕ) (done : banded texts T out
   demand : (x y : ℤ) → Demand3 standard T (done-curves .0) leaves x y (judgement standard leaves x y)
   demand x y =
       let j = judgement standard leaves x y in
-      let d = demand-3-listed texts few T outline (replicate lent (pos 0)) a b c zeros-lent x y j (is-judged standard leaves x y) in
+      let d = demand-3-listed texts refl few T outline (replicate lent (pos 0)) a b c zeros-lent x y j (is-judged standard leaves x y) in
       subst (λ cs. Demand3 standard T cs leaves x y j) (same-curves (d .are) (faultless-listed texts few T outline (done-curves .1) .outline))
       (d .demand-3)
 

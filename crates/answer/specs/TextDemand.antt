@@ -47,14 +47,14 @@ module _ (s : List ℕ) (T : ℤ) (outline : List ℤ) (a b c : ℕ) where
         ++ pointAnswers (textLeaves T outline b) after
     -- where the point equals one of the outline's curves at some rational parameter, its line says on
     pub every-point-on : (k : ℕ) (curve : Curve) → CurveOf cs k curve → (p r : ℕ) → 0 < p + r
-        → Equals curve p r x y → SaysOn line
+        → Equals 1 curve p r x y → SaysOn line
     -- where the point is in range, it says on with the first holder among the leaves written, and off where there is
     -- none
     pub names-first : pointFault x y ≡ none → (k i : ℕ) → FirstHolder standard (textLeaves T outline b) x y k i
         → line ≡ onLine k i
     pub off-exactly : pointFault x y ≡ none → (line ≡ offLine) ↔ Verdict standard none (textLeaves T outline b) x y Off
     -- where its line says on, there are one curve and one rational parameter at which that curve is within T
-    pub every-on-near : SaysOn line → Somewhere T cs x y
+    pub every-on-near : SaysOn line → Somewhere standard T cs x y
 
   pub record TextDemand3 (points : List (ℤ × ℤ)) : Type 0 where
     -- the outline has no fault, and these are its curves

@@ -3,30 +3,42 @@ use mathlib.Core.Path.{_≡_, refl, sym, _∙_, ap, ap₂, subst}
 use mathlib.Core.Bool.{true, false}
 use mathlib.Core.List.{List, [], _∷_, _++_}
 use mathlib.Core.Option.{Option, none, some}
-use Prim.Native.Nat.{ℕ, suc, _+_, _-_, _*_, _^_, _≤_, _<_}
+use Prim.Native.Nat.{ℕ, zero, suc, _+_, _-_, _*_, _^_, _≤_, _<_}
 use native.Mathlib.Nat.{zero-add, mul-le-mul, le-of-eq}
 use native.Mathlib.Omega.{arith}
 use borrow.Author.Tests.{lt-ltb, le-ltb}
 use lib.ListN.{length, length-append, drop}
 use lib.Seq.{sets, sets-eq}
-use lib.IntN.{ℤ}
-use Rattle.setting.specs.Setting.{Setting, limited, piecesFine, recordLength}
+use lib.IntN.{ℤ, natAbs}
+use Rattle.integers.specs.Entry.{entry}
+use Rattle.setting.specs.Setting.{Setting, listsOf, relimited, piecesFine, recordLength}
+use Rattle.setting.proofs.Pieces.{degree-takes}
 use Rattle.refusals.specs.declared.Refusal.{Refusal}
 use Rattle.refusals.specs.declared.Refusal.the-variants.{Tolerance, TooFewRecords, Pieces, TooManyLeaves}
 use Rattle.curve_nodes.specs.declared.Curve.{Curve}
+use Rattle.curve_nodes.specs.Bounds.{Sized}
+use Rattle.outline.specs.Curves.{nextAt, curveAt}
+use Rattle.outline.proofs.Faultless.{faultless, curve-takes}
+use Rattle.outline.proofs.Steps.{outline-begins}
+use Rattle.outline_splines.specs.Splines.{splineAt, splinesFrom, splineCount, splined}
+use Rattle.outline_splines.proofs.Accepted.{spline-sized, spline-degree, accepted, splines-count, splines-most}
 use Rattle.outline.specs.declared.Checked.the-variants.{Curves, Faulty}
-use Rattle.outline.specs.Checks.{toleranceFine, curves, outlineFrom, outlined}
+use Rattle.outline.specs.Checks.{Outlined, toleranceFine, curves, outlineFrom, outlined}
 use Rattle.outline.specs.Inside.{checkedOf}
-use Rattle.outline.proofs.Accepted.{Accepted, checked-curves, checked-refused, outlined-from, accepted-most, accepted-within}
+use Rattle.outline.proofs.Accepted.{checked-curves, checked-refused, outlined-from, accepted-most, accepted-head, accepted-within}
 use Rattle.band.specs.declared.banding.Banded.{Banded}
 use Rattle.band.specs.declared.banding.Banded.the-variants.{Done, Refused}
 use Rattle.band_passes.specs.declared.passes.Counted.{Counted}
 use Rattle.band_passes.specs.declared.passes.Counted.the-variants.{Total, Stopped}
 use Rattle.walk_curve.specs.Walked.{endsOf}
 use Rattle.band_records.specs.Records.{recordsOf, allRecords}
-use Rattle.band_passes.specs.Leaves.{curvesOf, firstTooWide, leavesOf, nodesOf}
-use Rattle.band.specs.Banding.{bandCurves, writtenBy, banded, written}
-use Rattle.band_passes.specs.Inside.{Readable, countedOf, Fillable}
+use Rattle.band_passes.specs.declared.forms.Form.{Form}
+use Rattle.band_passes.specs.declared.forms.Form.the-variants.{Outline, Spline}
+use Rattle.band_passes.specs.Leaves.{firstTooWide, leavesOf, nodesOf}
+use Rattle.band.specs.Banding.{bandCurves, writtenBy, bandGiven, writtenGiven}
+use Rattle.band.specs.Inside.{givenOf, settingFor}
+use Rattle.band_passes.specs.Inside.{readAt, nextOf, curvesFrom, curvesIn, AllWalkable, end, more, Readable, countedOf, Fillable}
+use Rattle.band_passes.proofs.Reading.{curves-count}
 use Rattle.band_passes.proofs.Counting.{nodes-of-curves, few-leaves}
 use Rattle.band_records.proofs.Lengths.{records-length}
 use Rattle.band_passes.specs.Meeting.{AllMeet}
@@ -114,62 +126,115 @@ module _ (σ : Setting) (T : ℤ) (cs : List Curve) where
     answer-list l h =
         front-written l (allRecords σ T 0 cs) (omega (arith, all-records-length σ T 0 cs, ap (λ n. recordLength σ * n) (leaves-counted e .1)))
 
--- ---- an outline without faults
-module _ (σ : Setting) {ns : List ℤ} {n : ℕ} (r : Readable (σ .pieces) ns n) where
-  pub read-count : length (curvesOf (outlineFrom n (σ .pieces) ns 0)) ≡ n
-  read-count = ap (λ o. length (curvesOf o)) (r .is) ∙ r .count
+-- ---- a list without faults, by its form
+module _ (σ : Setting) {f : Form} {ns : List ℤ} {n : ℕ} (r : Readable σ f ns n) where
+  pub read-count : length (curvesIn f ns n) ≡ n
+  read-count = curves-count (readAt f ns) (nextOf f ns) n 0
 
-  pub fillable : (T : ℤ) {m room : ℕ} → Total m ≡ countedOf (listed σ) T (curvesOf (outlineFrom n (σ .pieces) ns 0)) → recordLength σ * m ≤ room
-      → Fillable σ T ns n room
+  pub fillable : (T : ℤ) {m room : ℕ} → Total m ≡ countedOf (listed σ) T (curvesIn f ns n) → recordLength σ * m ≤ room → Fillable σ T f ns n room
   fillable T e h =
-      let w = leaves-counted σ T (r .all) (e ∙ ap (λ o. countedOf (listed σ) T (curvesOf o)) (r .is)) in
+      let w = leaves-counted σ T (curvesIn f ns n) e in
       record { readable = r; passing = w .0; enough = omega (arith, h, ap (λ n. recordLength σ * n) (w .1)) }
 
-  pub report-done : (T : ℤ) {m room : ℕ} → Total m ≡ countedOf (listed σ) T (curvesOf (outlineFrom n (σ .pieces) ns 0)) → m ≤ σ .leaves
-      → recordLength σ * m ≤ room → Done n m (2 * m - n) ≡ bandCurves σ T (curvesOf (outlineFrom n (σ .pieces) ns 0)) room
-  report-done T {m} {room} e taken h =
-      let cs = curvesOf (outlineFrom n (σ .pieces) ns 0) in
-      subst (λ k. Done k m (2 * m - k) ≡ bandCurves σ T cs room) read-count (answer-done σ T cs e taken h)
+  pub report-done : (limit : ℕ) (T : ℤ) {m room : ℕ} → Total m ≡ countedOf (listed σ) T (curvesIn f ns n) → m ≤ limit
+      → recordLength σ * m ≤ room → Done n m (2 * m - n) ≡ bandCurves (relimited σ n limit) T (curvesIn f ns n) room
+  report-done limit T {m} {room} e taken h =
+      let cs = curvesIn f ns n in
+      let τ = relimited σ n limit in
+      subst (λ k. Done k m (2 * m - k) ≡ bandCurves τ T cs room) read-count (answer-done τ T cs e taken h)
 
-module _ (σ : Setting) (ns : List ℤ) where
-  module _ {n : ℕ} (e : Curves n ≡ checkedOf (outlined (σ .most) (σ .pieces) ns)) where
-    found : Accepted (outlined (σ .most) (σ .pieces) ns) n
-    found = checked-curves (outlined (σ .most) (σ .pieces) ns) n (sym e)
+-- the curves that were given can be read, and are those given
+pub record Read (σ : Setting) (f : Form) (ns : List ℤ) (o : Outlined) (n : ℕ) : Type 0 where
+  pub readable : Readable (listed σ) f ns n
+  pub is : o ≡ curves (curvesIn f ns n)
 
-    read : outlineFrom n (σ .pieces) ns 0 ≡ curves (found .cs)
-    read = let a = found in accepted-within (σ .most) n (σ .pieces) ns 0 (a .cs) (outlined-from (σ .most) (σ .pieces) ns (a .cs) (a .is)) (le-of-eq (a .count))
+outline-walkable : (m : ℕ) (ns : List ℤ) (n at : ℕ) (cs : List Curve) → outlineFrom n m ns at ≡ curves cs → length cs ≡ n
+    → AllWalkable (listsOf m false) Outline ns n at × (cs ≡ curvesFrom (curveAt ns) (nextAt ns) n at)
+outline-walkable m ns zero at [] e l = (end, refl)
+outline-walkable m ns zero at (c ∷ cs) e l = absurd (omega arith)
+outline-walkable m ns (suc n) at [] e l = absurd (omega arith)
+outline-walkable m ns (suc n) at (c ∷ cs) e l =
+    let b = outline-begins (suc n) m ns at c cs e in
+    let fine = faultless m ns at (b .no-fault) in
+    let rest = outline-walkable m ns n (nextAt ns at) cs
+    (ap (λ k. outlineFrom k m ns (nextAt ns at)) {x = n} {y = suc n - 1} (omega arith) ∙ b .rest) (omega arith) in (
+      more (record {
+        stands = (fine .degree, fine .ends);
+        sized = subst (Sized 0) (b .is) (accepted-head (suc n) m ns at c cs e);
+        suits = record { takes = curve-takes fine; units = λ h. refl };
+      }) (rest .0),
+      ap₂ _∷_ (b .is) (rest .1),
+    )
 
-    pub readable : σ .most ≤ 65536 → Readable (σ .pieces) ns n
-    readable h = let a = found in
-        record { all = a .cs; is = read; count = a .count; few = omega (arith, h, accepted-most (σ .most) (σ .pieces) ns (a .cs) (a .is), a .count) }
+spline-walkable : (m : ℕ) (ns : List ℤ) → ((k : ℕ) → natAbs (entry ns k) ≤ 131072) → (n at : ℕ) → at + 2 * n + 6 ≤ length ns
+    → AllWalkable (listsOf m true) Spline ns n at
+spline-walkable m ns small zero at h = end
+spline-walkable m ns small (suc n) at h = more {at = at} (record {
+  stands = omega arith;
+  sized = spline-sized ns small at;
+  suits = record {
+    takes = degree-takes (splineAt ns at .degree) m .1 (λ k. absurd (omega (arith, k, spline-degree ns at)));
+    units = λ k. absurd (omega (arith, k, spline-degree ns at));
+  };
+}) (spline-walkable m ns small n (at + 2) (omega arith))
 
+spline-curves : (ns : List ℤ) (n at : ℕ) → splinesFrom n ns at ≡ curvesFrom (splineAt ns) (λ i. i + 2) n at
+unfolding splinesFrom
+spline-curves ns zero at = refl
+spline-curves ns (suc n) at = ap (λ cs. splineAt ns at ∷ cs) (spline-curves ns n (at + 2))
+
+-- one law a form
+pub given-read : (f : Form) (most leaves m : ℕ) (ns : List ℤ) {n : ℕ} → most ≤ 65536 → Curves n ≡ checkedOf (givenOf f most m ns)
+    → Read (settingFor f most leaves m) f ns (givenOf f most m ns) n
+given-read Outline most leaves m ns {n} few e =
+    let a = checked-curves (outlined most m ns) n (sym e) in
+    let from = accepted-within most n m ns 0 (a .cs) (outlined-from most m ns (a .cs) (a .is)) (le-of-eq (a .count)) in
+    let w = outline-walkable m ns n 0 (a .cs) from (a .count) in
+    record {
+      readable = record { all = w .0; few = omega (arith, few, accepted-most most m ns (a .cs) (a .is), a .count) };
+      is = a .is ∙ ap curves (w .1);
+    }
+given-read Spline most leaves m ns {n} few e =
+    let a = checked-curves (splined ns) n (sym e) in
+    let s = accepted ns (a .cs) (a .is) in
+    let count : n ≡ splineCount (length ns) = sym (a .count) ∙ splines-count s in
+    record {
+      readable = record {
+        all = spline-walkable m ns (s .small) n 0 (omega (arith, count, s .fine .even, s .fine .least));
+        few = omega (arith, splines-most s, a .count);
+      };
+      is = a .is ∙ ap curves (s .is ∙ ap (λ k. splinesFrom k ns 0) (sym count) ∙ spline-curves ns n 0);
+    }
+
+-- ---- banding of what is given
+module _ (σ : Setting) (o : Outlined) (T : ℤ) where
+  module _ {f : Form} {ns : List ℤ} {n : ℕ} (r : Read σ f ns o n) where
     -- banding of the curves does not know how many more there might have been
-    pub banded-read : (T : ℤ) (room : ℕ) → piecesFine (σ .pieces) ≡ true → toleranceFine T ≡ true
-        → bandCurves (limited n (σ .leaves) (σ .pieces)) T (curvesOf (outlineFrom n (σ .pieces) ns 0)) room ≡ banded σ T ns room
-    unfolding banded
-    banded-read T room rows f = rw (banded, rows, f, read, found .is) (sym (band-curves-same σ n T (found .cs) room))
+    pub banded-read : (room : ℕ) → piecesFine (σ .pieces) ≡ true → toleranceFine T ≡ true
+        → bandCurves (relimited σ n (σ .leaves)) T (curvesIn f ns n) room ≡ bandGiven σ T o room
+    unfolding bandGiven
+    banded-read room rows h = rw (bandGiven, rows, h, r .is) (sym (band-curves-same σ n T (curvesIn f ns n) room))
 
-    pub written-curves : (T : ℤ) (l : List ℤ) {l′ : List ℤ} (b : Banded) → b ≡ banded σ T ns (length l)
-        → l′ ≡ writtenBy b (allRecords (listed σ) T 0 (curvesOf (outlineFrom n (σ .pieces) ns 0))) l → l′ ≡ written σ T ns l
-    unfolding written
-    written-curves T l b f g =
-        g ∙ rw (f, read, found .is, all-records-same σ (listed σ .most) (listed σ .leaves) T 0 (found .cs))
+    pub written-curves : (l : List ℤ) {l′ : List ℤ} (b : Banded) → b ≡ bandGiven σ T o (length l)
+        → l′ ≡ writtenBy b (allRecords (listed σ) T 0 (curvesIn f ns n)) l → l′ ≡ writtenGiven σ T o l
+    unfolding writtenGiven
+    written-curves l b h g = g ∙ rw (h, r .is, all-records-same σ (listed σ .most) (listed σ .leaves) T 0 (curvesIn f ns n))
 
-  module _ (T : ℤ) where
-    pub banded-pieces : (room : ℕ) → piecesFine (σ .pieces) ≡ false → Refused Pieces ≡ banded σ T ns room
-    unfolding banded
-    banded-pieces room f = rw (banded, f)
+  pub banded-pieces : (room : ℕ) → piecesFine (σ .pieces) ≡ false → Refused Pieces ≡ bandGiven σ T o room
+  unfolding bandGiven
+  banded-pieces room f = rw (bandGiven, f)
 
-    pub banded-tolerance : (room : ℕ) → piecesFine (σ .pieces) ≡ true → toleranceFine T ≡ false → Refused Tolerance ≡ banded σ T ns room
-    unfolding banded
-    banded-tolerance room rows f = rw (banded, rows, f)
+  pub banded-tolerance : (room : ℕ) → piecesFine (σ .pieces) ≡ true → toleranceFine T ≡ false → Refused Tolerance ≡ bandGiven σ T o room
+  unfolding bandGiven
+  banded-tolerance room rows f = rw (bandGiven, rows, f)
 
-    pub banded-faulty : {r : Refusal} (room : ℕ) → piecesFine (σ .pieces) ≡ true → toleranceFine T ≡ true
-        → Faulty r ≡ checkedOf (outlined (σ .most) (σ .pieces) ns) → Refused r ≡ banded σ T ns room
-    unfolding banded
-    banded-faulty {r} room rows f e = rw (banded, rows, f, checked-refused (outlined (σ .most) (σ .pieces) ns) r (sym e))
+  pub banded-faulty : {r : Refusal} (room : ℕ) → piecesFine (σ .pieces) ≡ true → toleranceFine T ≡ true
+      → Faulty r ≡ checkedOf o → Refused r ≡ bandGiven σ T o room
+  unfolding bandGiven
+  banded-faulty {r} room rows f e = rw (bandGiven, rows, f, checked-refused o r (sym e))
 
-    -- a refusal alters nothing
-    pub written-refused : {r : Refusal} (l : List ℤ) → Refused r ≡ banded σ T ns (length l) → l ≡ written σ T ns l
-    unfolding written
-    written-refused l e = rw (sym e)
+-- a refusal alters nothing
+pub written-refused : (σ : Setting) (o : Outlined) (T : ℤ) {r : Refusal} (l : List ℤ) → Refused r ≡ bandGiven σ T o (length l)
+    → l ≡ writtenGiven σ T o l
+unfolding writtenGiven
+written-refused σ o T l e = rw (sym e)

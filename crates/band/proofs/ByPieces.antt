@@ -1,11 +1,11 @@
--- What banding finds of curves goes by the pieces of a setting and its limit of leaves; a limit of curves changes nothing of it.
+-- What banding finds of curves goes by the pieces and the scale of a setting and its limit of leaves; a limit of curves changes nothing of it.
 use mathlib.Core.Path.{_≡_, refl, _∙_, ap, ap₂}
 use mathlib.Core.List.{List, [], _∷_, _++_}
 use mathlib.Core.Option.{Option, none, some}
 use Prim.Native.Nat.{ℕ, zero, suc, _+_}
 use lib.ListN.{length}
 use lib.IntN.{ℤ}
-use Rattle.setting.specs.Setting.{Setting, limited, lists, breakPoints, deepest}
+use Rattle.setting.specs.Setting.{Setting, relimited, listsOf, breakPoints, deepest}
 use Rattle.refusals.specs.declared.Refusal.{Refusal}
 use Rattle.refusals.specs.declared.Refusal.the-variants.{TooWide}
 use Rattle.curve_nodes.specs.declared.Curve.{Curve}
@@ -19,14 +19,14 @@ use Rattle.band_passes.specs.Leaves.{firstTooWide, leavesOf, nodesOf}
 use Rattle.band_passes.specs.Inside.{countedOf}
 use Rattle.band.specs.Banding.{answerFor, bandCurves}
 
--- a caller who gives lists, with the same pieces
+-- a caller who gives lists, with the same pieces and scale
 abbrev pub listed : Setting → Setting
-listed σ = lists (σ .pieces)
+listed σ = listsOf (σ .pieces) (σ .sixths)
 
--- any other setting of the same pieces
+-- any other setting of the same pieces and scale
 module _ (σ : Setting) (most leaves : ℕ) where
   abbrev other : Setting
-  other = limited most leaves (σ .pieces)
+  other = relimited σ most leaves
 
   boxes-same : (n k : ℕ) (c : Curve) → boxesTo σ n k c ≡ boxesTo other n k c
   unfolding boxAt
@@ -68,12 +68,12 @@ module _ (σ : Setting) (most leaves : ℕ) where
 
 -- the answer reads the limit of leaves and the pieces alone
 answer-same : (σ : Setting) (most room : ℕ) (o : Option Refusal) (n l k : ℕ)
-    → answerFor σ room o n l k ≡ answerFor (limited most (σ .leaves) (σ .pieces)) room o n l k
+    → answerFor σ room o n l k ≡ answerFor (relimited σ most (σ .leaves)) room o n l k
 answer-same σ most room none n l k = refl
 answer-same σ most room (some r) n l k = refl
 
 pub band-curves-same : (σ : Setting) (most : ℕ) (T : ℤ) (cs : List Curve) (room : ℕ)
-    → bandCurves σ T cs room ≡ bandCurves (limited most (σ .leaves) (σ .pieces)) T cs room
+    → bandCurves σ T cs room ≡ bandCurves (relimited σ most (σ .leaves)) T cs room
 unfolding bandCurves
 band-curves-same σ most T cs room =
     let wide = wide-same σ most (σ .leaves) T 0 cs in

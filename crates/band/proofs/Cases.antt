@@ -1,6 +1,6 @@
 -- The answer for the curves of an outline: too wide, too many leaves, too little room, or done; each of them exactly where it is due.
 use mathlib.Core.Path.{_≡_, refl, sym, _∙_, ap}
-use mathlib.Core.Logic.{⊎-elim}
+use mathlib.Core.Logic.{_⊎_, inl, inr, ⊎-elim}
 use mathlib.Core.List.{List}
 use mathlib.Core.Option.{Option, none, some}
 use Prim.Native.Nat.{ℕ, _*_, _≤_}
@@ -8,6 +8,7 @@ use borrow.Author.Tests.{lt-ltb, le-ltb}
 use lib.ListN.{length}
 use lib.IntN.{ℤ}
 use Rattle.integers.proofs.Order.{lt-or-ge}
+use Rattle.integers.proofs.Clash.{clash}
 use Rattle.refusals.specs.declared.Refusal.{Refusal}
 use Rattle.refusals.specs.declared.Refusal.the-variants.{TooWide, TooFewRecords, TooManyLeaves}
 use Rattle.curve_nodes.specs.declared.Curve.{Curve}
@@ -78,6 +79,18 @@ module _ (σ : Setting) (T : ℤ) (cs : List Curve) (room : ℕ) where
           (λ l. let h : Many σ T cs (leavesOf σ T cs) = record { meet = m; more = l; leaves = refl } in rw (many-said h) (many h))
           (of-leaves m)
           (lt-or-ge (σ .leaves) (leavesOf σ T cs))
+
+  -- a refusal of the walk or of the lent records is one of three
+  pub said-refused : (r : Refusal) → bandCurves σ T cs room ≡ Refused r
+      → ((k : ℕ) × (n : ℕ) × (r ≡ TooWide k n)) ⊎ (((l : ℕ) × (r ≡ TooManyLeaves l)) ⊎ ((l : ℕ) × (r ≡ TooFewRecords l)))
+  said-refused r = go (bandCurves σ T cs room) one-of
+    where
+      go : (v : Banded) → Case v → v ≡ Refused r
+          → ((k : ℕ) × (n : ℕ) × (r ≡ TooWide k n)) ⊎ (((l : ℕ) × (r ≡ TooManyLeaves l)) ⊎ ((l : ℕ) × (r ≡ TooFewRecords l)))
+      go _ (wide {k} {n} w) e = inl (k, n, cc)
+      go _ (many {l} f) e = inr (inl (l, cc))
+      go _ (few {l} f) e = inr (inr (l, cc))
+      go _ (report f) e = clash (cc)
 
   pub said-wide : (k n : ℕ) → bandCurves σ T cs room ≡ Refused (TooWide k n) → FirstWide σ T 0 cs k n
   said-wide k n e = go (rw e at one-of)

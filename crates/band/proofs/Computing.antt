@@ -16,15 +16,16 @@ use Rattle.bound_node.specs.Boxes.{boxAt, meets}
 use Rattle.outline.specs.Curves.{curveAt}
 use Rattle.outline.specs.Faults.{faultAt}
 use Rattle.outline.specs.Checks.{Outlined, outlineFrom, outlined}
+use Rattle.outline_splines.specs.Splines.{splineAt, splinesFrom, splined}
 use Rattle.walk_tree.specs.Tree.{ends, met, firstFailing}
 use Rattle.walk_curve.specs.Walked.{nodeMeets, endsOf}
 use Rattle.band_records.specs.Records.{recordOf, recordsOf, allRecords}
 use Rattle.band_passes.specs.Leaves.{firstTooWide, leavesOf, nodesOf}
-use Rattle.band.specs.Banding.{bandCurves, banded, written}
+use Rattle.band.specs.Banding.{bandGiven, writtenGiven, bandCurves, written}
 
--- the curves of an outline
+-- the curves of an outline, and those of a B-spline
 unfoldable pub reading : ℕ → ℕ → List ℤ → Outlined
-unfolding outlined outlineFrom faultAt firstBad curveAt
+unfolding outlined outlineFrom faultAt firstBad curveAt splined splinesFrom splineAt
 reading = outlined
 
 -- the test of a node
@@ -39,5 +40,5 @@ walking = endsOf
 
 -- the list that banding leaves
 unfoldable pub computing : Setting → ℤ → List ℤ → List ℤ → List ℤ
-unfolding reading walking written allRecords recordsOf recordOf banded bandCurves firstTooWide leavesOf nodesOf
+unfolding reading walking writtenGiven allRecords recordsOf recordOf bandGiven bandCurves firstTooWide leavesOf nodesOf
 computing = written

@@ -1,5 +1,5 @@
 -- Examples of banding beside the starred ones, by computation: what stands behind the records, two curves, the spots of 7, 8,
--- 18 and 19, and a list that is left as it was.
+-- 18 and 19, a B-spline and the order of its checks, and a list that is left as it was.
 use mathlib.Core.Path.{_≡_, refl}
 use mathlib.Core.List.{List, [], _∷_, _++_}
 use Prim.Native.Nat.{ℕ}
@@ -9,7 +9,7 @@ use Rattle.setting.specs.Setting.{standard, lists, limited}
 use Rattle.refusals.specs.Refusals.{numberOf, spotOf}
 use Rattle.band.specs.declared.banding.Banded.{Banded}
 use Rattle.band.specs.declared.banding.Banded.the-variants.{Done, Refused}
-use Rattle.band.specs.Banding.{banded, written}
+use Rattle.band.specs.Banding.{banded, written, bandedSpline, writtenSpline}
 use Rattle.band.proofs.Computing.{computing}
 
 -- in the standard setting
@@ -85,6 +85,32 @@ as-many-as-taken = refl
 pub gap : refusal (answer (pos 2) (line ++ tall) 0) ≡ (17, 5)
 unfolding computing
 gap = refl
+
+-- ---- the B-spline of A's points at T 9: its control points are (10 25), (40/3 30), (50/3 30) and (20 25)
+abbrev points : List ℤ
+points = pos 0 ∷ pos 0 ∷ pos 10 ∷ pos 30 ∷ pos 20 ∷ pos 30 ∷ pos 30 ∷ pos 0 ∷ []
+
+pub spline-record : writtenSpline 3 (pos 9) points (replicate 20 (pos 7))
+    ≡ pos 0 ∷ pos 1 ∷ box 160 160 400 407 ++ box 213 214 453 461 ++ box 266 267 453 461 ++ box 320 320 400 407 ++ (pos 7 ∷ pos 7 ∷ [])
+unfolding computing
+spline-record = refl
+
+-- ---- 18 before 1, 1 before 24, 24 before 25, 25 before 8
+pub spline-pieces-first : refusal (bandedSpline 9 (pos 1) [] 0) ≡ (18, 0)
+unfolding computing
+spline-pieces-first = refl
+
+pub spline-tolerance-before-length : refusal (bandedSpline 3 (pos 1) [] 0) ≡ (1, 0)
+unfolding computing
+spline-tolerance-before-length = refl
+
+pub spline-length-before-coordinate : refusal (bandedSpline 3 (pos 2) (pos 131073 ∷ []) 0) ≡ (24, 1)
+unfolding computing
+spline-length-before-coordinate = refl
+
+pub spline-coordinate-before-room : refusal (bandedSpline 3 (pos 2) (replicate 7 (pos 131072) ++ (pos 131073 ∷ [])) 0) ≡ (25, 7)
+unfolding computing
+spline-coordinate-before-room = refl
 
 -- ---- 8: one number short; its spot is the number of leaves, and the lent list stays as it was
 pub too-few : refusal (answer (pos 43) A 35) ≡ (8, 2)

@@ -1,4 +1,5 @@
--- The checks before the walk, 18, 1 to 6, 20 and 17, refuse with their own numbers: so the answer of banding shows whether an outline passed them.
+-- The checks before the walk, 18, 1 to 6, 17, 20, 24 and 25, refuse with their own numbers: so the answer of banding shows whether a list passed
+-- them.
 use mathlib.Core.Path.{_≡_, refl, ap, subst}
 use mathlib.Core.Bool.{Bool, true, false}
 use mathlib.Core.Logic.{_⊎_, inl, inr, ⊎-elim}
@@ -12,6 +13,7 @@ use lib.IntN.{ℤ}
 use Rattle.setting.specs.Setting.{Setting, piecesFine}
 use Rattle.refusals.specs.declared.Refusal.{Refusal}
 use Rattle.refusals.specs.declared.Refusal.the-variants.{Tolerance, Degree, CutShort, Coordinate, TooManyCurves, EmptyOutline, Gap, Pieces, DegreePieces}
+use Rattle.refusals.specs.declared.Refusal.the-variants.{SplineLength, SplineCoordinate}
 use Rattle.refusals.specs.Refusals.{numberOf}
 use Rattle.curve_nodes.specs.declared.Curve.{Curve}
 use Rattle.outline.specs.Curves.{nextAt, curveAt}
@@ -19,8 +21,9 @@ use Rattle.outline.specs.Faults.{faultAt}
 use Rattle.outline.proofs.Faultless.{Finding, no-degree, few-pieces, cut-short, beyond, gap, none-found, finding}
 use Rattle.outline.specs.Checks.{Outlined, curves, faulty, toleranceFine, withCurve, outlineFrom, outlined}
 use Rattle.band.specs.declared.banding.Banded.the-variants.{Refused}
-use Rattle.band.specs.Banding.{bandCurves, banded}
-use Rattle.band.specs.Outcomes.{Faultless}
+use Rattle.outline_splines.specs.Splines.{splinesFrom, splineCount, splineLengthFine, firstFar, splined}
+use Rattle.band.specs.Banding.{bandCurves, bandGiven}
+use Rattle.band.specs.Outcomes.{Clear}
 use Rattle.walk_tree.proofs.Tree.{either}
 
 -- a refusal of one of them: none of the walk and none of the lent records
@@ -80,23 +83,44 @@ unfolding outlined
 outlined-early most m [] r e = subst Early (faulty-is e) (early-at-most EmptyOutline (lit≤ tt))
 outlined-early most m (z ∷ ns) r e = outline-early most m (z ∷ ns) 0 r e
 
--- ---- what banding says of the checks
-module _ (σ : Setting) (T : ℤ) (ns : List ℤ) (room : ℕ) where
-  pub banded-curves : (cs : List Curve) → Faultless σ T ns cs → banded σ T ns room ≡ bandCurves σ T cs room
-  unfolding banded
-  banded-curves cs f = rw (f .pieces, f .tolerance, f .outline, banded)
+-- ---- a list of points: 24 and 25
+early-spline : (n : ℕ) → Early (SplineLength n)
+early-spline n = record { not-wide = λ e. omega arith; not-few = λ e. omega arith; not-many = λ e. omega arith }
 
-  pub faultless-or : ((cs : List Curve) × Faultless σ T ns cs) ⊎ ((r : Refusal) × (banded σ T ns room ≡ Refused r) × Early r)
-  unfolding banded
-  faultless-or = ⊎-elim
+early-far : (i : ℕ) → Early (SplineCoordinate i)
+early-far i = record { not-wide = λ e. omega arith; not-few = λ e. omega arith; not-many = λ e. omega arith }
+
+pub splined-early : (ns : List ℤ) (r : Refusal) → splined ns ≡ faulty r → Early r
+unfolding splined
+splined-early ns r = go (splineLengthFine (length ns)) (firstFar ns (length ns) 0)
+  where
+    go : (b : Bool) (o : Option ℕ)
+        → elim b [
+          | false ↦ faulty (SplineLength (length ns))
+          | true ↦ elim o [ some i ↦ faulty (SplineCoordinate i) | none ↦ curves (splinesFrom (splineCount (length ns)) ns 0) ]
+        ] ≡ faulty r → Early r
+    go false o e = subst Early (faulty-is e) (early-spline (length ns))
+    go true (some i) e = subst Early (faulty-is e) (early-far i)
+    go true none e = absurd (not-curves e)
+
+-- ---- what banding says of the checks
+module _ (σ : Setting) (T : ℤ) (o : Outlined) (room : ℕ) where
+  pub banded-curves : (cs : List Curve) → Clear σ T o cs → bandGiven σ T o room ≡ bandCurves σ T cs room
+  unfolding bandGiven
+  banded-curves cs f = rw (f .pieces, f .tolerance, f .outline, bandGiven)
+
+  pub faultless-or : ((r : Refusal) → o ≡ faulty r → Early r)
+      → ((cs : List Curve) × Clear σ T o cs) ⊎ ((r : Refusal) × (bandGiven σ T o room ≡ Refused r) × Early r)
+  unfolding bandGiven
+  faultless-or early = ⊎-elim
       (λ rows. ⊎-elim
-      (λ fine. go rows fine (outlined (σ .most) (σ .pieces) ns) refl)
-      (λ (e : toleranceFine T ≡ false). inr (Tolerance, rw (rows, e, banded), early-at-most Tolerance (lit≤ tt)))
+      (λ fine. go rows fine o refl)
+      (λ (e : toleranceFine T ≡ false). inr (Tolerance, rw (rows, e, bandGiven), early-at-most Tolerance (lit≤ tt)))
       (either (toleranceFine T)))
-      (λ (e : piecesFine (σ .pieces) ≡ false). inr (Pieces, rw (e, banded), early-pieces))
+      (λ (e : piecesFine (σ .pieces) ≡ false). inr (Pieces, rw (e, bandGiven), early-pieces))
       (either (piecesFine (σ .pieces)))
     where
-      go : piecesFine (σ .pieces) ≡ true → toleranceFine T ≡ true → (o : Outlined) → outlined (σ .most) (σ .pieces) ns ≡ o
-          → ((cs : List Curve) × Faultless σ T ns cs) ⊎ ((r : Refusal) × (banded σ T ns room ≡ Refused r) × Early r)
+      go : piecesFine (σ .pieces) ≡ true → toleranceFine T ≡ true → (p : Outlined) → o ≡ p
+          → ((cs : List Curve) × Clear σ T o cs) ⊎ ((r : Refusal) × (bandGiven σ T o room ≡ Refused r) × Early r)
       go rows fine (curves cs) e = inl (cs, record { pieces = rows; tolerance = fine; outline = e })
-      go rows fine (faulty r) e = inr (r, rw (rows, fine, e, banded), outlined-early (σ .most) (σ .pieces) ns r e)
+      go rows fine (faulty r) e = inr (r, rw (rows, fine, e, bandGiven), early r e)

@@ -8,6 +8,8 @@ pub mod Computing
 pub mod Examples
 pub mod Sound
 pub mod Faults
+pub mod Given
 pub mod Theorems
+pub mod SplineAnswers
 pub mod Station
 pub mod Consequences

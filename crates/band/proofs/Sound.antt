@@ -1,4 +1,4 @@
--- The records of an accepted outline are sound: they pass checks 9 and 10.
+-- The records of curves that banding takes are sound: they pass checks 9 and 10.
 use mathlib.Core.Path.{_≡_, refl}
 use mathlib.Core.Bool.{true}
 use mathlib.Core.List.{List, [], _∷_, List·Memᴰ, List·Memᴰ·head, List·Memᴰ·tail}
@@ -9,8 +9,6 @@ use lib.IntN.{ℤ}
 use Rattle.setting.specs.Setting.{Setting, HasRows, degreePieces, deepest}
 use Rattle.curve_nodes.specs.declared.Curve.{Curve}
 use Rattle.curve_nodes.specs.Bounds.{Sized}
-use Rattle.outline.specs.Checks.{curves, outlined}
-use Rattle.outline.proofs.Accepted.{outlined-from, accepted-most, accepted-some, accepted-all, accepted-pieces}
 use Rattle.walk_curve.specs.Walked.{nodeMeets, endsOf}
 use Rattle.walk_tree.proofs.Counting.{some-end}
 use Rattle.band_records.specs.Records.{allRecords}
@@ -29,18 +27,8 @@ module _ (σ : Setting) (rows : HasRows (σ .pieces)) where
       (λ n i. leaf-sound σ rows T k c n (omega arith) (sized c (List·Memᴰ·head refl)) (takes c (List·Memᴰ·head refl)) i))
       (curves-sound T (suc k) cs (omega arith) (λ d i. sized d (List·Memᴰ·tail i)) (λ d i. takes d (List·Memᴰ·tail i)))
 
--- ---- an accepted outline
+-- ---- some leaves
 pub curves-leaves : (σ : Setting) (T : ℤ) (cs : List Curve) → 0 < length cs → 0 < leavesOf σ T cs
 unfolding leavesOf
 curves-leaves σ T [] h = absurd (omega arith)
 curves-leaves σ T (c ∷ cs) h = omega (arith, some-end (nodeMeets σ T c) (deepest (c .degree)) 1)
-
-module _ (σ : Setting) (T : ℤ) (ns : List ℤ) (cs : List Curve) (o : outlined (σ .most) (σ .pieces) ns ≡ curves cs) where
-  pub some-leaves : 0 < leavesOf σ T cs
-  some-leaves = curves-leaves σ T cs (accepted-some (σ .most) (σ .pieces) ns cs o)
-
-  pub records-sound : HasRows (σ .pieces) → SoundList σ (leavesOf σ T cs) (allRecords σ T 0 cs)
-  records-sound rows =
-      let from = outlined-from (σ .most) (σ .pieces) ns cs o in
-      curves-sound σ rows T 0 cs (omega (arith, accepted-most (σ .most) (σ .pieces) ns cs o)) (accepted-all (σ .most) (σ .pieces) ns 0 cs from)
-      (accepted-pieces (σ .most) (σ .pieces) ns 0 cs from)

@@ -8,7 +8,7 @@ use native.Mathlib.Omega.{arith}
 use lib.Dec.{lit≤}
 use lib.ListN.{length}
 use lib.IntN.{ℤ}
-use Rattle.setting.specs.Setting.{Setting, limited, lists, station, texts, recordLength}
+use Rattle.setting.specs.Setting.{Setting, relimited, lists, station, texts, recordLength}
 use Rattle.refusals.specs.declared.Refusal.the-variants.{TooManyLeaves}
 use Rattle.curve_nodes.specs.declared.Curve.{Curve}
 use Rattle.outline.proofs.Accepted.{outlined-within, accepted-most}
@@ -17,7 +17,7 @@ use Rattle.band_passes.specs.Meeting.{AllMeet}
 use Rattle.band_passes.proofs.Counting.{few-leaves}
 use Rattle.band_passes.proofs.Wide.{none-wide}
 use Rattle.band.specs.declared.banding.Banded.the-variants.{Done, Refused}
-use Rattle.band.specs.Banding.{banded, written}
+use Rattle.band.specs.Banding.{writtenGiven, banded, written}
 use Rattle.band.specs.Outcomes.{Faultless, Report}
 use Rattle.band.specs.Station.{StationAgrees}
 use Rattle.band.proofs.ByPieces.{listed, all-records-same, wide-same, leaves-same, nodes-same}
@@ -26,7 +26,7 @@ use Rattle.band.proofs.Theorems.{many-exactly, never-many, done-exactly
 -- ---- what is accepted in one setting, in another of the same pieces that takes so many curves and leaves
 module _ (σ : Setting) (most leaves : ℕ) (T : ℤ) (ns : List ℤ) where
   abbrev other : Setting
-  other = limited most leaves (σ .pieces)
+  other = relimited σ most leaves
 
   pub faultless-again : {cs : List Curve} → Faultless σ T ns cs → length cs ≤ most → Faultless other T ns cs
   faultless-again {cs} f h = record { pieces = f .pieces; tolerance = f .tolerance; outline = outlined-within (σ .most) most (σ .pieces) ns cs (f .outline) h }
@@ -61,7 +61,7 @@ module _ (σ : Setting) (most leaves : ℕ) (T : ℤ) (ns : List ℤ) where
         )
 
     pub written-again : (old : List ℤ) → banded σ T ns (length old) ≡ Done a b c → written σ T ns old ≡ written other T ns old
-    unfolding written
+    unfolding writtenGiven
     written-again old e =
         let h = done-exactly σ T ns (length old) a b c .0 e in
         let f = faultless-again (h .1) (omega (arith, h .2 .curves)) in

@@ -1,4 +1,5 @@
--- What banding answers in a setting, and what it leaves in the caller's list (document 01).
+-- What banding answers in a setting, and what it leaves in the caller's list (document 01). What a caller gives is a
+-- list of curves or the first fault of it: of an outline, or of a B-spline's points (request 13).
 use mathlib.Core.Bool.{true, false}
 use mathlib.Core.List.{List, _++_}
 use mathlib.Core.Option.{Option, none, some}
@@ -6,11 +7,12 @@ use Prim.Native.Nat.{ℕ, _*_}
 use lib.Dec.{ltb}
 use lib.ListN.{length, drop}
 use lib.IntN.{ℤ}
-use Rattle.setting.specs.Setting.{Setting, piecesFine, recordLength}
+use Rattle.setting.specs.Setting.{Setting, splines, piecesFine, recordLength}
 use Rattle.refusals.specs.declared.Refusal.{Refusal}
 use Rattle.refusals.specs.declared.Refusal.the-variants.{Tolerance, TooFewRecords, Pieces, TooManyLeaves}
 use Rattle.curve_nodes.specs.declared.Curve.{Curve}
 use Rattle.outline.specs.Checks.{toleranceFine, Outlined, curves, faulty, outlined}
+use Rattle.outline_splines.specs.Splines.{splined}
 use Rattle.band.specs.declared.banding.Banded.{Banded}
 use Rattle.band.specs.declared.banding.Banded.the-variants.{Done, Refused}
 use Rattle.band_records.specs.Records.{allRecords}
@@ -36,16 +38,12 @@ abbrev pub bandOutlined : Setting → ℤ → Outlined → ℕ → Banded
 bandOutlined σ T (faulty r) room = Refused r
 bandOutlined σ T (curves cs) room = bandCurves σ T cs room
 
--- 18, then 1, then the outline
-unfoldable pub banded : Setting → ℤ → List ℤ → ℕ → Banded
-banded σ T ns room =
+-- 18, then 1, then what is given
+unfoldable pub bandGiven : Setting → ℤ → Outlined → ℕ → Banded
+bandGiven σ T o room =
     elim (piecesFine (σ .pieces)) [
       | false ↦ Refused Pieces
-      | true ↦
-          elim (toleranceFine T) [
-            | false ↦ Refused Tolerance
-            | true ↦ bandOutlined σ T (outlined (σ .most) (σ .pieces) ns) room
-          ]
+      | true ↦ elim (toleranceFine T) [ false ↦ Refused Tolerance | true ↦ bandOutlined σ T o room ]
     ]
 
 -- ---- the caller's list afterwards: the records in front of what stood behind them; a refusal alters nothing
@@ -53,6 +51,19 @@ abbrev pub writtenBy : Banded → List ℤ → List ℤ → List ℤ
 writtenBy (Refused r) records old = old
 writtenBy (Done a b c) records old = records ++ drop (length records) old
 
-unfoldable pub written : Setting → ℤ → List ℤ → List ℤ → List ℤ
-written σ T ns old =
-    writtenBy (banded σ T ns (length old)) (allRecords σ T 0 (curvesOf (outlined (σ .most) (σ .pieces) ns))) old
+unfoldable pub writtenGiven : Setting → ℤ → Outlined → List ℤ → List ℤ
+writtenGiven σ T o old = writtenBy (bandGiven σ T o (length old)) (allRecords σ T 0 (curvesOf o)) old
+
+-- ---- an outline
+abbrev pub banded : Setting → ℤ → List ℤ → ℕ → Banded
+banded σ T ns room = bandGiven σ T (outlined (σ .most) (σ .pieces) ns) room
+
+abbrev pub written : Setting → ℤ → List ℤ → List ℤ → List ℤ
+written σ T ns old = writtenGiven σ T (outlined (σ .most) (σ .pieces) ns) old
+
+-- ---- the points of a B-spline, and m pieces
+abbrev pub bandedSpline : ℕ → ℤ → List ℤ → ℕ → Banded
+bandedSpline m T ns room = bandGiven (splines m) T (splined ns) room
+
+abbrev pub writtenSpline : ℕ → ℤ → List ℤ → List ℤ → List ℤ
+writtenSpline m T ns old = writtenGiven (splines m) T (splined ns) old

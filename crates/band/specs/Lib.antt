@@ -3,3 +3,4 @@
 pub mod Banding
 pub mod Outcomes
 pub mod Station
+pub mod Inside

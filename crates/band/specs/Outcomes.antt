@@ -8,20 +8,27 @@ use lib.ListN.{length}
 use lib.IntN.{ℤ, pos, _+ℤ_, _*ℤ_}
 use lib.Signed.{_≤ℤ_}
 use Rattle.integers.specs.Squares.{squared}
+use Rattle.refusals.specs.declared.Refusal.{Refusal}
+use Rattle.refusals.specs.declared.Refusal.the-variants.{Pieces, Tolerance, SplineLength, SplineCoordinate, TooWide}
+use Rattle.refusals.specs.declared.Refusal.the-variants.{TooFewRecords}
 use Rattle.curve_nodes.specs.declared.Curve.{Curve}
 use Rattle.curve_nodes.specs.Differences.{largest}
 use Rattle.bound_rows.specs.Rule.{gapOf}
-use Rattle.outline.specs.Checks.{toleranceFine, curves, outlined}
-use Rattle.setting.specs.Setting.{Setting, piecesFine, recordLength}
+use Rattle.outline.specs.Checks.{toleranceFine, Outlined, curves, outlined}
+use Rattle.setting.specs.Setting.{Setting, scale, piecesFine, recordLength}
 use Rattle.band_passes.specs.Leaves.{leavesOf, nodesOf}
 use Rattle.band_passes.specs.Meeting.{AllMeet}
 
 -- ---- outlines
--- the checks before the walk, 18, 1 to 6, 20 and 17, find no fault, and the outline's curves are cs
-pub record Faultless (σ : Setting) (T : ℤ) (ns : List ℤ) (cs : List Curve) : Type 0 where
+-- the checks before the walk, 18 and 1 and those of what is given, find no fault, and the curves given are cs
+pub record Clear (σ : Setting) (T : ℤ) (o : Outlined) (cs : List Curve) : Type 0 where
   pub pieces : piecesFine (σ .pieces) ≡ true
   pub tolerance : toleranceFine T ≡ true
-  pub outline : outlined (σ .most) (σ .pieces) ns ≡ curves cs
+  pub outline : o ≡ curves cs
+
+-- the checks of an outline are 2 to 6, 20 and 17
+abbrev pub Faultless : Setting → ℤ → List ℤ → List Curve → Type 0
+Faultless σ T ns cs = Clear σ T (outlined (σ .most) (σ .pieces) ns) cs
 
 -- check 19: nothing is too wide, but there are l leaves, more than the setting takes
 pub record Many (σ : Setting) (T : ℤ) (cs : List Curve) (l : ℕ) : Type 0 where
@@ -45,12 +52,25 @@ pub record Report (σ : Setting) (T : ℤ) (cs : List Curve) (room a b c : ℕ) 
   pub leaves : leavesOf σ T cs ≡ b
   pub nodes : nodesOf σ T cs ≡ c
 
+-- ---- B-splines: the refusals that they can get, in the order in which they are tried. A list of points has no degrees
+-- and no curve of its own that could be cut short or stand apart, so 2, 3, 4, 5, 6, 17 and 20 are none of them, and 19
+-- is none since every leaf is taken (request 13).
+pub data SplineRefusal : Refusal → Type 0 where
+  pieces : SplineRefusal Pieces
+  tolerance : SplineRefusal Tolerance
+  count-of-numbers : (n : ℕ) → SplineRefusal (SplineLength n)
+  coordinate : (i : ℕ) → SplineRefusal (SplineCoordinate i)
+  wide : (k n : ℕ) → SplineRefusal (TooWide k n)
+  few : (l : ℕ) → SplineRefusal (TooFewRecords l)
+
 -- ---- the premise of the depth claim: 2 × (16 × G × M + 20000 × 4^j)² ≤ (10000 × T × 4^j)², where G is that of the
--- curve's degree and the number of pieces (request 05)
+-- curve's degree and the number of pieces (request 05). Where control values are sixths of a unit M counts sixths too,
+-- and both sides are multiplied by 36 (request 13).
 abbrev pub Flat : Setting → ℤ → Curve → ℕ → Type 0
 Flat σ T c j =
-    (pos 2 *ℤ squared (pos 16 *ℤ pos (gapOf (σ .pieces) (c .degree)) *ℤ pos (largest c) +ℤ pos 20000 *ℤ pos (4 ^ j)))
-    ≤ℤ squared (pos 10000 *ℤ T *ℤ pos (4 ^ j))
+    (pos 2 *ℤ squared
+    (pos 16 *ℤ pos (gapOf (σ .pieces) (c .degree)) *ℤ pos (largest c) +ℤ pos 20000 *ℤ pos (scale σ * 4 ^ j)))
+    ≤ℤ squared (pos 10000 *ℤ T *ℤ pos (scale σ * 4 ^ j))
 
 -- that of request 04, for three pieces: 2 × (178 × M + 250 × 4^j)² ≤ (125 × T × 4^j)². The two are the same at degree
 -- 3, by `flat-thirds` of crates/band/proofs/Premise.antt.

@@ -3,9 +3,12 @@ ghost use mathlib.Core.Path.{_≡_};
 ghost use Prim.Native.Nat.{_≤_};
 ghost use lib.ListN.{length};
 ghost use Rattle.setting.specs.Setting.{lists, station, limited, piecesFine};
-ghost use Rattle.band.specs.Banding.{banded, written};
+ghost use Rattle.outline.specs.Inside.{checkedOf};
+ghost use Rattle.band.specs.Banding.{bandGiven, writtenGiven, banded, written, bandedSpline, writtenSpline};
+ghost use Rattle.band.specs.Inside.{givenOf, settingFor};
 use crate::banding::Banded;
 use crate::outline_band::band_curves;
+use band_passes::forms::Form;
 use outline::Checked;
 use refusals::Refusal;
 
@@ -42,6 +45,15 @@ pub fn station_band(outline: &[i32], tolerance: i32, m: u32, records: &mut [i32]
     band_most(outline, 64, 128, tolerance, m, records)
 }
 
+// The same of a B-spline, uniform and cubic, by its points.
+pub fn spline_band(points: &[i32], tolerance: i32, m: u32, records: &mut [i32]) -> Banded
+    ensures { λ r. ⌜ r ≡ bandedSpline m tolerance (now (points .entry)) (length (now (records .entry))) ⌝ }
+    ensures { λ r. ⌜ now (records .exit)
+        ≡ writtenSpline m tolerance (now (points .entry)) (now (records .entry)) ⌝ }
+{
+    band_list(Form::Spline, points, 4096, 1048576, tolerance, m, records)
+}
+
 // The same of an outline that may have `most` curves and `leaves` leaves.
 pub fn band_most(
     outline: &[i32],
@@ -57,16 +69,48 @@ pub fn band_most(
     ensures { λ r. ⌜ now (records .exit)
         ≡ written (limited most leaves m) tolerance (now (outline .entry)) (now (records .entry)) ⌝ }
 {
+    band_list(Form::Outline, outline, most, leaves, tolerance, m, records)
+}
+
+// The checks of a list, by its form.
+fn check_list(form: Form, ns: &[i32], most: usize, m: u32) -> Checked
+    ensures { λ r. ⌜ r ≡ checkedOf (givenOf form most m (now (ns .entry))) ⌝ }
+{
+    match form {
+        Form::Outline => outline_checks::check_outline(ns, most, m),
+        Form::Spline => outline_splines::check_spline(ns),
+    }
+}
+
+// The band of a list, by its form, that may have `most` curves and `leaves` leaves.
+fn band_list(
+    form: Form,
+    ns: &[i32],
+    most: usize,
+    leaves: usize,
+    tolerance: i32,
+    m: u32,
+    records: &mut [i32],
+) -> Banded
+    requires { ⌜ most ≤ 65536 ⌝ }
+    ensures { λ r. ⌜ r
+        ≡ bandGiven (settingFor form most leaves m) tolerance (givenOf form most m (now (ns .entry)))
+        (length (now (records .entry))) ⌝ }
+    ensures { λ r. ⌜ now (records .exit)
+        ≡ writtenGiven (settingFor form most leaves m) tolerance (givenOf form most m (now (ns .entry)))
+        (now (records .entry)) ⌝ }
+{
     if !pieces_fine(m) {
         return Banded::Refused(Refusal::Pieces);
     }
     if !outline_checks::tolerance_fine(tolerance) {
         return Banded::Refused(Refusal::Tolerance);
     }
-    match outline_checks::check_outline(outline, most, m) {
+    match check_list(form, ns, most, m) {
         Checked::Faulty(refusal) => Banded::Refused(refusal),
         Checked::Curves(curves) => band_curves(
-            outline,
+            form,
+            ns,
             tolerance as i64,
             m as usize,
             curves,

@@ -1,38 +1,41 @@
-// The band of an outline without faults: checks 7, 19 and 8, and the records.
+// The band of a list without faults: checks 7, 19 and 8, and the records.
 ghost use mathlib.Core.Path.{_≡_};
 ghost use lib.ListN.{length};
-ghost use Rattle.setting.specs.Setting.{lists, limited, HasRows};
-ghost use Rattle.bound_pieces.specs.Inside.{Ready};
+ghost use Rattle.setting.specs.Setting.{listsOf, relimited, HasRows};
+ghost use Rattle.bound_pieces.specs.Inside.{Ready, settingOf};
 ghost use Rattle.band_records.specs.Records.{allRecords};
 ghost use Rattle.band.specs.Banding.{bandCurves, writtenBy};
-ghost use Rattle.band_passes.specs.Inside.{Readable, curvesIn};
+ghost use Rattle.band_passes.specs.Inside.{Readable, curvesIn, sixthsOf};
 use crate::banding::Banded;
+use band_passes::forms::Form;
+use band_passes::forms::sixths_of;
 use band_passes::leaf_count::count;
 use band_passes::leaf_writing::write_all;
 use band_passes::passes::Counted;
 use bound_pieces::Pieces;
 use refusals::Refusal;
 
-// Checks 7, 19 and 8, and the records, of an outline without faults that has this many curves and may have
-// `most` leaves. The rows lent are those of the number of pieces.
+// Checks 7, 19 and 8, and the records, of a list without faults that has this many curves and may have `most` leaves.
+// The rows lent are those of the number of pieces.
 fn band_by(
     rows: &[i64],
     pieces: Pieces,
+    form: Form,
     ns: &[i32],
     t: i64,
     curves: usize,
     most: usize,
     records: &mut [i32],
 ) -> Banded
-    requires { ⌜ (Ready pieces (now rows)) × (Readable (pieces .m) (now ns) curves) ⌝ }
+    requires { ⌜ (Ready pieces (now rows)) × (Readable (settingOf pieces) form (now ns) curves) ⌝ }
     ensures { λ r. ⌜ r
-        ≡ bandCurves (limited curves most (pieces .m)) t (curvesIn (pieces .m) (now (ns .entry)) curves)
+        ≡ bandCurves (relimited (settingOf pieces) curves most) t (curvesIn form (now (ns .entry)) curves)
         (length (now (records .entry))) ⌝ }
     ensures { λ r. ⌜ now (records .exit)
-        ≡ writtenBy r (allRecords (lists (pieces .m)) t 0 (curvesIn (pieces .m) (now (ns .entry)) curves))
+        ≡ writtenBy r (allRecords (settingOf pieces) t 0 (curvesIn form (now (ns .entry)) curves))
         (now (records .entry)) ⌝ }
 {
-    match count(rows, pieces, ns, t, curves) {
+    match count(rows, pieces, form, ns, t, curves) {
         Counted::Stopped(refusal) => Banded::Refused(refusal),
         Counted::Total(leaves) => {
             if most < leaves {
@@ -43,7 +46,7 @@ fn band_by(
             if records.len() < record_length * leaves {
                 return Banded::Refused(Refusal::TooFewRecords(leaves));
             }
-            write_all(records, rows, pieces, ns, t, curves);
+            write_all(records, rows, pieces, form, ns, t, curves);
             let nodes = 2 * leaves - curves;
             Banded::Done {
                 curves,
@@ -57,6 +60,7 @@ fn band_by(
 // The same for m pieces: their rows are copied out of the table, once. The list that they are put into is filled with m
 // first; for zeros the compiler would call the C library.
 pub fn band_curves(
+    form: Form,
     ns: &[i32],
     t: i64,
     m: usize,
@@ -64,14 +68,16 @@ pub fn band_curves(
     most: usize,
     records: &mut [i32],
 ) -> Banded
-    requires { ⌜ (HasRows m) × (Readable m (now ns) curves) ⌝ }
+    requires { ⌜ (HasRows m) × (Readable (listsOf m (sixthsOf form)) form (now ns) curves) ⌝ }
     ensures { λ r. ⌜ r
-        ≡ bandCurves (limited curves most m) t (curvesIn m (now (ns .entry)) curves) (length (now (records .entry))) ⌝ }
+        ≡ bandCurves (relimited (listsOf m (sixthsOf form)) curves most) t (curvesIn form (now (ns .entry)) curves)
+        (length (now (records .entry))) ⌝ }
     ensures { λ r. ⌜ now (records .exit)
-        ≡ writtenBy r (allRecords (lists m) t 0 (curvesIn m (now (ns .entry)) curves)) (now (records .entry)) ⌝ }
+        ≡ writtenBy r (allRecords (listsOf m (sixthsOf form)) t 0 (curvesIn form (now (ns .entry)) curves))
+        (now (records .entry)) ⌝ }
 {
     let mut rows = [m as i64; 297];
     bound_row_table::put_rows(&mut rows, m);
-    let pieces = bound_pieces::pieces_of(&rows, m);
-    band_by(&rows, pieces, ns, t, curves, most, records)
+    let pieces = bound_pieces::pieces_of(&rows, m, sixths_of(form));
+    band_by(&rows, pieces, form, ns, t, curves, most, records)
 }

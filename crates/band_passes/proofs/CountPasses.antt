@@ -1,4 +1,4 @@
--- The first pass over an outline: what the walks of its curves give, taken together.
+-- The first pass over a list of curves: what the walks of its curves give, taken together.
 use mathlib.Core.Path.{_≡_, refl, sym, _∙_, ap, ap₂}
 use mathlib.Core.List.{List, [], _∷_}
 use mathlib.Core.Option.{Option, none, some}
@@ -12,19 +12,18 @@ use Rattle.setting.specs.Setting.{Setting, deepest}
 use Rattle.setting.proofs.Depths.{deepest-few}
 use Rattle.refusals.specs.declared.Refusal.the-variants.{TooWide}
 use Rattle.curve_nodes.specs.declared.Curve.{Curve}
-use Rattle.outline.specs.Curves.{nextAt, curveAt}
-use Rattle.outline.specs.Checks.{outlineFrom}
 use Rattle.band_passes.specs.declared.passes.Counted.{Counted}
 use Rattle.band_passes.specs.declared.passes.Counted.the-variants.{Total, Stopped}
 use Rattle.walk_curve.specs.declared.Walked.the-variants.{Leaves, WideNode}
 use Rattle.walk_tree.specs.Tree.{firstFailing}
 use Rattle.walk_curve.specs.Walked.{nodeMeets, endsOf}
 use Rattle.walk_curve.specs.Inside.{walkedOf}
-use Rattle.band_passes.specs.Leaves.{curvesOf, firstTooWide, leavesOf}
-use Rattle.band_passes.specs.Inside.{Readable, countedOf}
+use Rattle.band_passes.specs.declared.forms.Form.{Form}
+use Rattle.band_passes.specs.Leaves.{firstTooWide, leavesOf}
+use Rattle.band_passes.specs.Inside.{readAt, nextOf, curvesIn, Readable, countedOf}
 use Rattle.walk_tree.proofs.Counting.{few-ends}
 use Rattle.band_passes.proofs.Wide.{wide-later, wide-here}
-use Rattle.band_passes.proofs.Outlines.{Rest, rest-start, rest-next, rest-done}
+use Rattle.band_passes.proofs.Reading.{Rest, restOf, rest-start, rest-begins, rest-next, rest-done}
 
 -- ---- what the walk of one curve says
 walked-leaves : (o : Option ℕ) (l m : ℕ) → Leaves m ≡ elim o [ some n ↦ WideNode n | none ↦ Leaves l ] → (o ≡ none) × (m ≡ l)
@@ -70,40 +69,39 @@ few-leaves σ T c m e =
     omega (arith, w .1, few-ends (nodeMeets σ T c) (deepest (c .degree)) 1, deepest-few (c .degree))
 
 -- ---- the loop: k of n curves are done and have so many leaves
-pub record Passed (σ : Setting) (T : ℤ) (ns : List ℤ) (n k at leaves : ℕ) : Type 0 where
-  pub rest : List Curve
-  pub ahead : Rest (σ .pieces) ns n k at rest
-  pub is : countedOf σ T (curvesOf (outlineFrom n (σ .pieces) ns 0)) ≡ countedFrom σ leaves T k rest
+pub record Passed (σ : Setting) (T : ℤ) (f : Form) (ns : List ℤ) (n k at leaves : ℕ) : Type 0 where
+  pub ahead : Rest σ f ns n k at
+  pub is : countedOf σ T (curvesIn f ns n) ≡ countedFrom σ leaves T k (restOf f ns n k at)
   pub few : leaves ≤ 256 * k
 
-module _ {σ : Setting} {T : ℤ} {ns : List ℤ} {n : ℕ} where
-  pub passed-start : Readable (σ .pieces) ns n → Passed σ T ns n 0 0 0
+module _ {σ : Setting} {T : ℤ} {f : Form} {ns : List ℤ} {n : ℕ} where
+  pub passed-start : Readable σ f ns n → Passed σ T f ns n 0 0 0
   passed-start r = record {
-    rest = r .all;
     ahead = rest-start r;
-    is = ap (λ o. countedOf σ T (curvesOf o)) (r .is) ∙ counted-all σ T (r .all);
+    is = counted-all σ T (curvesIn f ns n) ∙ ap (countedFrom σ 0 T 0) (rest-begins f ns n);
     few = omega arith;
   }
 
-  module _ {k at leaves : ℕ} (p : Passed σ T ns n k at leaves) where
-    pub passed-done : n ≤ k → Total leaves ≡ countedOf σ T (curvesOf (outlineFrom n (σ .pieces) ns 0))
-    passed-done h = sym (p .is ∙ ap (countedFrom σ leaves T k) (rest-done (p .rest) (p .ahead) h) ∙ counted-none σ leaves T k)
+  module _ {k at leaves : ℕ} (p : Passed σ T f ns n k at leaves) where
+    pub passed-done : n ≤ k → Total leaves ≡ countedOf σ T (curvesIn f ns n)
+    passed-done h = sym (p .is ∙ ap (countedFrom σ leaves T k) (rest-done f ns n k at h) ∙ counted-none σ leaves T k)
 
     module _ (h : k < n) where
-      pub passed-wide : (m : ℕ) → WideNode m ≡ walkedOf σ T (curveAt ns at) → Stopped (TooWide k m) ≡ countedOf σ T (curvesOf (outlineFrom n (σ .pieces) ns 0))
-      passed-wide m e =
-          let x = rest-next (p .rest) (p .ahead) h in
-          sym (p .is ∙ ap (countedFrom σ leaves T k) (x .is) ∙ counted-wide σ T k (curveAt ns at) (x .more) leaves m e)
+      abbrev c : Curve
+      c = readAt f ns at
 
-      pub passed-few : (m : ℕ) → Leaves m ≡ walkedOf σ T (curveAt ns at) → leaves + m ≤ 256 * (k + 1)
-      passed-few m e = omega (arith, p .few, few-leaves σ T (curveAt ns at) m e)
+      abbrev cs : List Curve
+      cs = restOf f ns n (k + 1) (nextOf f ns at)
 
-      pub passed-more : (m : ℕ) → Leaves m ≡ walkedOf σ T (curveAt ns at) → Passed σ T ns n (k + 1) (nextAt ns at) (leaves + m)
-      passed-more m e =
-          let x = rest-next (p .rest) (p .ahead) h in
-          record {
-            rest = x .more;
-            ahead = x .on;
-            is = p .is ∙ ap (countedFrom σ leaves T k) (x .is) ∙ counted-more σ T k (curveAt ns at) (x .more) leaves m e;
-            few = passed-few m e;
-          }
+      pub passed-wide : (m : ℕ) → WideNode m ≡ walkedOf σ T (readAt f ns at) → Stopped (TooWide k m) ≡ countedOf σ T (curvesIn f ns n)
+      passed-wide m e = sym (p .is ∙ ap (countedFrom σ leaves T k) (rest-next (p .ahead) h .is) ∙ counted-wide σ T k c cs leaves m e)
+
+      pub passed-few : (m : ℕ) → Leaves m ≡ walkedOf σ T (readAt f ns at) → leaves + m ≤ 256 * (k + 1)
+      passed-few m e = omega (arith, p .few, few-leaves σ T c m e)
+
+      pub passed-more : (m : ℕ) → Leaves m ≡ walkedOf σ T (readAt f ns at) → Passed σ T f ns n (k + 1) (nextOf f ns at) (leaves + m)
+      passed-more m e = record {
+        ahead = rest-next (p .ahead) h .on;
+        is = p .is ∙ ap (countedFrom σ leaves T k) (rest-next (p .ahead) h .is) ∙ counted-more σ T k c cs leaves m e;
+        few = passed-few m e;
+      }

@@ -1,7 +1,7 @@
 -- Laws of the two passes. Each file opens with what it holds.
 pub mod Wide
 pub mod Counting
-pub mod Outlines
+pub mod Reading
 -- Laws of the first pass.
 pub mod CountPasses
 -- Laws of the second pass.

@@ -1,20 +1,21 @@
-// The second pass over the curves of an outline: it writes the records of their leaves.
+// The second pass over the curves of a list: it writes the records of their leaves.
 ghost use mathlib.Core.Path.{_≡_};
 ghost use Prim.Native.Nat.{_+_, _*_, _≤_, _<_, _^_};
 ghost use lib.ListN.{length};
 ghost use lib.Seq.{sets};
-ghost use Rattle.setting.specs.Setting.{lists, recordLength};
-ghost use Rattle.bound_pieces.specs.Inside.{Ready};
+ghost use Rattle.setting.specs.Setting.{recordLength};
+ghost use Rattle.bound_pieces.specs.Inside.{Ready, settingOf};
 ghost use Rattle.walk_curve.specs.Walked.{endsOf};
 ghost use Rattle.band_records.specs.Records.{recordsOf, allRecords};
 ghost use Rattle.band_passes.specs.Inside.{curvesIn, EndsMeet, Fillable};
+use crate::forms::Form;
+use crate::forms::next_of;
+use crate::forms::read_at;
 use band_records::put_record;
 use band_records::put_record_higher;
 use bound_pieces::Pieces;
 use bound_tolerance_higher::Verdict;
 use curve_nodes::Curve;
-use outline_reading::curve_values::curve_at;
-use outline_reading::outline_curves::next_at;
 use walk_curve::Part;
 
 // The records of a curve's leaves, from place `at` on. It returns the place after them. The rows lent are those of the
@@ -28,12 +29,12 @@ pub fn write_curve(
     curve: Curve,
     t: i64,
 ) -> usize
-    requires { ⌜ (Ready pieces (now rows)) × (EndsMeet (lists (pieces .m)) t curve) × (number < 2 ^ 31)
-        × (at + recordLength (lists (pieces .m)) * length (endsOf (lists (pieces .m)) t curve)
+    requires { ⌜ (Ready pieces (now rows)) × (EndsMeet (settingOf pieces) t curve) × (number < 2 ^ 31)
+        × (at + recordLength (settingOf pieces) * length (endsOf (settingOf pieces) t curve)
         ≤ length (now records)) ⌝ }
-    ensures { λ r. ⌜ r ≡ at + recordLength (lists (pieces .m)) * length (endsOf (lists (pieces .m)) t curve) ⌝ }
+    ensures { λ r. ⌜ r ≡ at + recordLength (settingOf pieces) * length (endsOf (settingOf pieces) t curve) ⌝ }
     ensures { λ r. ⌜ now (records .exit) ≡ sets (now (records .entry)) at
-        (recordsOf (lists (pieces .m)) number curve (endsOf (lists (pieces .m)) t curve)) ⌝ }
+        (recordsOf (settingOf pieces) number curve (endsOf (settingOf pieces) t curve)) ⌝ }
 {
     if 3 < curve.degree {
         write_higher(records, at, rows, pieces, number, curve, t)
@@ -52,12 +53,12 @@ fn write_low(
     curve: Curve,
     t: i64,
 ) -> usize
-    requires { ⌜ (Ready pieces (now rows)) × (EndsMeet (lists (pieces .m)) t curve) × (number < 2 ^ 31)
-        × (at + recordLength (lists (pieces .m)) * length (endsOf (lists (pieces .m)) t curve)
+    requires { ⌜ (Ready pieces (now rows)) × (EndsMeet (settingOf pieces) t curve) × (number < 2 ^ 31)
+        × (at + recordLength (settingOf pieces) * length (endsOf (settingOf pieces) t curve)
         ≤ length (now records)) × (curve .degree ≤ 3) ⌝ }
-    ensures { λ r. ⌜ r ≡ at + recordLength (lists (pieces .m)) * length (endsOf (lists (pieces .m)) t curve) ⌝ }
+    ensures { λ r. ⌜ r ≡ at + recordLength (settingOf pieces) * length (endsOf (settingOf pieces) t curve) ⌝ }
     ensures { λ r. ⌜ now (records .exit) ≡ sets (now (records .entry)) at
-        (recordsOf (lists (pieces .m)) number curve (endsOf (lists (pieces .m)) t curve)) ⌝ }
+        (recordsOf (settingOf pieces) number curve (endsOf (settingOf pieces) t curve)) ⌝ }
 {
     let m = pieces.m;
     let record_length = 6 + 4 * m;
@@ -67,7 +68,7 @@ fn write_low(
         let node = part.node;
         let own = part.curve;
         if bound_tolerance::meets(rows, pieces, own, curve_nodes::depth(node), t) {
-            put_record(records, place, number, node, rows, m, own);
+            put_record(records, place, number, node, rows, pieces, own);
             place += record_length;
             part = part.after();
             if part.node == 1 {
@@ -89,12 +90,12 @@ fn write_higher(
     curve: Curve,
     t: i64,
 ) -> usize
-    requires { ⌜ (Ready pieces (now rows)) × (EndsMeet (lists (pieces .m)) t curve) × (number < 2 ^ 31)
-        × (at + recordLength (lists (pieces .m)) * length (endsOf (lists (pieces .m)) t curve)
+    requires { ⌜ (Ready pieces (now rows)) × (EndsMeet (settingOf pieces) t curve) × (number < 2 ^ 31)
+        × (at + recordLength (settingOf pieces) * length (endsOf (settingOf pieces) t curve)
         ≤ length (now records)) × (3 < curve .degree) ⌝ }
-    ensures { λ r. ⌜ r ≡ at + recordLength (lists (pieces .m)) * length (endsOf (lists (pieces .m)) t curve) ⌝ }
+    ensures { λ r. ⌜ r ≡ at + recordLength (settingOf pieces) * length (endsOf (settingOf pieces) t curve) ⌝ }
     ensures { λ r. ⌜ now (records .exit) ≡ sets (now (records .entry)) at
-        (recordsOf (lists (pieces .m)) number curve (endsOf (lists (pieces .m)) t curve)) ⌝ }
+        (recordsOf (settingOf pieces) number curve (endsOf (settingOf pieces) t curve)) ⌝ }
 {
     let m = pieces.m;
     let record_length = 6 + 4 * m;
@@ -132,26 +133,28 @@ fn write_higher(
     }
 }
 
-// The records of every leaf of an outline, from the front of the list on.
+// The records of every leaf of a list's curves, from the front of the lent list on.
 pub fn write_all(
     records: &mut [i32],
     rows: &[i64],
     pieces: Pieces,
+    form: Form,
     ns: &[i32],
     t: i64,
     curves: usize,
 )
     requires { ⌜ (Ready pieces (now rows))
-        × (Fillable (lists (pieces .m)) t (now ns) curves (length (now records))) ⌝ }
+        × (Fillable (settingOf pieces) t form (now ns) curves (length (now records))) ⌝ }
     ensures { λ _. ⌜ now (records .exit) ≡ sets (now (records .entry)) 0
-        (allRecords (lists (pieces .m)) t 0 (curvesIn (pieces .m) (now (ns .entry)) curves)) ⌝ }
+        (allRecords (settingOf pieces) t 0 (curvesIn form (now (ns .entry)) curves)) ⌝ }
 {
     let mut at: usize = 0;
     let mut place: usize = 0;
     let mut k: usize = 0;
     while k < curves {
-        place = write_curve(records, place, rows, pieces, k as u32, curve_at(ns, at), t);
-        at = next_at(ns, at);
+        let curve = read_at(form, ns, at);
+        at = next_of(form, ns, at);
+        place = write_curve(records, place, rows, pieces, k as u32, curve, t);
         k += 1;
     }
 }

@@ -1,7 +1,7 @@
 -- What a run of stores leaves in a list, `sets` of lib.Seq, a list that is filled from the front, and that the boxes of the terms are the curve's.
 use mathlib.Core.Path.{_≡_, refl, sym, _∙_, ap, ap₂}
 use mathlib.Core.List.{List, [], _∷_, _++_}
-use mathlib.Core.Bool.{true}
+use mathlib.Core.Bool.{true, false}
 use Prim.Native.Nat.{ℕ, zero, suc, _+_, _*_, _≤_, _<_}
 use native.Mathlib.Nat.{le-refl, le-of-suc-le-suc, lt-irrefl}
 use native.Mathlib.Omega.{arith}
@@ -9,7 +9,7 @@ use native.Mathlib.Numerals.{add-one, add-two, add-three}
 use lib.ListN.{length, set, length-append, length-set}
 use lib.Seq.{sets, length-sets, set-comm}
 use lib.IntN.{ℤ, pos}
-use Rattle.setting.specs.Setting.{Setting, HasRows, breakPoints, degreePieces}
+use Rattle.setting.specs.Setting.{Setting, HasRows, breakPoints, degreePieces, scale}
 use Rattle.setting.proofs.Pieces.{degree-takes}
 use Rattle.integers.proofs.Stores.{sets-append}
 use Rattle.curve_nodes.specs.declared.Curve.{Curve}
@@ -133,7 +133,7 @@ module _ (σ : Setting) (has : HasRows (σ .pieces)) (k : ℕ) (c : Curve) (size
     takes = degree-takes (c .degree) (σ .pieces) .1 (λ h. absurd (omega arith))
 
     pub box-is : {x y : Terms} → x ≡ termsOf (σ .pieces) (c .degree) (c .x) → y ≡ termsOf (σ .pieces) (c .degree) (c .y)
-        → (i : ℕ) → i ≤ σ .pieces → boxBy (σ .pieces) (c .degree * k) rows x y i ≡ boxNumbers (boxAt σ k c i)
+        → (i : ℕ) → i ≤ σ .pieces → boxBy (σ .pieces * scale σ) (c .degree * k) rows x y i ≡ boxNumbers (boxAt σ k c i)
     unfolding boxFrom boxAt
     box-is ex ey i hi = rw (ex, ey) (λ j.
         low-is σ has (sized .most) takes (c .x) hi k copied few j
@@ -143,7 +143,7 @@ module _ (σ : Setting) (has : HasRows (σ .pieces)) (k : ℕ) (c : Curve) (size
         ∷ [])
 
   -- degrees 4 and 5
-  module _ (many : 3 < c .degree) (three : 3 ≤ σ .pieces) {x y : Higher}
+  module _ (many : 3 < c .degree) (units : σ .sixths ≡ false) (three : 3 ≤ σ .pieces) {x y : Higher}
       (ex : x ≡ higherOf (σ .pieces) (c .degree) (c .degree * k) (c .x)) (ey : y ≡ higherOf (σ .pieces) (c .degree) (c .degree * k) (c .y)) where
     higher-takes : degreePieces (c .degree) (σ .pieces) ≡ true
     higher-takes = degree-takes (c .degree) (σ .pieces) .1 (λ h. three)
@@ -154,10 +154,10 @@ module _ (σ : Setting) (has : HasRows (σ .pieces)) (k : ℕ) (c : Curve) (size
         ≡ boxNumbers (boxAt σ k c i)
     unfolding boxFrom boxAt
     higher-box-is i hi = rw (ex, ey) (λ j.
-        higher-low-is σ has (sized .most) higher-takes (c .x) hi k copied many j
-        ∷ higher-high-is σ has (sized .most) higher-takes (c .x) hi k copied many j
-        ∷ higher-low-is σ has (sized .most) higher-takes (c .y) hi k copied many j
-        ∷ higher-high-is σ has (sized .most) higher-takes (c .y) hi k copied many j
+        higher-low-is σ has (sized .most) higher-takes (c .x) hi k copied many units j
+        ∷ higher-high-is σ has (sized .most) higher-takes (c .x) hi k copied many units j
+        ∷ higher-low-is σ has (sized .most) higher-takes (c .y) hi k copied many units j
+        ∷ higher-high-is σ has (sized .most) higher-takes (c .y) hi k copied many units j
         ∷ [])
 
     -- the pairs of both coordinates, one after the other

@@ -13,8 +13,8 @@ unfoldable pub boxFrom : (x-low x-high y-low y-high : ℕ → ℤ) → ℕ → L
 boxFrom x-low x-high y-low y-high i = x-low i ∷ x-high i ∷ y-low i ∷ y-high i ∷ []
 
 -- that of degrees 1 to 3, from copied rows and the terms of both coordinates
-abbrev pub boxBy : (m s : ℕ) → List ℤ → (x y : Terms) → ℕ → List ℤ
-boxBy m s rows x y = boxFrom (lowBy m s rows x) (highBy m s rows x) (lowBy m s rows y) (highBy m s rows y)
+abbrev pub boxBy : (q s : ℕ) → List ℤ → (x y : Terms) → ℕ → List ℤ
+boxBy q s rows x y = boxFrom (lowBy q s rows x) (highBy q s rows x) (lowBy q s rows y) (highBy q s rows y)
 
 -- a list with the lows and the highs of one coordinate at the first n break points, four places apart, from place `at`
 -- on; between them stands what stood there

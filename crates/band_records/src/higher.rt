@@ -40,7 +40,7 @@ fn put_coordinate(
 }
 
 // The boxes at the break points of a curve at a depth, from place `at` on; `rows` are those of m pieces, and the scale
-// is theirs.
+// is 5040 over m.
 pub fn put_boxes(
     records: &mut [i32],
     at: usize,
@@ -51,7 +51,7 @@ pub fn put_boxes(
     m: usize,
 )
     requires { ⌜ (at + 4 * breakPoints (lists m) ≤ length (now records)) × (HasRows m) × (Copied m (now rows))
-        × (Sized depth curve) × (3 < curve .degree) × (3 ≤ m) × (depth ≤ 4) × (scale * m ≡ 840) ⌝ }
+        × (Sized depth curve) × (3 < curve .degree) × (3 ≤ m) × (depth ≤ 4) × (scale * m ≡ 5040) ⌝ }
     ensures { λ _. ⌜ now (records .exit)
         ≡ sets (now (records .entry)) at (boxesTo (lists m) (breakPoints (lists m)) depth curve) ⌝ }
 {

@@ -1,14 +1,14 @@
 // Leaf records: what they are, and one written to a list.
 ghost use mathlib.Core.Path.{_≡_};
+ghost use mathlib.Core.Bool.{false};
 ghost use Prim.Native.Nat.{suc, _+_, _*_, _≤_, _<_, _^_};
 ghost use lib.ListN.{length};
 ghost use lib.Seq.{sets};
-ghost use Rattle.setting.specs.Setting.{HasRows, lists, breakPoints, recordLength, greatestNode};
+ghost use Rattle.setting.specs.Setting.{breakPoints, recordLength, greatestNode};
 ghost use Rattle.curve_nodes.specs.Bounds.{Sized};
 ghost use Rattle.curve_nodes.specs.Nodes.{depth};
-ghost use Rattle.bound_row_table.specs.Inside.{Copied};
-ghost use Rattle.bound_coordinate.specs.Terms.{Computable};
-ghost use Rattle.bound_pieces.specs.Inside.{Ready};
+ghost use Rattle.bound_coordinate.specs.Terms.{ComputableAt};
+ghost use Rattle.bound_pieces.specs.Inside.{Ready, settingOf};
 ghost use Rattle.band_records.specs.Records.{boxesTo, nodeNumbers};
 ghost use Rattle.band_records.specs.Inside.{boxBy};
 use bound_coordinate::terms::Terms;
@@ -26,71 +26,75 @@ fn put_box(
     y: Terms,
     shift: u32,
     scale: usize,
-    m: usize,
+    divisor: usize,
     i: usize,
 )
-    requires { ⌜ (at + 4 ≤ length (now records)) × (Computable m shift scale (now rows) x)
-        × (Computable m shift scale (now rows) y) × (i ≤ m) ⌝ }
+    requires { ⌜ (at + 4 ≤ length (now records)) × (ComputableAt divisor shift scale i (now rows) x)
+        × (ComputableAt divisor shift scale i (now rows) y) ⌝ }
     ensures { λ _. ⌜ now (records .exit)
-        ≡ sets (now (records .entry)) at (boxBy m shift (now (rows .entry)) x y i) ⌝ }
+        ≡ sets (now (records .entry)) at (boxBy divisor shift (now (rows .entry)) x y i) ⌝ }
 {
-    let x_low = bound_coordinate::break_points::low_at(rows, x, shift, scale, m, i);
-    let x_high = bound_coordinate::break_points::high_at(rows, x, shift, scale, m, i);
-    let y_low = bound_coordinate::break_points::low_at(rows, y, shift, scale, m, i);
-    let y_high = bound_coordinate::break_points::high_at(rows, y, shift, scale, m, i);
+    let x_low = bound_coordinate::break_points::low_at(rows, x, shift, scale, divisor, i);
+    let x_high = bound_coordinate::break_points::high_at(rows, x, shift, scale, divisor, i);
+    let y_low = bound_coordinate::break_points::low_at(rows, y, shift, scale, divisor, i);
+    let y_high = bound_coordinate::break_points::high_at(rows, y, shift, scale, divisor, i);
     records[at] = x_low as i32;
     records[at + 1] = x_high as i32;
     records[at + 2] = y_low as i32;
     records[at + 3] = y_high as i32;
 }
 
-// The boxes at the break points of a curve of degree 1 to 3 at a depth, from place `at` on; `rows` are those of m
-// pieces.
-fn put_boxes(records: &mut [i32], at: usize, rows: &[i64], curve: Curve, depth: u32, m: usize)
-    requires { ⌜ (at + 4 * breakPoints (lists m) ≤ length (now records)) × (HasRows m) × (Copied m (now rows))
+// The boxes at the break points of a curve of degree 1 to 3 at a depth, from place `at` on, by what goes with the
+// number of pieces, whose rows are lent.
+fn put_boxes(records: &mut [i32], at: usize, rows: &[i64], curve: Curve, depth: u32, pieces: Pieces)
+    requires { ⌜ (at + 4 * breakPoints (settingOf pieces) ≤ length (now records)) × (Ready pieces (now rows))
         × (Sized depth curve) × (curve .degree ≤ 3) × (depth ≤ 8) ⌝ }
     ensures { λ _. ⌜ now (records .exit)
-        ≡ sets (now (records .entry)) at (boxesTo (lists m) (breakPoints (lists m)) depth curve) ⌝ }
+        ≡ sets (now (records .entry)) at
+        (boxesTo (settingOf pieces) (breakPoints (settingOf pieces)) depth curve) ⌝ }
 {
+    let m = pieces.m;
+    let divisor = pieces.divisor;
+    let scale = pieces.scale;
     let degree = curve.degree;
     let shift = degree * depth;
     let xs = curve.x;
     let ys = curve.y;
     let x = bound_coordinate::terms::terms_of(xs, degree, m);
     let y = bound_coordinate::terms::terms_of(ys, degree, m);
-    let scale = bound_coordinate::break_points::scale_of(m);
     let mut i: usize = 0;
     while i <= m {
         let place = at + 4 * i;
-        put_box(records, place, rows, x, y, shift, scale, m, i);
+        put_box(records, place, rows, x, y, shift, scale, divisor, i);
         i += 1;
     }
 }
 
-// The record of a node of degree 1 to 3: its curve's number, its own, and its boxes; `rows` are those of m pieces.
+// The record of a node of degree 1 to 3: its curve's number, its own, and its boxes, by what goes with the number of
+// pieces, whose rows are lent.
 pub fn put_record(
     records: &mut [i32],
     at: usize,
     number: u32,
     node: u32,
     rows: &[i64],
-    m: usize,
+    pieces: Pieces,
     curve: Curve,
 )
-    requires { ⌜ (at + recordLength (lists m) ≤ length (now records)) × (number < 2 ^ 31)
-        × (node < suc greatestNode) × (0 < node) × (HasRows m) × (Copied m (now rows)) × (Sized (depth node) curve)
+    requires { ⌜ (at + recordLength (settingOf pieces) ≤ length (now records)) × (number < 2 ^ 31)
+        × (node < suc greatestNode) × (0 < node) × (Ready pieces (now rows)) × (Sized (depth node) curve)
         × (curve .degree ≤ 3) ⌝ }
     ensures { λ _. ⌜ now (records .exit)
         ≡ sets (now (records .entry)) at
-        (nodeNumbers number node (boxesTo (lists m) (breakPoints (lists m)) (depth node) curve)) ⌝ }
+        (nodeNumbers number node (boxesTo (settingOf pieces) (breakPoints (settingOf pieces)) (depth node) curve)) ⌝ }
 {
     records[at] = number as i32;
     records[at + 1] = node as i32;
     let depth = curve_nodes::depth(node);
-    put_boxes(records, at + 2, rows, curve, depth, m);
+    put_boxes(records, at + 2, rows, curve, depth, pieces);
 }
 
-// The same of degree 4 or 5, by what goes with the number of pieces.
+// The same of degree 4 or 5.
 pub fn put_record_higher(
     records: &mut [i32],
     at: usize,
@@ -100,12 +104,12 @@ pub fn put_record_higher(
     pieces: Pieces,
     curve: Curve,
 )
-    requires { ⌜ (at + recordLength (lists (pieces .m)) ≤ length (now records)) × (number < 2 ^ 31)
+    requires { ⌜ (at + recordLength (settingOf pieces) ≤ length (now records)) × (number < 2 ^ 31)
         × (node < 32) × (0 < node) × (Ready pieces (now rows)) × (3 ≤ pieces .m) × (Sized (depth node) curve)
-        × (3 < curve .degree) ⌝ }
+        × (3 < curve .degree) × (pieces .sixths ≡ false) ⌝ }
     ensures { λ _. ⌜ now (records .exit)
         ≡ sets (now (records .entry)) at
-        (nodeNumbers number node (boxesTo (lists (pieces .m)) (breakPoints (lists (pieces .m))) (depth node) curve)) ⌝ }
+        (nodeNumbers number node (boxesTo (settingOf pieces) (breakPoints (settingOf pieces)) (depth node) curve)) ⌝ }
 {
     records[at] = number as i32;
     records[at + 1] = node as i32;

@@ -184,19 +184,21 @@ higher-within m d s {cs} h =
     }
 
 -- bounds can be computed: of degree d at depth k
-pub computable : {m d k c : ℕ} {rows cs : List ℤ} → HasRows m → Copied m rows → d ≤ 3 → k ≤ 8 → Each (2 ^ 20 * 2 ^ (d * k)) cs → c * m ≡ 840
-    → Computable m (d * k) c rows (termsOf m d cs)
-computable {m} {d} {k} h rows most shallow each scaled = record {
+pub computable : {m q d k c : ℕ} {rows cs : List ℤ} → HasRows m → m ≤ q → q ≤ 48 → Copied m rows → d ≤ 3 → k ≤ 8
+    → Each (2 ^ 20 * 2 ^ (d * k)) cs → c * q ≡ 5040 → Computable m q (d * k) c rows (termsOf m d cs)
+computable {m} {q} {d} {k} h less few rows most shallow each scaled = record {
   small = rows .small;
   whole = rows .whole;
   within = terms-within m d (d * k) most each;
   shallow = shift-small most shallow;
   scaled = scaled;
   most = h .most;
+  less = less;
+  few = few;
 }
 
 pub higher-computable : {m d k c : ℕ} {rows cs : List ℤ} → HasRows m → Copied m rows → 4 ≤ d → d ≤ 5 → k ≤ 4 → Each (2 ^ 20 * 2 ^ (d * k)) cs
-    → c * m ≡ 840 → HigherComputable m (d * k) c rows (higherOf m d (d * k) cs)
+    → c * m ≡ 5040 → HigherComputable m (d * k) c rows (higherOf m d (d * k) cs)
 higher-computable {m} {d} {k} h rows least most shallow each scaled = record {
   each = rows .each;
   whole = rows .whole;

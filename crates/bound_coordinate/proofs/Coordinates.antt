@@ -9,12 +9,14 @@ use native.Mathlib.Nat.{le-trans, le-of-eq, lt-trans, lt-of-le-of-lt, mul-le-mul
 use native.Mathlib.Omega.{arith}
 use native.Mathlib.Numerals.{add-one, add-two}
 use lib.Dec.{T, leb, ltb, leb→le, ltb→lt, lit<}
-use lib.Pow.{pow-pos, pow-mono}
+use lib.Pow.{pow-mono}
 use lib.IntN.{ℤ, pos, negsuc, natAbs, _+ℤ_, _-ℤ_, _*ℤ_}
 use lib.Signed.{_<ℤ_}
 use mir.Syntax.{w64}
 use mir.Val.{toZ, ofZ}
 use mir.Facts.{toZ-ofZ, toZ-pos}
+use Rattle.setting.specs.Setting.{Setting}
+use Rattle.setting.proofs.Scales.{over-some}
 use Rattle.integers.specs.Entry.{entry}
 use Rattle.integers.proofs.Table.{and-left, and-right}
 use Rattle.integers.proofs.Ranges.{stored}
@@ -50,6 +52,10 @@ held-small {B} {z} h = record { value = z; bound = B; test = true; is = λ t. re
 -- pieces and break points
 abbrev pub pieces : {m : ℕ} → m ≤ 8 → Count m
 pieces h = record { bound = 9; under = omega arith }
+
+-- m times the scale
+abbrev pub divisors : {q : ℕ} → q ≤ 48 → Count q
+divisors h = record { bound = 49; under = omega arith }
 
 -- a number that is not negative, shifted to the left by at most k places
 pub left-under : {B s k : ℕ} (z : ℤ) → natAbs z ≤ B → s ≤ k → natAbs (z *ℤ pos (2 ^ s)) ≤ B * 2 ^ k
@@ -91,5 +97,5 @@ pub shift-small : {d k : ℕ} → d ≤ 3 → k ≤ 8 → d * k ≤ 24
 shift-small h l = mul-le-mul h l
 
 -- the denominator of the control values is positive
-pub over-positive : (d k : ℕ) → pos 0 <ℤ over d k
-over-positive d k = pos-lt (pow-pos (d * k))
+pub over-positive : (σ : Setting) (d k : ℕ) → pos 0 <ℤ over σ d k
+over-positive σ d k = pos-lt (over-some σ (d * k))

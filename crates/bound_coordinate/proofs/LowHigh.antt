@@ -11,7 +11,7 @@ use lib.ListN.{length}
 use lib.IntN.{ℤ, pos, _+ℤ_, _-ℤ_, _*ℤ_, *ℤ-zero, zero-*ℤ}
 use lib.Signed.{ltZ}
 use borrow.Author.Tests.{lt-ltb, le-ltb}
-use Rattle.setting.specs.Setting.{Setting, HasRows, mostDegree, degreePieces}
+use Rattle.setting.specs.Setting.{Setting, HasRows, scale, mostDegree, degreePieces}
 use Rattle.integers.specs.Entry.{entry}
 use Rattle.integers.specs.Rounding.{floor, ceiling}
 use Rattle.integers.proofs.Ring.{ring, sides}
@@ -139,11 +139,17 @@ module _ (σ : Setting) (has : HasRows (σ .pieces)) {d : ℕ} (most : d ≤ mos
     abbrev highFactor : ℕ → ℤ
     highFactor j = factor ρs i j (δ j)
 
-    low-divided : {sum : ℤ} → pos m *ℤ rowSum (exchanged ρs) i 0 cs ≡ sum → lowOf σ d k cs i ≡ floor (dividend sum) (denominatorOf m (d * k))
-    low-divided e = low-reduced (has .least) (over-positive d k) ρs d cs i ∙ ap (λ n. floor n (denominatorOf m (d * k))) (ap₂ _+ℤ_ chord-is e)
+    -- the scale stands beside m
+    divisor-is : pos 625 *ℤ pos m *ℤ pos (scale σ * 2 ^ (d * k)) ≡ denominatorOf (m * scale σ) (d * k)
+    divisor-is = ring (pos m ∷ pos (scale σ) ∷ pos (2 ^ (d * k)) ∷ []) (search sides depth 20) refl
 
-    high-divided : {sum : ℤ} → pos m *ℤ rowSum ρs i 0 cs ≡ sum → highOf σ d k cs i ≡ ceiling (dividend sum) (denominatorOf m (d * k))
-    high-divided e = high-reduced (has .least) (over-positive d k) ρs d cs i ∙ ap (λ n. ceiling n (denominatorOf m (d * k))) (ap₂ _+ℤ_ chord-is e)
+    low-divided : {sum : ℤ} → pos m *ℤ rowSum (exchanged ρs) i 0 cs ≡ sum
+        → lowOf σ d k cs i ≡ floor (dividend sum) (denominatorOf (m * scale σ) (d * k))
+    low-divided e = low-reduced (has .least) (over-positive σ d k) ρs d cs i ∙ ap₂ floor (ap₂ _+ℤ_ chord-is e) divisor-is
+
+    high-divided : {sum : ℤ} → pos m *ℤ rowSum ρs i 0 cs ≡ sum
+        → highOf σ d k cs i ≡ ceiling (dividend sum) (denominatorOf (m * scale σ) (d * k))
+    high-divided e = high-reduced (has .least) (over-positive σ d k) ρs d cs i ∙ ap₂ ceiling (ap₂ _+ℤ_ chord-is e) divisor-is
 
     -- ---- the rows that the terms choose
     module _ {rows : List ℤ} (h : Copied m rows) where
@@ -180,18 +186,27 @@ module _ (σ : Setting) (has : HasRows (σ .pieces)) {d : ℕ} (most : d ≤ mos
 
       -- ---- degrees 1 to 3
       module _ (few : d ≤ 3) where
-        pub low-is : lowBy m (d * k) rows (termsOf m d cs) i ≡ lowOf σ d k cs i
+        pub low-is : lowBy (σ .pieces * scale σ) (d * k) rows (termsOf m d cs) i ≡ lowOf σ d k cs i
         unfolding lowBy termsOf
         low-is = sym (low-divided (ap (λ z. pos m *ℤ z) (sum-two cs i (exchanged ρs) (omega (arith, exchanged-length ρs, rows-count m d)))
             ∙ two-fold (lowFactor 0) (lowFactor 1) ∙ ap₂ (λ a b. a *ℤ δ 0 +ℤ b *ℤ δ 1) (low-read 0) (low-read 1)))
 
-        pub high-is : highBy m (d * k) rows (termsOf m d cs) i ≡ highOf σ d k cs i
+        pub high-is : highBy (σ .pieces * scale σ) (d * k) rows (termsOf m d cs) i ≡ highOf σ d k cs i
         unfolding highBy termsOf
         high-is = sym (high-divided (ap (λ z. pos m *ℤ z) (sum-two cs i ρs (omega (arith, rows-count m d)))
             ∙ two-fold (highFactor 0) (highFactor 1) ∙ ap₂ (λ a b. a *ℤ δ 0 +ℤ b *ℤ δ 1) (high-read 0) (high-read 1)))
 
-      -- ---- degrees 4 and 5: the rows of a difference begin 27 numbers after those of the one before
-      module _ (many : 4 ≤ d) where
+      -- ---- degrees 4 and 5: the rows of a difference begin 27 numbers after those of the one before; the control values are whole
+      module _ (many : 4 ≤ d) (units : σ .sixths ≡ false) where
+        alone : m * scale σ ≡ m
+        alone = ap (λ (b : Bool). m * cond b 6 1) units ∙ omega arith
+
+        low-alone : {sum : ℤ} → pos m *ℤ rowSum (exchanged ρs) i 0 cs ≡ sum → lowOf σ d k cs i ≡ floor (dividend sum) (denominatorOf m (d * k))
+        low-alone {sum} e = low-divided e ∙ ap (λ (q : ℕ). floor (dividend sum) (denominatorOf q (d * k))) alone
+
+        high-alone : {sum : ℤ} → pos m *ℤ rowSum ρs i 0 cs ≡ sum → highOf σ d k cs i ≡ ceiling (dividend sum) (denominatorOf m (d * k))
+        high-alone {sum} e = high-divided e ∙ ap (λ (q : ℕ). ceiling (dividend sum) (denominatorOf q (d * k))) alone
+
         place-is : (j : ℕ) → j + 1 < d → rowPlace d j ≡ rowPlace d 0 + 27 * j
         place-is j l =
             ap (λ (b : Bool). cond b (blocksOf d + 27 * j) 81) (lt-ltb (j + 1) d l)
@@ -208,7 +223,7 @@ module _ (σ : Setting) (has : HasRows (σ .pieces)) {d : ℕ} (most : d ≤ mos
 
         pub higher-low-is : higherLow m (d * k) rows (higherOf m d (d * k) cs) i ≡ lowOf σ d k cs i
         unfolding higherLow higherOf
-        higher-low-is = low-lifted (d * k) _ ∙ sym (low-divided (ap (λ z. pos m *ℤ z)
+        higher-low-is = low-lifted (d * k) _ ∙ sym (low-alone (ap (λ z. pos m *ℤ z)
             (sum-higher cs i (exchanged ρs) many most (omega (arith, exchanged-length ρs, rows-count m d)))
             ∙ higher-fold (ltb d 5) (lowFactor 0) (lowFactor 1) (lowFactor 2) (lowFactor 3)
             ∙ (λ j. low-read 0 j *ℤ δ 0 +ℤ at-place 1 (3 * i + 1) (omega arith) (low-read 1) j *ℤ δ 1
@@ -216,7 +231,7 @@ module _ (σ : Setting) (has : HasRows (σ .pieces)) {d : ℕ} (most : d ≤ mos
 
         pub higher-high-is : higherHigh m (d * k) rows (higherOf m d (d * k) cs) i ≡ highOf σ d k cs i
         unfolding higherHigh higherOf
-        higher-high-is = high-lifted (d * k) _ ∙ sym (high-divided (ap (λ z. pos m *ℤ z)
+        higher-high-is = high-lifted (d * k) _ ∙ sym (high-alone (ap (λ z. pos m *ℤ z)
             (sum-higher cs i ρs many most (omega (arith, rows-count m d)))
             ∙ higher-fold (ltb d 5) (highFactor 0) (highFactor 1) (highFactor 2) (highFactor 3)
             ∙ (λ j. high-read 0 j *ℤ δ 0 +ℤ at-place 1 (3 * i) (omega arith) (high-read 1) j *ℤ δ 1

@@ -23,9 +23,9 @@ use Rattle.curve_halves.specs.Sizes.{Each}
 use Rattle.bound_coordinate.specs.Inside.{Small, Computed}
 use Rattle.bound_coordinate.specs.declared.terms.Terms.{Terms}
 use Rattle.bound_coordinate.specs.declared.higher.Higher.{Higher}
-use Rattle.bound_coordinate.specs.Terms.{Computable, ComputableAt, chordAt, pairOf, numeratorOf, denominatorOf}
+use Rattle.bound_coordinate.specs.Terms.{Computable, ComputableAt, NumeratorAt, chordAt, pairOf, numeratorOf, denominatorOf}
 use Rattle.bound_coordinate.specs.Higher.{raiseOf, HigherComputable, HigherComputableAt, higherNumerator, Raised, RoundedDown}
-use Rattle.bound_coordinate.proofs.Coordinates.{pieces, bounded, held-left, computed-as, restored}
+use Rattle.bound_coordinate.proofs.Coordinates.{pieces, divisors, bounded, held-left, computed-as, restored}
 use Rattle.bound_coordinate.proofs.Quotients.{factor-some, denominator-positive, ceiling-raised}
 use Rattle.bound_coordinate.proofs.Raised.{raised-of, raise-most}
 
@@ -73,8 +73,9 @@ pub record Most (i : ℕ) (rows : List ℤ) (t : Terms) : Type 0 where
   pub difference0 : Small (2 ^ 46) (t .difference0)
   pub difference1 : Small (2 ^ 46) (t .difference1)
 
-pub most-of : {i : ℕ} {rows : List ℤ} {t : Terms} → ComputableAt i rows t → Most i rows t
-most-of {i} a =
+pub most-of : {i : ℕ} {rows : List ℤ} {t : Terms} → NumeratorAt i rows t → Most i rows t
+most-of {i} n =
+    let a = n .at in
     let h = a .computable in
     let w = h .within in
     let power = values-most (h .shallow) in
@@ -182,25 +183,34 @@ module _ {i : ℕ} {rows : List ℤ} {t : Higher} (h : HigherMost i rows t) (at 
       is! (search (h .start, h .step, pieces (h .point), h .each, h .difference2, h .difference3, hx, bounded) depth 40) tt
       ∙ ap₂ summed (sym (le-ltb (t .degree) 5 l)) pair-kept
 
--- ---- a number that is divided, of m pieces over 2^s: how large it is at degrees 1 to 3
-pub record Dividend (m s c : ℕ) (N : ℤ) : Type 0 where
-  pub size : natAbs N ≤ 50000 * 2 ^ 20 * (m * 2 ^ s)
+-- ---- a number that is divided by 625 d 2^s: how large it is at degrees 1 to 3
+pub record Dividend (d s c : ℕ) (N : ℤ) : Type 0 where
+  pub size : natAbs N ≤ 50000 * 2 ^ 20 * (d * 2 ^ s)
   pub fits : natAbs N ≤ 50000 * (8 * 2 ^ 44)
   pub shallow : s ≤ 24
-  pub scaled : c * m ≡ 840
-  pub most : m ≤ 8
+  pub scaled : c * d ≡ 5040
+  pub most : d ≤ 48
 
-pub dividend : {m s c i : ℕ} (rows : List ℤ) {t : Terms} (p q : ℕ) → Computable m s c rows t → i ≤ m → p < 108 → q < 108
-    → Dividend m s c (numeratorOf rows t p q i)
-dividend {m} {s} {c} {i} rows {t} p q h hi hp hq = record {
-  size = le-trans scaled (omega (arith, mul-left-comm m (2 ^ 20) (2 ^ s)));
+pub dividend : {d s c i : ℕ} (rows : List ℤ) {t : Terms} (p q : ℕ) → ComputableAt d s c i rows t → p < 108 → q < 108
+    → Dividend d s c (numeratorOf rows t p q i)
+dividend {d} {s} {c} {i} rows {t} p q at hp hq = record {
+  size = le-trans scaled (omega (arith, mul-left-comm m (2 ^ 20) (2 ^ s), mul-le-mul (h .less) (le-refl (2 ^ s))));
   fits = le-trans scaled
       (mul-le-mul (le-refl 50000) (mul-le-mul (h .most) (mul-le-mul (le-refl (2 ^ 20)) (pow-mono {j = 24} (h .shallow)))));
   shallow = h .shallow;
   scaled = h .scaled;
-  most = h .most;
+  most = h .few;
 }
   where
+    m : ℕ
+    m = at .m
+
+    h : Computable (at .m) d s c rows t
+    h = at .computable
+
+    hi : i ≤ at .m
+    hi = at .point
+
     B : ℕ
     B = 2 ^ 20 * 2 ^ s
 
@@ -218,7 +228,7 @@ dividend {m} {s} {c} {i} rows {t} p q h hi hp hq = record {
 pub record HigherDividend (m s c : ℕ) (n : ℤ) : Type 0 where
   pub size : natAbs (n -ℤ raiseOf m s) ≤ 154000 * 2 ^ 20 * (m * 2 ^ s)
   pub shallow : s ≤ 20
-  pub scaled : c * m ≡ 840
+  pub scaled : c * m ≡ 5040
   pub most : m ≤ 8
 
 either-size : (b : Bool) {x : ℤ} (s : Size x) → natAbs (cond b (pos 0) x) ≤ s .bound
@@ -263,10 +273,10 @@ higher-dividend {m} {s} {c} {i} rows {t} at h hi = record {
 abbrev shiftedDivisor : (m s : ℕ) → ℤ
 shiftedDivisor m s = toZ w64 (ofZ w64 (pos 625 *ℤ toZ w64 m) * 2 ^ s % 2 ^ 64)
 
-module _ {m s : ℕ} (most : m ≤ 8) (shallow : s ≤ 24) where
+module _ {m s : ℕ} (most : m ≤ 48) (shallow : s ≤ 24) where
   abbrev less : Held (shiftedDivisor m s -ℤ pos 1)
   less = held-add
-      (held-left shallow (held-mul {x = pos 625} {y = toZ w64 m} (held-pos refl) (held-count w64 m (pieces most))) (natural (625 * m)))
+      (held-left shallow (held-mul {x = pos 625} {y = toZ w64 m} (held-pos refl) (held-count w64 m (divisors most))) (natural (625 * m)))
       (held-neg (held-pos {n = 1} refl))
 
   pub less-fits : SFits w64 (shiftedDivisor m s -ℤ pos 1)
@@ -337,7 +347,7 @@ module _ {m s c : ℕ} {n : ℤ} (h : HigherDividend m s c n) {r : ℤ} (e : r �
   -- ---- and for the high, raised by one less than the divisor
   abbrev higher-raised : Held (stored w64 r +ℤ stored w64 (shiftedDivisor m s -ℤ pos 1))
   higher-raised = held-add higher-divided
-      (held-stored w64 (shiftedDivisor m s -ℤ pos 1) (less (h .most) (le-trans (h .shallow) (omega arith))))
+      (held-stored w64 (shiftedDivisor m s -ℤ pos 1) (less (le-trans (h .most) (omega arith)) (le-trans (h .shallow) (omega arith))))
 
   pub higher-raised-fits : SFits w64 (stored w64 r +ℤ stored w64 (shiftedDivisor m s -ℤ pos 1))
   higher-raised-fits = fits! higher-raised tt

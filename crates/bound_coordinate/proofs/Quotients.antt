@@ -1,4 +1,4 @@
--- Division by 625 m and by a power of 2, rounded down, as the code computes it: shifted, multiplied by 840 / m, raised, divided by 525000. Rounded
+-- Division by 625 m and by a power of 2, rounded down, as the code computes it: shifted, multiplied by 5040 / m, raised, divided by 3150000. Rounded
 -- up it is the same of one less than the divisor more.
 use mathlib.Core.Path.{_≡_, refl, sym, _∙_, ap, subst}
 use mathlib.Core.Bool.{true}
@@ -25,11 +25,6 @@ use Rattle.integers.proofs.Table.{below}
 use Rattle.bound_coordinate.specs.Inside.{Computed}
 use Rattle.bound_coordinate.specs.Terms.{denominatorOf}
 
--- 840 is a multiple of each number to 8
-pub whole-scale : (m : ℕ) → HasRows m → 840 / m * m ≡ 840
-whole-scale zero h = absurd (omega (arith, h .least))
-whole-scale (suc n) h = eqb→eq (840 / suc n * suc n) 840 (below 8 (λ n. eqb (840 / suc n * suc n) 840) tt n (h .most))
-
 -- the machine's quotient of a number that is not negative
 unsigned-floor : (z : ℤ) (d : ℕ) → NonNeg z → pos (natAbs z / d) ≡ floor z (pos d)
 unfolding floor
@@ -47,7 +42,7 @@ ceiling-raised n {d} hd =
     })
 
 -- ---- the divisor is positive
-pub factor-some : (a b : ℕ) → a * b ≡ 840 → 0 < b
+pub factor-some : (a b : ℕ) → a * b ≡ 5040 → 0 < b
 factor-some a zero e = absurd (omega arith)
 factor-some a (suc b) e = suc-le-suc zero-le
 
@@ -57,11 +52,11 @@ divisor-positive some = times-positive {x = pos 625} (ltZ-yes tt) (pos-lt some)
 pub denominator-positive : {m : ℕ} → 0 < m → (s : ℕ) → pos 0 <ℤ denominatorOf m s
 denominator-positive some s = times-positive (divisor-positive some) (pos-lt (pow-pos s))
 
-module _ (n : ℤ) (m s c : ℕ) (h : natAbs n ≤ 625 * 2 ^ 28 * (m * 2 ^ s)) (scaled : c * m ≡ 840) (most : m ≤ 8) where
+module _ (n : ℤ) (m s c : ℕ) (h : natAbs n ≤ 625 * 2 ^ 28 * (m * 2 ^ s)) (scaled : c * m ≡ 5040) (most : m ≤ 48) where
   some : 0 < m
   some = factor-some c m scaled
 
-  pub scale-small : c ≤ 840
+  pub scale-small : c ≤ 5040
   scale-small = le-trans (omega (arith, mul-le-mul (le-refl c) some)) (le-of-eq scaled)
 
   power : pos 0 <ℤ pos (2 ^ s)
@@ -78,7 +73,7 @@ module _ (n : ℤ) (m s c : ℕ) (h : natAbs n ≤ 625 * 2 ^ 28 * (m * 2 ^ s)) (
       (le-by (pos m ∷ pos (2 ^ s) ∷ n ∷ []) (gap (abs-high n h)) (search sides depth 20) refl)
       (le-by (pos m ∷ pos (2 ^ s) ∷ n ∷ []) (gap (abs-low n h)) (search sides depth 20) refl))
 
-  product-size : natAbs (x *ℤ pos c) ≤ 625 * 2 ^ 28 * 840
+  product-size : natAbs (x *ℤ pos c) ≤ 625 * 2 ^ 28 * 5040
   product-size = le-trans (le-of-eq (abs-mul x (pos c))) (le-trans (mul-le-mul shifted-size (le-refl c))
       (le-of-eq (mul-assoc (625 * 2 ^ 28) m c ∙ ap (λ k. 625 * 2 ^ 28 * k) (mul-comm m c ∙ scaled))))
 
@@ -91,17 +86,17 @@ module _ (n : ℤ) (m s c : ℕ) (h : natAbs n ≤ 625 * 2 ^ 28 * (m * 2 ^ s)) (
       (le-by (n ∷ pos m ∷ pos (2 ^ s) ∷ []) (gap (abs-high n h)) (search sides depth 20) refl)
       (le-by (n ∷ pos m ∷ pos (2 ^ s) ∷ []) (gap (abs-low n h)) (search sides depth 20) refl)
 
-  divisor-is : pos 525000 ≡ pos c *ℤ (pos 625 *ℤ pos m)
+  divisor-is : pos 3150000 ≡ pos c *ℤ (pos 625 *ℤ pos m)
   divisor-is =
       ap (λ (k : ℕ). pos 625 *ℤ pos k) (sym scaled) ∙ ring (pos c ∷ pos m ∷ []) {a = pos 625 *ℤ (pos c *ℤ pos m)} (search sides depth 20) refl
 
-  raised-some : NonNeg (pos 140928614400000 +ℤ x *ℤ pos c)
+  raised-some : NonNeg (pos 845571686400000 +ℤ x *ℤ pos c)
   raised-some = nonneg-by (x ∷ pos c ∷ []) (gap (abs-low (x *ℤ pos c) product-size)) (search sides depth 20) refl
 
-  raised-quotient : pos (natAbs (pos 140928614400000 +ℤ x *ℤ pos c) / 525000) ≡ pos 268435456 +ℤ F
+  raised-quotient : pos (natAbs (pos 845571686400000 +ℤ x *ℤ pos c) / 3150000) ≡ pos 268435456 +ℤ F
   raised-quotient =
-      unsigned-floor (pos 140928614400000 +ℤ x *ℤ pos c) 525000 raised-some
-      ∙ floor-raised {d = pos 525000} (ltZ-yes tt) (pos 268435456) (x *ℤ pos c)
+      unsigned-floor (pos 845571686400000 +ℤ x *ℤ pos c) 3150000 raised-some
+      ∙ floor-raised {d = pos 3150000} (ltZ-yes tt) (pos 268435456) (x *ℤ pos c)
       ∙ ap (λ z. pos 268435456 +ℤ z)
       (ap (floor (x *ℤ pos c)) divisor-is
       ∙ ap (λ z. floor z (pos c *ℤ (pos 625 *ℤ pos m))) (ring (x ∷ pos c ∷ []) {a = x *ℤ pos c} {b = pos c *ℤ x} (search sides depth 20) refl)
@@ -114,14 +109,14 @@ module _ (n : ℤ) (m s c : ℕ) (h : natAbs n ≤ 625 * 2 ^ 28 * (m * 2 ^ s)) (
     abbrev shifted : Held (stored w64 (shrZ (stored w64 n) (2 ^ s)))
     shifted = held-stored w64 (shrZ (stored w64 n) (2 ^ s)) (record {
       value = x;
-      bound = 625 * 2 ^ 28 * 8;
+      bound = 625 * 2 ^ 28 * 48;
       test = true;
       is = λ t. ap (λ z. shrZ z (2 ^ s)) (toZ-ofZ hn);
       under = λ t. le-trans shifted-size (mul-le-mul (le-refl (625 * 2 ^ 28)) most);
     })
 
     abbrev scale : Count c
-    scale = record { bound = 841; under = suc-le-suc scale-small }
+    scale = record { bound = 5041; under = suc-le-suc scale-small }
 
     abbrev product : Held (stored w64 (shrZ (stored w64 n) (2 ^ s)) *ℤ toZ w64 c)
     product = held-mul {x = stored w64 (shrZ (stored w64 n) (2 ^ s))} {y = toZ w64 c} shifted (held-count w64 c scale)
@@ -132,30 +127,30 @@ module _ (n : ℤ) (m s c : ℕ) (h : natAbs n ≤ 625 * 2 ^ 28 * (m * 2 ^ s)) (
     abbrev Y : ℤ
     Y = stored w64 (stored w64 (shrZ (stored w64 n) (2 ^ s)) *ℤ toZ w64 c)
 
-    abbrev sum : Held (pos 140928614400000 +ℤ Y)
-    sum = held-add {x = pos 140928614400000} {y = Y} (held-pos {n = 140928614400000} refl) (held-stored w64 _ product)
+    abbrev sum : Held (pos 845571686400000 +ℤ Y)
+    sum = held-add {x = pos 845571686400000} {y = Y} (held-pos {n = 845571686400000} refl) (held-stored w64 _ product)
 
-    pub sum-fits : SFits w64 (pos 140928614400000 +ℤ Y)
+    pub sum-fits : SFits w64 (pos 845571686400000 +ℤ Y)
     sum-fits = fits! sum tt
 
     -- the machine divides what is not negative
     abbrev Z : ℤ
-    Z = stored w64 (pos 140928614400000 +ℤ Y)
+    Z = stored w64 (pos 845571686400000 +ℤ Y)
 
     abbrev raised : Held Z
-    raised = held-stored w64 (pos 140928614400000 +ℤ Y) sum
+    raised = held-stored w64 (pos 845571686400000 +ℤ Y) sum
 
     pub raised-unsigned : T (nonNeg Z) × Fits w64 (natAbs Z)
     raised-unsigned = unsigned! Z raised tt raised-some
 
-    pub quotient-fits : natAbs Z / 525000 < 2 ^ 63
-    quotient-fits = lt-of-le-of-lt (div-le-self (natAbs Z) 525000) (rw (unsigned-is! Z raised tt) (lt-of-le-of-lt (raised .under tt) (lit< tt)))
+    pub quotient-fits : natAbs Z / 3150000 < 2 ^ 63
+    quotient-fits = lt-of-le-of-lt (div-le-self (natAbs Z) 3150000) (rw (unsigned-is! Z raised tt) (lt-of-le-of-lt (raised .under tt) (lit< tt)))
 
     abbrev Q : ℤ
-    Q = toZ w64 (natAbs Z / 525000)
+    Q = toZ w64 (natAbs Z / 3150000)
 
     quotient-is : Q ≡ pos 268435456 +ℤ F
-    quotient-is = toZ-pos w64 quotient-fits ∙ ap (λ z. pos (natAbs z / 525000)) (is! raised tt) ∙ raised-quotient
+    quotient-is = toZ-pos w64 quotient-fits ∙ ap (λ z. pos (natAbs z / 3150000)) (is! raised tt) ∙ raised-quotient
 
     lowered-is : Q -ℤ pos 268435456 ≡ F
     lowered-is = ap (λ z. z -ℤ pos 268435456) quotient-is ∙ ring (F ∷ []) {a = pos 268435456 +ℤ F -ℤ pos 268435456} (search sides depth 20) refl

@@ -1,5 +1,5 @@
--- Degrees 4 and 5 divide a number that was raised by 2^28 times the divisor, which is not negative: shifted, multiplied by 840 / m and divided by
--- 525000 as the machine does, it is rounded down, and 2^28 more than what was not raised.
+-- Degrees 4 and 5 divide a number that was raised by 2^28 times the divisor, which is not negative: shifted, multiplied by 5040 / m and divided by
+-- 3150000 as the machine does, it is rounded down, and 2^28 more than what was not raised.
 use mathlib.Core.Path.{_≡_, refl, sym, _∙_, ap, subst}
 use mathlib.Core.Bool.{true}
 use mathlib.Core.List.{[], _∷_}
@@ -40,7 +40,7 @@ module _ {d : ℤ} (hd : pos 0 <ℤ d) (k n : ℤ) where
       ∙ floor-raised hd k (n +ℤ (d -ℤ pos 1)) ∙ ap (λ z. k +ℤ z) (ceiling-raised n hd)) ∙ off
 
 -- ---- raised far enough
-pub raised-of : (m : ℕ) {s c : ℕ} {n : ℤ} → natAbs (n -ℤ raiseOf m s) ≤ 2 ^ 28 * (625 * m * 2 ^ s) → s ≤ 20 → c * m ≡ 840 → Raised s c n
+pub raised-of : (m : ℕ) {s c : ℕ} {n : ℤ} → natAbs (n -ℤ raiseOf m s) ≤ 2 ^ 28 * (625 * m * 2 ^ s) → s ≤ 20 → c * m ≡ 5040 → Raised s c n
 raised-of m {s} {c} {n} h shallow scaled = record {
   some = le-by (n ∷ pos m ∷ pos (2 ^ s) ∷ []) (gap (abs-low (n -ℤ raiseOf m s) h)) (search sides depth 20) refl;
   high = le-by (n ∷ pos c ∷ pos m ∷ pos (2 ^ s) ∷ [])
@@ -50,11 +50,11 @@ raised-of m {s} {c} {n} h shallow scaled = record {
 }
 
 -- ---- the quotient of naturals
-module _ (m c : ℕ) (scaled : c * m ≡ 840) where
-  divisor-is : 525000 ≡ 625 * m * c
+module _ (m c : ℕ) (scaled : c * m ≡ 5040) where
+  divisor-is : 3150000 ≡ 625 * m * c
   divisor-is = ap (λ (k : ℕ). 625 * k) (sym scaled ∙ mul-comm c m) ∙ sym (mul-assoc 625 m c)
 
-  quotient-is : (a s : ℕ) → a / 2 ^ s * c / 525000 ≡ a / (625 * m * 2 ^ s)
+  quotient-is : (a s : ℕ) → a / 2 ^ s * c / 3150000 ≡ a / (625 * m * 2 ^ s)
   quotient-is a s =
       ap (λ (k : ℕ). a / 2 ^ s * c / k) divisor-is
       ∙ mul-div-mul-right (a / 2 ^ s) (625 * m) (factor-some m c (mul-comm m c ∙ scaled))
@@ -77,14 +77,14 @@ module _ (n : ℤ) (s c : ℕ) (h : Raised s c n) (hn : SFits w64 n) where
   pub raised-unsigned : T (nonNeg (stored w64 n)) × Fits w64 a
   raised-unsigned = unsigned! (stored w64 n) (held-parameter w64 n hn) tt some
 
-  high : a * c ≤ 2 ^ 29 * 525000 * 2 ^ s
-  high = le-pos (subst (λ z. (z *ℤ pos c) ≤ℤ pos (2 ^ 29 * 525000 * 2 ^ s))
+  high : a * c ≤ 2 ^ 29 * 3150000 * 2 ^ s
+  high = le-pos (subst (λ z. (z *ℤ pos c) ≤ℤ pos (2 ^ 29 * 3150000 * 2 ^ s))
       (sym (pos-natAbs n (some .holds)) ∙ ap (λ z. pos (natAbs z)) (sym (toZ-ofZ hn))) (h .high))
 
   abbrev product : ℕ
   product = a / 2 ^ s * c
 
-  product-under : product ≤ 2 ^ 29 * 525000
+  product-under : product ≤ 2 ^ 29 * 3150000
   product-under = le-of-mul-le-mul-right {k = 2 ^ s} (le-trans (le-of-eq (mul-right-comm (a / 2 ^ s) c (2 ^ s)))
       (le-trans (mul-le-mul (div-mul-le-self a (2 ^ s)) (le-refl c)) high)) (pow-pos s)
 
@@ -92,10 +92,10 @@ module _ (n : ℤ) (s c : ℕ) (h : Raised s c n) (hn : SFits w64 n) where
   scaled-fits = record { fits = lt-of-le-of-lt product-under (lit< tt) }
 
   abbrev Q : ℕ
-  Q = product / 525000
+  Q = product / 3150000
 
   quotient-under : Q ≤ 2 ^ 29
-  quotient-under = div-le-of-le-mul 525000 product-under
+  quotient-under = div-le-of-le-mul 3150000 product-under
 
   pub raised-quotient-fits : SFits w64 (pos Q)
   raised-quotient-fits = record { sfits = lt-of-le-of-lt quotient-under (lit< tt) }
@@ -116,7 +116,7 @@ module _ (n : ℤ) (s c : ℕ) (h : Raised s c n) (hn : SFits w64 n) where
     of = λ m scaled.
         let e = is! (held-stored w64 _ lowered) tt in
         record {
-          is = e ∙ ap (λ z. z -ℤ pos 268435456) (ap (λ z. pos (natAbs z / 2 ^ s * c / 525000)) (toZ-ofZ hn)
+          is = e ∙ ap (λ z. z -ℤ pos 268435456) (ap (λ z. pos (natAbs z / 2 ^ s * c / 3150000)) (toZ-ofZ hn)
               ∙ ap pos (quotient-is m c scaled (natAbs n) s) ∙ sym (floor-natural n m s (some .holds)));
           size = subst (λ z. natAbs z ≤ 2 ^ 28) (sym e) off-size;
         };

@@ -1,4 +1,5 @@
 -- The same for degrees 4 and 5, which have three and four second differences: those of degree 4 leave the fourth out.
+-- Their control values are whole, so m alone stands in the divisor.
 -- Only the contracts of functions inside cite what stands here; nothing of it is part of a public promise.
 use mathlib.Core.Path.{_≡_}
 use mathlib.Core.Bool.{cond}
@@ -51,13 +52,13 @@ pub record HigherWithin (m s : ℕ) (t : Higher) : Type 0 where
   pub row2 : t .row2 ≤ 271
   pub row3 : t .row3 ≤ 271
 
--- the bounds of m pieces over 2^s can be computed from these rows and terms; c is 840 / m
+-- the bounds of m pieces over 2^s can be computed from these rows and terms; c is 5040 / m
 pub record HigherComputable (m s c : ℕ) (rows : List ℤ) (t : Higher) : Type 0 where
   pub each : Each (9000 * m) rows
   pub whole : length rows ≡ 297
   pub within : HigherWithin m s t
   pub shallow : s ≤ 20
-  pub scaled : c * m ≡ 840
+  pub scaled : c * m ≡ 5040
   pub most : m ≤ 8
 
 -- the same at break point i, for some number of pieces
@@ -77,15 +78,15 @@ higherNumerator rows t at i =
     +ℤ entry rows (t .row2 + at) *ℤ t .difference2
     +ℤ cond (ltb (t .degree) 5) (pos 0) (entry rows (t .row3 + at) *ℤ t .difference3))
 
--- what is divided is raised far enough: it is not negative, and what it is divided to at most 2^29; c is 840 / m
+-- what is divided is raised far enough: it is not negative, and what it is divided to at most 2^29; c is 5040 / m
 pub record Raised (s c : ℕ) (n : ℤ) : Type 0 where
   pub some : pos 0 ≤ℤ n
-  pub high : (n *ℤ pos c) ≤ℤ pos (2 ^ 29 * 525000 * 2 ^ s)
+  pub high : (n *ℤ pos c) ≤ℤ pos (2 ^ 29 * 3150000 * 2 ^ s)
   pub shallow : s ≤ 20
 
 -- r is n over 625 m 2^s, rounded down, what was raised taken off again, for the m whose scale is c
 pub record RoundedDown (s c : ℕ) (n r : ℤ) : Type 0 where
-  pub of : (m : ℕ) → c * m ≡ 840 → Computed (2 ^ 28) (floor n (denominatorOf m s) -ℤ pos (2 ^ 28)) r
+  pub of : (m : ℕ) → c * m ≡ 5040 → Computed (2 ^ 28) (floor n (denominatorOf m s) -ℤ pos (2 ^ 28)) r
 
 -- the low and the high at break point i, what was raised taken off again
 unfoldable pub higherLow : (m s : ℕ) → List ℤ → Higher → ℕ → ℤ

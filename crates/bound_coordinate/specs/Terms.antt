@@ -42,22 +42,30 @@ pub record Within (m s : ℕ) (t : Terms) : Type 0 where
   pub row0 : t .row0 ≤ 82
   pub row1 : t .row1 ≤ 82
 
--- the bounds of m pieces over 2^s can be computed from these rows and terms; c is 840 / m
-pub record Computable (m s c : ℕ) (rows : List ℤ) (t : Terms) : Type 0 where
+-- the bounds of m pieces over 2^s can be computed from these rows and terms, divided by 625 q 2^s; q is m times the
+-- scale of the control values, and c is 5040 / q
+pub record Computable (m q s c : ℕ) (rows : List ℤ) (t : Terms) : Type 0 where
   pub small : (p : ℕ) → p < 108 → natAbs (entry rows p) ≤ 5000 * m
   pub whole : length rows ≡ 297
   pub within : Within m s t
   pub shallow : s ≤ 24
-  pub scaled : c * m ≡ 840
+  pub scaled : c * q ≡ 5040
   pub most : m ≤ 8
+  pub less : m ≤ q
+  pub few : q ≤ 48
 
 -- the same at break point i, for some number of pieces
-pub record ComputableAt (i : ℕ) (rows : List ℤ) (t : Terms) : Type 0 where
+pub record ComputableAt (q s c i : ℕ) (rows : List ℤ) (t : Terms) : Type 0 where
   pub m : ℕ
+  pub computable : Computable m q s c rows t
+  pub point : i ≤ m
+
+-- and for some divisor
+pub record NumeratorAt (i : ℕ) (rows : List ℤ) (t : Terms) : Type 0 where
+  pub q : ℕ
   pub s : ℕ
   pub c : ℕ
-  pub computable : Computable m s c rows t
-  pub point : i ≤ m
+  pub at : ComputableAt q s c i rows t
 
 -- the sum of row × difference for two differences, whose rows are read from places p and q
 abbrev pub pairOf : List ℤ → (p q : ℕ) (δ ε : ℤ) → ℤ
@@ -67,13 +75,13 @@ pairOf rows p q δ ε = entry rows p *ℤ δ +ℤ entry rows q *ℤ ε
 abbrev pub numeratorOf : List ℤ → Terms → (p q i : ℕ) → ℤ
 numeratorOf rows t p q i = chordAt (t .start) (t .step) i +ℤ pairOf rows p q (t .difference0) (t .difference1)
 
-abbrev pub denominatorOf : (m s : ℕ) → ℤ
-denominatorOf m s = pos 625 *ℤ pos m *ℤ pos (2 ^ s)
+abbrev pub denominatorOf : (q s : ℕ) → ℤ
+denominatorOf q s = pos 625 *ℤ pos q *ℤ pos (2 ^ s)
 
 -- the low and the high at break point i
-unfoldable pub lowBy : (m s : ℕ) → List ℤ → Terms → ℕ → ℤ
-lowBy m s rows t i =
-    floor (numeratorOf rows t (t .row0 + (3 * i + 1)) (t .row1 + (3 * i + 1)) i) (denominatorOf m s)
+unfoldable pub lowBy : (q s : ℕ) → List ℤ → Terms → ℕ → ℤ
+lowBy q s rows t i =
+    floor (numeratorOf rows t (t .row0 + (3 * i + 1)) (t .row1 + (3 * i + 1)) i) (denominatorOf q s)
 
-unfoldable pub highBy : (m s : ℕ) → List ℤ → Terms → ℕ → ℤ
-highBy m s rows t i = ceiling (numeratorOf rows t (t .row0 + 3 * i) (t .row1 + 3 * i) i) (denominatorOf m s)
+unfoldable pub highBy : (q s : ℕ) → List ℤ → Terms → ℕ → ℤ
+highBy q s rows t i = ceiling (numeratorOf rows t (t .row0 + 3 * i) (t .row1 + 3 * i) i) (denominatorOf q s)

@@ -3,21 +3,20 @@
 ghost use mathlib.Core.Path.{_≡_};
 ghost use Prim.Native.Nat.{_<_, _≤_, _*_, _^_};
 ghost use lib.IntN.{natAbs};
-ghost use Rattle.setting.specs.Setting.{HasRows};
 ghost use Rattle.integers.specs.Rounding.{floor};
 ghost use Rattle.bound_coordinate.specs.Inside.{Computed};
-ghost use Rattle.bound_coordinate.specs.Terms.{Computable, ComputableAt, numeratorOf, denominatorOf};
+ghost use Rattle.bound_coordinate.specs.Terms.{ComputableAt, NumeratorAt, numeratorOf, denominatorOf};
 ghost use Rattle.bound_coordinate.specs.Terms.{lowBy, highBy};
 use crate::terms::Terms;
 
-// 525000 · 2^28, and 2^28: no bound is larger in size.
-const RAISE: i64 = 140928614400000;
+// 3150000 · 2^28, and 2^28: no bound is larger in size.
+const RAISE: i64 = 845571686400000;
 
 const LARGEST: i64 = 268435456;
 
 // The number that is divided at break point i, for rows read from places p and q.
 fn numerator(rows: &[i64], t: Terms, p: usize, q: usize, i: usize) -> i64
-    requires { ⌜ (ComputableAt i (now rows) t) × (p < 108) × (q < 108) ⌝ }
+    requires { ⌜ (NumeratorAt i (now rows) t) × (p < 108) × (q < 108) ⌝ }
     ensures { λ r. ⌜ r ≡ numeratorOf (now (rows .entry)) t p q i ⌝ }
 {
     let start = t.start;
@@ -28,43 +27,37 @@ fn numerator(rows: &[i64], t: Terms, p: usize, q: usize, i: usize) -> i64
     chord + (rows[p] * difference0 + rows[q] * difference1)
 }
 
-// 840 is a multiple of every m: to divide by 625 m is to multiply by 840 over m and to divide by 525000, a constant.
-pub fn scale_of(m: usize) -> usize
-    requires { ⌜ HasRows m ⌝ }
-    ensures { λ r. ⌜ r * m ≡ 840 ⌝ }
-{
-    840 / m
-}
-
-// n over 625 m 2^shift, rounded down. Raised by a multiple of 525000 the dividend is not negative, and the machine's
-// quotient is rounded down.
-pub fn rounded_down(n: i64, shift: u32, scale: usize, m: usize) -> i64
-    requires { ⌜ (natAbs n ≤ 625 * 2 ^ 28 * (m * 2 ^ shift)) × (shift ≤ 24) × (scale * m ≡ 840) × (m ≤ 8) ⌝ }
-    ensures { λ r. ⌜ Computed (2 ^ 28) (floor n (denominatorOf m shift)) r ⌝ }
+// n over 625 · divisor · 2^shift, rounded down. The divisor is m times the scale of the control values, and 5040 is a
+// multiple of every one: to divide by 625 times it is to multiply by 5040 over it and to divide by 3150000, a constant.
+// Raised by a multiple of 3150000 the dividend is not negative, and the machine's quotient is rounded down.
+pub fn rounded_down(n: i64, shift: u32, scale: usize, divisor: usize) -> i64
+    requires { ⌜ (natAbs n ≤ 625 * 2 ^ 28 * (divisor * 2 ^ shift)) × (shift ≤ 24) × (scale * divisor ≡ 5040)
+        × (divisor ≤ 48) ⌝ }
+    ensures { λ r. ⌜ Computed (2 ^ 28) (floor n (denominatorOf divisor shift)) r ⌝ }
 {
     let raised = RAISE + (n >> shift) * (scale as i64);
-    (raised as u64 / 525000) as i64 - LARGEST
+    (raised as u64 / 3150000) as i64 - LARGEST
 }
 
-// The low at break point i, over 2^shift; the scale is that of m.
-pub fn low_at(rows: &[i64], t: Terms, shift: u32, scale: usize, m: usize, i: usize) -> i64
-    requires { ⌜ (Computable m shift scale (now rows) t) × (i ≤ m) ⌝ }
-    ensures { λ r. ⌜ Computed (2 ^ 28) (lowBy m shift (now (rows .entry)) t i) r ⌝ }
+// The low at break point i, over 2^shift; the scale is 5040 over the divisor.
+pub fn low_at(rows: &[i64], t: Terms, shift: u32, scale: usize, divisor: usize, i: usize) -> i64
+    requires { ⌜ ComputableAt divisor shift scale i (now rows) t ⌝ }
+    ensures { λ r. ⌜ Computed (2 ^ 28) (lowBy divisor shift (now (rows .entry)) t i) r ⌝ }
 {
     let p = t.row0 + (3 * i + 1);
     let q = t.row1 + (3 * i + 1);
     let n = numerator(rows, t, p, q, i);
-    rounded_down(n, shift, scale, m)
+    rounded_down(n, shift, scale, divisor)
 }
 
 // The high at break point i: one less than the divisor is added before it is rounded down.
-pub fn high_at(rows: &[i64], t: Terms, shift: u32, scale: usize, m: usize, i: usize) -> i64
-    requires { ⌜ (Computable m shift scale (now rows) t) × (i ≤ m) ⌝ }
-    ensures { λ r. ⌜ Computed (2 ^ 28) (highBy m shift (now (rows .entry)) t i) r ⌝ }
+pub fn high_at(rows: &[i64], t: Terms, shift: u32, scale: usize, divisor: usize, i: usize) -> i64
+    requires { ⌜ ComputableAt divisor shift scale i (now rows) t ⌝ }
+    ensures { λ r. ⌜ Computed (2 ^ 28) (highBy divisor shift (now (rows .entry)) t i) r ⌝ }
 {
     let p = t.row0 + 3 * i;
     let q = t.row1 + 3 * i;
     let n = numerator(rows, t, p, q, i);
-    let more = ((625 * m as i64) << shift) - 1;
-    rounded_down(n + more, shift, scale, m)
+    let more = ((625 * divisor as i64) << shift) - 1;
+    rounded_down(n + more, shift, scale, divisor)
 }

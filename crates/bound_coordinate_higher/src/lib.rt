@@ -84,15 +84,15 @@ fn numerator(rows: &[i64], t: Higher, at: usize, i: usize) -> i64
     chord + (a + b + rows[t.row3 + at] * t.difference3)
 }
 
-// n over 625 m 2^shift, rounded down, where n is raised by 2^28 times that; the scale is that of m.
+// n over 625 m 2^shift, rounded down, where n is raised by 2^28 times that; the scale is 5040 over m.
 fn rounded_down(n: i64, shift: u32, scale: usize) -> i64
     requires { ⌜ Raised shift scale n ⌝ }
     ensures { λ r. ⌜ RoundedDown shift scale n r ⌝ }
 {
-    ((n as u64 >> shift) * (scale as u64) / 525000) as i64 - LARGEST
+    ((n as u64 >> shift) * (scale as u64) / 3150000) as i64 - LARGEST
 }
 
-// The low at break point i, over 2^shift; the scale is that of m.
+// The low at break point i, over 2^shift; the scale is 5040 over m.
 pub fn low_at(rows: &[i64], t: Higher, shift: u32, scale: usize, m: usize, i: usize) -> i64
     requires { ⌜ (HigherComputable m shift scale (now rows) t) × (i ≤ m) ⌝ }
     ensures { λ r. ⌜ Computed (2 ^ 28) (higherLow m shift (now (rows .entry)) t i) r ⌝ }

@@ -3,14 +3,15 @@ use mathlib.Core.Path.{_≡_, refl, _∙_, ap, subst}
 use mathlib.Core.Bool.{Bool, true, cond, _&&_}
 use mathlib.Core.List.{List, [], _∷_}
 use Prim.Native.Nat.{ℕ, suc, _+_, _*_, _-_, _^_, _≤_, _<_, zero-le, suc-le-suc}
-use native.Mathlib.Nat.{le-trans, one-le-pow, zero-lt-suc, one-mul}
+use native.Mathlib.Nat.{le-refl, le-trans, mul-le-mul, mul-assoc, one-mul}
 use native.Mathlib.Omega.{arith}
 use lib.Dec.{T, lit≤}
 use lib.ListN.{length}
 use lib.IntN.{ℤ, pos, negsuc, negℤ, natAbs, _+ℤ_, _-ℤ_, _*ℤ_}
 use lib.Signed.{nonNeg, ltZ, leZ, _≤ℤ_, _<ℤ_, ltZ-yes, leZ-yes}
-use Rattle.setting.specs.Setting.{Setting, HasRows, mostDegree, degreePieces, standard}
+use Rattle.setting.specs.Setting.{Setting, HasRows, scale, mostDegree, degreePieces, standard}
 use Rattle.setting.proofs.Pieces.{degree-takes}
+use Rattle.setting.proofs.Scales.{over-some}
 use Rattle.integers.specs.Entry.{entry}
 use Rattle.integers.specs.Rounding.{floor, ceiling}
 use Rattle.integers.proofs.Ring.{ring, sides}
@@ -81,13 +82,14 @@ module _ (m G d : ℕ) (ρs : List Row) (some : 0 < m) (t : T (gapsWithin m G ρ
       +₀ natural z ×₀ (gap< (ceiling-is N Q hQ .below) +₀ gap< (floor-is N′ Q hQ .above) +₀ natural 2))
       (search sides depth 40 fits 9999) refl)))
 
--- ---- the rows of a setting: G is that of the degree and the number of pieces
+-- ---- the rows of a setting: G is that of the degree and the number of pieces, and M counts in what the control values do
 module _ (σ : Setting) (h : HasRows (σ .pieces)) (d depth z M : ℕ) (cs : List ℤ) (most : d ≤ mostDegree)
     (takes : degreePieces d (σ .pieces) ≡ true) (small : (k : ℕ) → k < d - 1 → z * natAbs (difference cs k) ≤ 2 ^ (d * depth) * M) where
-  pub width-gap : (i : ℕ) → i ≤ σ .pieces → (pos 10000 *ℤ pos z *ℤ (highOf σ d depth cs i -ℤ lowOf σ d depth cs i))
-      ≤ℤ (pos 16 *ℤ pos (gapOf (σ .pieces) d) *ℤ pos M +ℤ pos 20000 *ℤ pos z)
+  pub width-gap : (i : ℕ) → i ≤ σ .pieces → (pos 10000 *ℤ pos (scale σ * z) *ℤ (highOf σ d depth cs i -ℤ lowOf σ d depth cs i))
+      ≤ℤ (pos 16 *ℤ pos (gapOf (σ .pieces) d) *ℤ pos M +ℤ pos 20000 *ℤ pos (scale σ * z))
   width-gap = width-within (σ .pieces) (gapOf (σ .pieces) d) d (rowsOf (σ .pieces) d) (h .least) (rows-apart (σ .pieces) d h most takes)
-      (2 ^ (d * depth)) z M (one-le-pow (d * depth) 2 (zero-lt-suc 1)) cs (λ k l. small k (subst (λ n. k < n) (rows-count (σ .pieces) d) l))
+      (scale σ * 2 ^ (d * depth)) (scale σ * z) M (over-some σ (d * depth)) cs
+      (λ k l. rw (mul-assoc, mul-assoc) (mul-le-mul (le-refl (scale σ)) (small k (subst (λ n. k < n) (rows-count (σ .pieces) d) l))))
 
 -- ---- three pieces, where G is 890 at most: at a depth and at any node
 module _ (d depth M : ℕ) (cs : List ℤ) (least : 1 ≤ d) (most : d ≤ 3) where

@@ -1,5 +1,5 @@
 -- What the test says of a node that meets the tolerance: at every break point width squared plus height squared is at most the tolerance squared.
-use mathlib.Core.Path.{_≡_, refl, sym, ap, subst}
+use mathlib.Core.Path.{_≡_, refl, sym, ap₂, subst}
 use mathlib.Core.Bool.{Bool, true, false}
 use mathlib.Core.Logic.{⊎-elim}
 use mathlib.Core.List.{[], _∷_}
@@ -9,7 +9,8 @@ use native.Mathlib.Omega.{arith}
 use lib.Dec.{T}
 use lib.IntN.{ℤ, pos, natAbs, _+ℤ_, _-ℤ_, _*ℤ_}
 use lib.Signed.{ltZ, _≤ℤ_, _<ℤ_, leZ-yes}
-use Rattle.setting.specs.Setting.{Setting, HasRows, breakPoints, lists, mostDegree, degreePieces}
+use Rattle.setting.specs.Setting.{Setting, HasRows, scale, breakPoints, listsOf, mostDegree, degreePieces}
+use Rattle.setting.proofs.Scales.{scaled-some}
 use Rattle.integers.specs.Squares.{squared}
 use Rattle.integers.proofs.Ring.{sides}
 use Rattle.integers.proofs.Order.{NonNeg, natural, nonneg, gap, le-by, lt-le, pos-lt, times-positive, *ℤ-cancel, _+₀_, _×₀_}
@@ -92,11 +93,11 @@ module _ (σ : Setting) (tolerance : ℤ) (depth : ℕ) (c : Curve) where
     pub narrow-y : (highOf σ (c .degree) depth (c .y) i -ℤ lowOf σ (c .degree) depth (c .y) i) ≤ℤ tolerance
     narrow-y = root-mono some (right-square w h (n .each i hi))
 
--- only the number of pieces counts
-pub meets-pieces : (σ τ : Setting) → σ .pieces ≡ τ .pieces → (tolerance : ℤ) (depth : ℕ) (c : Curve)
+-- only the number of pieces and the scale count
+pub meets-pieces : (σ τ : Setting) → σ .pieces ≡ τ .pieces → σ .sixths ≡ τ .sixths → (tolerance : ℤ) (depth : ℕ) (c : Curve)
     → meets σ tolerance depth c ≡ meets τ tolerance depth c
 unfolding meets boxAt
-meets-pieces σ τ e tolerance depth c = ap (λ (m : ℕ). meets (lists m) tolerance depth c) e
+meets-pieces σ τ e f tolerance depth c = ap₂ (λ (m : ℕ) (b : Bool). meets (listsOf m b) tolerance depth c) e f
 
 -- ---- the width law of a curve: with Z = 10000 z, a width w and a height h, Z w and Z h are at most X, and 2 X² ≤ (Z T)²
 flat-narrow : {Z X w h : ℤ} (t : ℤ) → pos 0 <ℤ Z → NonNeg X → NonNeg w → NonNeg h → (Z *ℤ w) ≤ℤ X → (Z *ℤ h) ≤ℤ X
@@ -112,11 +113,11 @@ pub width-meets : (σ : Setting) → HasRows (σ .pieces) → (tolerance : ℤ) 
     → degreePieces (c .degree) (σ .pieces) ≡ true
     → ((k : ℕ) → k < c .degree - 1 → 4 ^ depth * natAbs (difference (c .x) k) ≤ 2 ^ (c .degree * depth) * M)
     → ((k : ℕ) → k < c .degree - 1 → 4 ^ depth * natAbs (difference (c .y) k) ≤ 2 ^ (c .degree * depth) * M)
-    → (pos 2 *ℤ squared (pos 16 *ℤ pos (gapOf (σ .pieces) (c .degree)) *ℤ pos M +ℤ pos 20000 *ℤ pos (4 ^ depth)))
-    ≤ℤ squared (pos 10000 *ℤ tolerance *ℤ pos (4 ^ depth))
+    → (pos 2 *ℤ squared (pos 16 *ℤ pos (gapOf (σ .pieces) (c .degree)) *ℤ pos M +ℤ pos 20000 *ℤ pos (scale σ * 4 ^ depth)))
+    ≤ℤ squared (pos 10000 *ℤ tolerance *ℤ pos (scale σ * 4 ^ depth))
     → meets σ tolerance depth c ≡ true
 width-meets σ rows tolerance depth M c least most takes bx by premise = narrow-meets σ tolerance depth c (record {
-  each = λ i hi. flat-narrow tolerance (pos-lt positive) (natural (16 * G * M + 20000 * 4 ^ depth))
+  each = λ i hi. flat-narrow tolerance (pos-lt positive) (natural (16 * G * M + 20000 * z))
       (gap (low-high σ rows (c .degree) depth (c .x) least most takes i hi))
       (gap (low-high σ rows (c .degree) depth (c .y) least most takes i hi))
       (width-gap σ rows (c .degree) depth (4 ^ depth) M (c .x) most takes bx i hi)
@@ -126,8 +127,11 @@ width-meets σ rows tolerance depth M c least most takes bx by premise = narrow-
     G : ℕ
     G = gapOf (σ .pieces) (c .degree)
 
-    positive : 0 < 10000 * 4 ^ depth
-    positive = omega (arith, one-le-pow depth 4 (zero-lt-suc 3))
+    z : ℕ
+    z = scale σ * 4 ^ depth
 
-    turned : (pos 2 *ℤ squared (pos 16 *ℤ pos G *ℤ pos M +ℤ pos 20000 *ℤ pos (4 ^ depth))) ≤ℤ squared (pos 10000 *ℤ pos (4 ^ depth) *ℤ tolerance)
-    turned = le-by (pos G ∷ pos M ∷ tolerance ∷ pos (4 ^ depth) ∷ []) (gap premise) (search sides depth 40 fits 9999) refl
+    positive : 0 < 10000 * z
+    positive = omega (arith, scaled-some σ (one-le-pow depth 4 (zero-lt-suc 3)))
+
+    turned : (pos 2 *ℤ squared (pos 16 *ℤ pos G *ℤ pos M +ℤ pos 20000 *ℤ pos z)) ≤ℤ squared (pos 10000 *ℤ pos z *ℤ tolerance)
+    turned = le-by (pos G ∷ pos M ∷ tolerance ∷ pos z ∷ []) (gap premise) (search sides depth 40 fits 9999) refl

@@ -4,17 +4,19 @@ use mathlib.Core.Path.{_≡_, refl, _∙_, ap}
 use mathlib.Core.Bool.{true}
 use mathlib.Core.List.{List, [], _∷_}
 use Prim.Native.Nat.{ℕ, zero, suc, _+_, _*_, _-_, _^_, _≤_, _<_}
-use native.Mathlib.Nat.{one-le-pow, zero-lt-suc, le-trans}
+use native.Mathlib.Nat.{le-refl, le-trans, mul-le-mul}
 use native.Mathlib.Omega.{arith}
 use lib.Dec.{lit≤}
 use lib.IntN.{ℤ, pos, negℤ, natAbs, _-ℤ_, _*ℤ_, pow}
 use lib.Signed.{_≤ℤ_, _<ℤ_, ltZ-yes}
-use Rattle.setting.specs.Setting.{Setting, HasRows, mostDegree, degreePieces}
+use Rattle.setting.specs.Setting.{Setting, HasRows, scale, mostDegree, degreePieces}
+use Rattle.setting.proofs.Scales.{scale-some, scaled-more, over-some}
 use Rattle.integers.proofs.Ring.{ring, sides}
 use Rattle.integers.proofs.Order.{pow-positive, times-positive, balance, natural, gap, le-by, pos-le, pos-lt, *ℤ-cancel, ≤ℤ-trans, _+₀_, _×₀_}
 use Rattle.integers.proofs.Size.{abs-within}
 use Rattle.curve_bernstein.specs.Value.{value}
 use Rattle.curve_halves.specs.Sizes.{Each}
+use Rattle.curve_halves.proofs.Sizes.{each-wider}
 use Rattle.curve_nodes.specs.Bounds.{Sized}
 use Rattle.curve_nodes.specs.declared.Curve.{Curve}
 use Rattle.bound_node.specs.declared.node_boxes.WideBox.{WideBox}
@@ -115,20 +117,23 @@ module _ {m d : ℕ} {ρs : List Row} (known : Enclosable m d ρs) (some : 0 < m
 pub low-high : (σ : Setting) → HasRows (σ .pieces) → (d depth : ℕ) (cs : List ℤ) → 1 ≤ d → d ≤ mostDegree
     → degreePieces d (σ .pieces) ≡ true → (i : ℕ) → i ≤ σ .pieces → lowOf σ d depth cs i ≤ℤ highOf σ d depth cs i
 low-high σ rows d depth cs least most takes =
-    order (enclosable (σ .pieces) d rows least most takes) (rows .least) (2 ^ (d * depth)) (one-le-pow (d * depth) 2 (zero-lt-suc 1)) cs
+    order (enclosable (σ .pieces) d rows least most takes) (rows .least) (scale σ * 2 ^ (d * depth)) (over-some σ (d * depth)) cs
 
 -- ---- control values are within 2^20 of a unit, so second differences are within 2^22, and a width within 2^26 sixteenths
 module _ (σ : Setting) (rows : HasRows (σ .pieces)) (d depth : ℕ) (cs : List ℤ) (least : 1 ≤ d) (most : d ≤ mostDegree)
     (takes : degreePieces d (σ .pieces) ≡ true) (each : Each (2 ^ 20 * 2 ^ (d * depth)) cs) where
   pub width-under : (i : ℕ) → i ≤ σ .pieces → (highOf σ d depth cs i -ℤ lowOf σ d depth cs i) ≤ℤ pos (2 ^ 26)
-  width-under i hi = *ℤ-cancel {k = pos 10000} (ltZ-yes tt) (le-by (pos (gapOf (σ .pieces) d) ∷ highOf σ d depth cs i ∷ lowOf σ d depth cs i ∷ [])
+  width-under i hi = *ℤ-cancel {k = pos 10000 *ℤ pos (scale σ)} (times-positive {x = pos 10000} (ltZ-yes tt) (pos-lt (scale-some σ)))
+      (le-by (pos (scale σ) ∷ pos (gapOf (σ .pieces) d) ∷ highOf σ d depth cs i ∷ lowOf σ d depth cs i ∷ [])
       (gap (width-gap σ rows d depth 1 (2 ^ 22) cs most takes (λ k h. omega (arith, difference-under each k)) i hi)
-      +₀ natural 67108864 ×₀ gap (pos-le (gap-most (σ .pieces) d rows most takes)) +₀ natural 167772140000)
+      +₀ natural 67108864 ×₀ gap (pos-le (gap-most (σ .pieces) d rows most takes)) +₀ natural 671088620000 ×₀ gap (pos-le (scale-some σ))
+      +₀ natural 167772140000)
       (search sides depth 20) refl)
 
   pub bounds-sound : (i : ℕ) → i ≤ σ .pieces → Sound (2 ^ 28) (lowOf σ d depth cs i) (highOf σ d depth cs i)
   bounds-sound i hi = wider (sound (enclosable (σ .pieces) d rows least most takes) (rows .least)
-      (2 ^ (d * depth)) (one-le-pow (d * depth) 2 (zero-lt-suc 1)) cs i hi (2 ^ 20) (2 ^ 26) each (width-under i hi))
+      (scale σ * 2 ^ (d * depth)) (over-some σ (d * depth)) cs i hi (2 ^ 20) (2 ^ 26)
+      (each-wider (mul-le-mul (le-refl (2 ^ 20)) (scaled-more σ (2 ^ (d * depth)))) each) (width-under i hi))
     where
       wider : {l h : ℤ} → Sound (2 ^ 24 + 2 ^ 26) l h → Sound (2 ^ 28) l h
       wider s = record { order = s .order; low-size = le-trans (s .low-size) (lit≤ tt); high-size = le-trans (s .high-size) (lit≤ tt) }

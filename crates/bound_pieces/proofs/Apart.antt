@@ -1,16 +1,17 @@
 -- What the spreads of a node say of its widths: with gaps at least those of a break point, the width there is at most the spread and one more; with
--- gaps at most those, at least the spread.
+-- gaps at most those, at least the spread. The sums of gap × difference are multiplied by f, and so is what divides them.
 use mathlib.Core.Path.{_≡_, refl, _∙_, ap, ap₂}
 use mathlib.Core.Bool.{Bool, true, false, cond, _&&_}
 use mathlib.Core.Logic.{⊎-elim}
 use mathlib.Core.List.{List, [], _∷_}
 use Prim.Native.Nat.{ℕ, suc, _+_, _-_, _*_, _^_, _≤_, _<_}
-use native.Mathlib.Nat.{le-refl, add-le-add, mul-le-mul, one-le-pow, zero-lt-suc}
+use native.Mathlib.Nat.{le-refl, le-trans, add-le-add, mul-le-mul}
 use native.Mathlib.Omega.{arith}
 use lib.Dec.{T, leb, leb→le, lit≤}
 use lib.IntN.{ℤ, pos, negsuc, negℤ, natAbs, _+ℤ_, _-ℤ_, _*ℤ_}
 use lib.Signed.{nonNeg, ltZ, _≤ℤ_, _<ℤ_, ltZ-yes}
-use Rattle.setting.specs.Setting.{Setting, HasRows, mostDegree, degreePieces}
+use Rattle.setting.specs.Setting.{Setting, HasRows, scale, mostDegree, degreePieces}
+use Rattle.setting.proofs.Scales.{over-some}
 use Rattle.integers.specs.Entry.{entry}
 use Rattle.integers.specs.Rounding.{floor, ceiling}
 use Rattle.integers.specs.Squares.{squared}
@@ -35,7 +36,7 @@ use Rattle.bound_enclosure.specs.AtDepth.{highOf, lowOf}
 use Rattle.bound_enclosure.proofs.Width.{term-gap}
 use Rattle.bound_enclosure.proofs.Reduced.{low-reduced, high-reduced}
 use Rattle.bound_coordinate.specs.Inside.{Small}
-use Rattle.bound_pieces.specs.Inside.{gapsAt, gapsSum, up, spreadOf}
+use Rattle.bound_pieces.specs.Inside.{gapsAt, gapsSum, up, times, spreadOf}
 use Rattle.bound_node.specs.Boxes.{meets}
 use Rattle.bound_node.proofs.Sound.{low-high, width-under}
 use Rattle.bound_node.proofs.Narrow.{narrow-meets}
@@ -75,7 +76,7 @@ up-is n q h =
 pub up-most : (n q K : ℕ) → 0 < q → n ≤ K * q → up n q ≤ K
 up-most n q K h l = le-pos (rw (ceiling-unique (pos-lt h) (up-is n q h)) (ceiling-le (pos-lt h) (pos-le l)))
 
-module _ {m : ℕ} (some : 0 < m) {D : ℕ} (hD : 0 < D) (ρs : List Row) (d : ℕ) (cs : List ℤ) (i : ℕ) (t : T (ordered ρs i)) where
+module _ {m : ℕ} (some : 0 < m) {D : ℕ} (hD : 0 < D) {f : ℕ} (hf : 0 < f) (ρs : List Row) (d : ℕ) (cs : List ℤ) (i : ℕ) (t : T (ordered ρs i)) where
   abbrev Q : ℤ
   Q = pos 625 *ℤ pos m *ℤ pos D
 
@@ -88,30 +89,46 @@ module _ {m : ℕ} (some : 0 < m) {D : ℕ} (hD : 0 < D) (ρs : List Row) (d : �
   hQ : pos 0 <ℤ Q
   hQ = times-positive (times-positive {x = pos 625} (ltZ-yes tt) (pos-lt some)) (pos-lt hD)
 
-  some-unit : 0 < 625 * D
-  some-unit = omega (arith, hD)
+  abbrev unit : ℕ
+  unit = f * (625 * D)
+
+  some-unit : 0 < unit
+  some-unit = le-trans (omega (arith, hD)) (mul-le-mul hf (le-refl (625 * D)))
 
   abbrev atoms : List ℤ
   atoms =
-      pos m ∷ pos D ∷ chord m d i cs ∷ rowSum ρs i 0 cs ∷ rowSum (exchanged ρs) i 0 cs ∷ pos (gapsSum (gapsAt ρs i) 0 cs)
+      pos m ∷ pos D ∷ pos f ∷ chord m d i cs ∷ rowSum ρs i 0 cs ∷ rowSum (exchanged ρs) i 0 cs ∷ pos (gapsSum (gapsAt ρs i) 0 cs)
       ∷ ceiling above Q ∷ floor beneath Q ∷ []
 
-  sum-least : (B : ℕ) → B ≤ gapsSum (gapsAt ρs i) 0 cs → pos (up B (625 * D)) ≤ℤ (high m ρs (pos D) d cs i -ℤ low m ρs (pos D) d cs i)
+  sum-least : (B : ℕ) → B ≤ f * gapsSum (gapsAt ρs i) 0 cs → pos (up B unit) ≤ℤ (high m ρs (pos D) d cs i -ℤ low m ρs (pos D) d cs i)
   sum-least B h =
-      let is-ceiling = ceiling-unique (pos-lt some-unit) (up-is B (625 * D) some-unit) in
+      let is-ceiling = ceiling-unique (pos-lt some-unit) (up-is B unit some-unit) in
       rw (high-reduced some (pos-lt hD) ρs d cs i, low-reduced some (pos-lt hD) ρs d cs i, is-ceiling)
       (ceiling-le (pos-lt some-unit) (*ℤ-cancel {k = pos m} (pos-lt some) (le-by (pos B ∷ atoms)
-      (natural m ×₀ gap (pos-le h) +₀ gap (ceiling-is above Q hQ .above) +₀ gap (floor-is beneath Q hQ .below)
-      +₀ balance (pos m) (sums-differ i cs ρs 0 t))
+      (natural m ×₀ gap (pos-le h)
+      +₀ natural f ×₀ (gap (ceiling-is above Q hQ .above) +₀ gap (floor-is beneath Q hQ .below) +₀ balance (pos m) (sums-differ i cs ρs 0 t)))
       (search sides depth 40 fits 9999) refl)))
 
-  sum-most : (B : ℕ) → gapsSum (gapsAt ρs i) 0 cs ≤ B → (high m ρs (pos D) d cs i -ℤ low m ρs (pos D) d cs i) ≤ℤ (pos (up B (625 * D)) +ℤ pos 1)
+  sum-most : (B : ℕ) → f * gapsSum (gapsAt ρs i) 0 cs ≤ B → (high m ρs (pos D) d cs i -ℤ low m ρs (pos D) d cs i) ≤ℤ (pos (up B unit) +ℤ pos 1)
   sum-most B h = rw (high-reduced some (pos-lt hD) ρs d cs i, low-reduced some (pos-lt hD) ρs d cs i)
-      (⊎-elim (λ l. l) (λ l. absurd (clash-by (pos B ∷ pos (up B (625 * D)) ∷ atoms)
-      (natural m ×₀ gap (pos-le h) +₀ natural m ×₀ gap (up-is B (625 * D) some-unit .above)
-      +₀ gap< (ceiling-is above Q hQ .below) +₀ gap< (floor-is beneath Q hQ .above) +₀ balance (negℤ (pos m)) (sums-differ i cs ρs 0 t)
-      +₀ (gap< hQ +₀ natural 1) ×₀ gap< l +₀ natural 1) (search sides depth 40 fits 9999) refl))
-      (le-or-lt (ceiling above Q -ℤ floor beneath Q) (pos (up B (625 * D)) +ℤ pos 1)))
+      (⊎-elim (λ l. l) (λ l. absurd (clash-by (pos B ∷ pos (up B unit) ∷ atoms)
+      (natural m ×₀ gap (pos-le h) +₀ natural m ×₀ gap (up-is B unit some-unit .above)
+      +₀ natural f ×₀ (gap< (ceiling-is above Q hQ .below) +₀ gap< (floor-is beneath Q hQ .above) +₀ balance (negℤ (pos m)) (sums-differ i cs ρs 0 t)
+      +₀ (gap< hQ +₀ natural 1) ×₀ gap< l) +₀ natural 2 ×₀ gap (pos-le hf) +₀ natural 1) (search sides depth 40 fits 9999) refl))
+      (le-or-lt (ceiling above Q -ℤ floor beneath Q) (pos (up B unit) +ℤ pos 1)))
+
+-- ---- 6 over the scale
+pub times-some : (b : Bool) → 0 < times b
+times-some true = lit≤ tt
+times-some false = lit≤ tt
+
+pub times-most : (b : Bool) → times b ≤ 6
+times-most true = lit≤ tt
+times-most false = lit≤ tt
+
+times-divisor : (b : Bool) (n : ℕ) → times b * (625 * (cond b 6 1 * n)) ≡ 3750 * n
+times-divisor true n = omega arith
+times-divisor false n = omega arith
 
 -- ---- the break points of a setting's rows
 -- each of the gaps is at most the other
@@ -139,22 +156,26 @@ module _ (σ : Setting) (rows : HasRows (σ .pieces)) (d depth : ℕ) (cs : List
   abbrev width : ℤ
   width = highOf σ d depth cs i -ℤ lowOf σ d depth cs i
 
-  some-D : 0 < 2 ^ (d * depth)
-  some-D = one-le-pow (d * depth) 2 (zero-lt-suc 1)
+  abbrev f : ℕ
+  f = times (σ .sixths)
 
-  spread-least : B ≤ gapsSum (gapsAt ρs i) 0 cs → pos (spreadOf B (d * depth)) ≤ℤ width
+  spread-is : up B (f * (625 * (scale σ * 2 ^ (d * depth)))) ≡ spreadOf B (d * depth)
   unfolding spreadOf
-  spread-least = sum-least (rows .least) some-D ρs d cs i (rows-ordered (σ .pieces) d rows most takes i hi) B
+  spread-is = ap (up B) (times-divisor (σ .sixths) (2 ^ (d * depth)))
 
-  spread-most : gapsSum (gapsAt ρs i) 0 cs ≤ B → width ≤ℤ (pos (spreadOf B (d * depth)) +ℤ pos 1)
-  unfolding spreadOf
-  spread-most = sum-most (rows .least) some-D ρs d cs i (rows-ordered (σ .pieces) d rows most takes i hi) B
+  spread-least : B ≤ f * gapsSum (gapsAt ρs i) 0 cs → pos (spreadOf B (d * depth)) ≤ℤ width
+  spread-least h = rw (← spread-is)
+      (sum-least (rows .least) (over-some σ (d * depth)) (times-some (σ .sixths)) ρs d cs i (rows-ordered (σ .pieces) d rows most takes i hi) B h)
 
-  pub square-least : B ≤ gapsSum (gapsAt (rowsOf (σ .pieces) d) i) 0 cs
+  spread-most : f * gapsSum (gapsAt ρs i) 0 cs ≤ B → width ≤ℤ (pos (spreadOf B (d * depth)) +ℤ pos 1)
+  spread-most h = rw (← spread-is)
+      (sum-most (rows .least) (over-some σ (d * depth)) (times-some (σ .sixths)) ρs d cs i (rows-ordered (σ .pieces) d rows most takes i hi) B h)
+
+  pub square-least : B ≤ times (σ .sixths) * gapsSum (gapsAt (rowsOf (σ .pieces) d) i) 0 cs
       → squared (pos (spreadOf B (d * depth))) ≤ℤ squared (highOf σ d depth cs i -ℤ lowOf σ d depth cs i)
   square-least h = square-mono (natural (spreadOf B (d * depth))) (spread-least h)
 
-  pub square-most : gapsSum (gapsAt (rowsOf (σ .pieces) d) i) 0 cs ≤ B
+  pub square-most : times (σ .sixths) * gapsSum (gapsAt (rowsOf (σ .pieces) d) i) 0 cs ≤ B
       → squared (highOf σ d depth cs i -ℤ lowOf σ d depth cs i) ≤ℤ squared (pos (spreadOf B (d * depth)) +ℤ pos 1)
   square-most h = square-mono (gap (low-high σ rows d depth cs least most takes i hi)) (spread-most h)
 

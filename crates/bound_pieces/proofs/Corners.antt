@@ -24,7 +24,7 @@ use Rattle.bound_rows.specs.Table.{table, rowsOf}
 use Rattle.bound_rows.specs.Rule.{gapOf}
 use Rattle.bound_rows.proofs.Degrees.{degrees}
 use Rattle.bound_enclosure.specs.AtDepth.{highOf, lowOf}
-use Rattle.bound_pieces.specs.Inside.{gapsAt, gapsSum, spreadOf, gapAt, widestAt, nearGap, farGap, cornerOf}
+use Rattle.bound_pieces.specs.Inside.{gapsAt, gapsSum, times, spreadOf, gapAt, widestAt, nearGap, farGap, cornerOf}
 use Rattle.bound_pieces.specs.Inside.{nearCorner, farCorner, sumsOf, exactOf}
 use Rattle.bound_node.specs.Boxes.{meets}
 use Rattle.bound_pieces.proofs.Boxes.{low-takes}
@@ -125,6 +125,13 @@ module _ (m : ℕ) (h : HasRows m) (cs : List ℤ) (i : ℕ) (hi : i ≤ m) wher
           (leb→le (gapAt m 3 0 i + gapAt m 3 1 i) (nearGap m + farGap m) (and-left r s (and-right q (r && s) others)))
           (natAbs (difference cs 0)) (natAbs (difference cs 1))
 
+-- all of it multiplied
+times-max : (f a b : ℕ) {g : ℕ} → g ≤ max a b → f * g ≤ max (f * a) (f * b)
+times-max f a b {g} h = ⊎-elim
+    (λ l. let k : g ≤ b = omega (arith, l, h) in omega (arith, mul-le-mul (le-refl f) k))
+    (λ l. let k : g ≤ a = omega (arith, l, h) in omega (arith, mul-le-mul (le-refl f) k))
+    (lt-or-ge a b)
+
 -- ---- a node, by the sums of its corners
 -- the square of the spread of a sum, and of one more
 abbrev pub squareOf : (n s : ℕ) → ℤ
@@ -137,7 +144,7 @@ squareAbove n s = squared (pos (spreadOf n s) +ℤ pos 1)
 module _ (σ : Setting) (rows : HasRows (σ .pieces)) (tolerance : ℤ) {depth : ℕ} {c : Curve} (s : Sized depth c)
     (takes : degreePieces (c .degree) (σ .pieces) ≡ true) where
   abbrev Covers : List ℤ → ℕ → Type 0
-  Covers cs n = (i : ℕ) → i ≤ σ .pieces → gapsSum (gapsAt (rowsOf (σ .pieces) (c .degree)) i) 0 cs ≤ n
+  Covers cs n = (i : ℕ) → i ≤ σ .pieces → times (σ .sixths) * gapsSum (gapsAt (rowsOf (σ .pieces) (c .degree)) i) 0 cs ≤ n
 
   under-all : (cs : List ℤ) (n : ℕ) → Covers cs n → (i : ℕ) → i ≤ σ .pieces
       → squared (highOf σ (c .degree) depth cs i -ℤ lowOf σ (c .degree) depth cs i) ≤ℤ squareAbove n (c .degree * depth)
@@ -151,27 +158,32 @@ module _ (σ : Setting) (rows : HasRows (σ .pieces)) (tolerance : ℤ) {depth :
 
   -- and sums that are at most those of one of them: too wide by them, the node does not
   pub reached-fails : (w h i : ℕ) → i ≤ σ .pieces
-      → w ≤ gapsSum (gapsAt (rowsOf (σ .pieces) (c .degree)) i) 0 (c .x) → h ≤ gapsSum (gapsAt (rowsOf (σ .pieces) (c .degree)) i) 0 (c .y)
+      → w ≤ times (σ .sixths) * gapsSum (gapsAt (rowsOf (σ .pieces) (c .degree)) i) 0 (c .x)
+      → h ≤ times (σ .sixths) * gapsSum (gapsAt (rowsOf (σ .pieces) (c .degree)) i) 0 (c .y)
       → ltZ (squared tolerance) (squareOf w (c .degree * depth) +ℤ squareOf h (c .degree * depth)) ≡ true → meets σ tolerance depth c ≡ false
   reached-fails w h i hi hw hh e = refuted (λ m. clashℤ (lt-yes e) (≤ℤ-trans
       (+ℤ-mono (square-least σ rows (c .degree) depth (c .x) (s .least) (s .most) takes w i hi hw)
       (square-least σ rows (c .degree) depth (c .y) (s .least) (s .most) takes h i hi hh)) (meets-narrow σ tolerance depth c m .each i hi)))
 
 module _ (σ : Setting) (rows : HasRows (σ .pieces)) (tolerance : ℤ) {depth : ℕ} {c : Curve} (s : Sized depth c) (few : c .degree ≤ 3)
-    {xs ys : List ℕ} (ex : xs ≡ sumsOf (σ .pieces) (c .degree) (c .x)) (ey : ys ≡ sumsOf (σ .pieces) (c .degree) (c .y)) where
+    {xs ys : List ℕ} (ex : xs ≡ sumsOf (σ .sixths) (σ .pieces) (c .degree) (c .x)) (ey : ys ≡ sumsOf (σ .sixths) (σ .pieces) (c .degree) (c .y)) where
   takes : degreePieces (c .degree) (σ .pieces) ≡ true
   takes = low-takes (c .degree) (σ .pieces) few
 
   abbrev shift : ℕ
   shift = c .degree * depth
 
+  abbrev f : ℕ
+  f = times (σ .sixths)
+
   abbrev width : List ℤ → ℕ → ℤ
   width cs i = squared (highOf σ (c .degree) depth cs i -ℤ lowOf σ (c .degree) depth cs i)
 
   -- no break point is wider than both corners are
-  under-corners : (cs : List ℤ) {ns : List ℕ} → ns ≡ sumsOf (σ .pieces) (c .degree) cs → {n : ℕ} → n ≡ max (getD ns 0 0) (getD ns 1 0)
-      → (i : ℕ) → i ≤ σ .pieces → gapsSum (gapsAt (rowsOf (σ .pieces) (c .degree)) i) 0 cs ≤ n
-  under-corners cs e en i hi = rw (en, e) (corner-sum (σ .pieces) rows cs i hi (c .degree) (s .least) few)
+  under-corners : (cs : List ℤ) {ns : List ℕ} → ns ≡ sumsOf (σ .sixths) (σ .pieces) (c .degree) cs → {n : ℕ} → n ≡ max (getD ns 0 0) (getD ns 1 0)
+      → (i : ℕ) → i ≤ σ .pieces → times (σ .sixths) * gapsSum (gapsAt (rowsOf (σ .pieces) (c .degree)) i) 0 cs ≤ n
+  under-corners cs e en i hi = rw (en, e) (times-max (times (σ .sixths)) (gapsSum (nearCorner (σ .pieces) (c .degree)) 0 cs) (gapsSum (farCorner (σ .pieces) (c .degree)) 0 cs)
+      (corner-sum (σ .pieces) rows cs i hi (c .degree) (s .least) few))
 
   pub close-meets : {w h : ℕ} → w ≡ max (getD xs 0 0) (getD xs 1 0) → h ≡ max (getD ys 0 0) (getD ys 1 0)
       → ltZ (squared tolerance) (squareAbove w (c .degree * depth) +ℤ squareAbove h (c .degree * depth)) ≡ false → meets σ tolerance depth c ≡ true
@@ -179,10 +191,11 @@ module _ (σ : Setting) (rows : HasRows (σ .pieces)) (tolerance : ℤ) {depth :
 
   -- gaps that are at most those of a break point: too wide by them, the node is too wide there
   gaps-fail : (gs : List ℕ) (i : ℕ) → i ≤ σ .pieces → T (under gs (gapsAt (rowsOf (σ .pieces) (c .degree)) i))
-      → ltZ (squared tolerance) (squareOf (gapsSum gs 0 (c .x)) shift +ℤ squareOf (gapsSum gs 0 (c .y)) shift) ≡ true
+      → ltZ (squared tolerance) (squareOf (f * gapsSum gs 0 (c .x)) shift +ℤ squareOf (f * gapsSum gs 0 (c .y)) shift) ≡ true
       → meets σ tolerance depth c ≡ false
-  gaps-fail gs i hi t = reached-fails σ rows tolerance s takes (gapsSum gs 0 (c .x)) (gapsSum gs 0 (c .y)) i hi
-      (under-sum (c .x) gs (gapsAt (rowsOf (σ .pieces) (c .degree)) i) 0 t) (under-sum (c .y) gs (gapsAt (rowsOf (σ .pieces) (c .degree)) i) 0 t)
+  gaps-fail gs i hi t = reached-fails σ rows tolerance s takes (f * gapsSum gs 0 (c .x)) (f * gapsSum gs 0 (c .y)) i hi
+      (mul-le-mul (le-refl f) (under-sum (c .x) gs (gapsAt (rowsOf (σ .pieces) (c .degree)) i) 0 t))
+      (mul-le-mul (le-refl f) (under-sum (c .y) gs (gapsAt (rowsOf (σ .pieces) (c .degree)) i) 0 t))
 
   -- where the corners are break points: the one where x is the wider
   module _ (exact : exactOf (σ .pieces) (c .degree) ≡ true) where

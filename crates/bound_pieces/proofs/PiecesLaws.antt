@@ -9,7 +9,8 @@ use lib.Dec.{T, eqb, ltb, leb, eqb→eq, leb→le}
 use lib.IntN.{ℤ, pos, natAbs, _-ℤ_, _*ℤ_}
 use lib.Signed.{nonNeg}
 use borrow.Author.Tests.{lt-ltb, le-ltb}
-use Rattle.setting.specs.Setting.{HasRows, mostDegree, degreePieces}
+use Rattle.setting.specs.Setting.{HasRows, scale, mostDegree, degreePieces}
+use Rattle.setting.proofs.Scales.{scale-some, scale-most}
 use Rattle.integers.specs.Entry.{entry}
 use Rattle.integers.proofs.Ring.{ring, sides}
 use Rattle.integers.proofs.Order.{NonNeg, natural, _×₀_}
@@ -25,7 +26,7 @@ use Rattle.bound_rows.proofs.Gaps.{ordered}
 use Rattle.bound_rows.proofs.Rule.{rows-ordered}
 use Rattle.bound_pieces.specs.declared.Pieces.{Pieces}
 use Rattle.bound_pieces.specs.declared.Gaps.{Gaps}
-use Rattle.bound_pieces.specs.Inside.{gapAt, widestAt, nearGap, gapsOf, piecesBy, piecesOf}
+use Rattle.bound_pieces.specs.Inside.{gapAt, widestAt, nearGap, gapsOf, piecesBy, piecesOf, settingOf}
 use Rattle.bound_pieces.specs.Inside.{SmallGaps}
 use Rattle.bound_pieces.proofs.Corners.{pieces-tested, many-tested, both-degrees}
 
@@ -91,24 +92,24 @@ module _ {m : ℕ} (h : HasRows m) where
 
   module _ {s a₀ a₁ b₀ b₁ g : ℕ} (es : s ≡ gapAt m 2 0 1) (ea₀ : a₀ ≡ gapAt m 3 0 0) (ea₁ : a₁ ≡ gapAt m 3 0 1)
       (eb₀ : b₀ ≡ gapAt m 3 1 0) (eb₁ : b₁ ≡ gapAt m 3 1 1) (eg : g ≡ max (a₀ + b₀) (a₁ + b₁))
-      {q r : Gaps} (eq : q ≡ gapsOf m 4) (er : r ≡ gapsOf m 5) where
+      {q r : Gaps} (eq : q ≡ gapsOf m 4) (er : r ≡ gapsOf m 5) (sixths : Bool) where
     largest : g ≡ gapOf m 3
     largest = eg ∙ (λ j. max (ea₀ j + eb₀ j) (ea₁ j + eb₁ j)) ∙ both-is
 
     widest : (b : Bool) → ltb a₀ a₁ ≡ b → widestAt m ≡ cond b 1 0
     widest b e = ap (λ (t : Bool). cond t 1 0) (ap₂ ltb (sym ea₀) (sym ea₁) ∙ e)
 
-    pub pieces-second : a₀ < a₁ → piecesBy m s a₁ b₁ g q r ≡ piecesOf m
+    pub pieces-second : a₀ < a₁ → piecesBy m sixths s a₁ b₁ g q r ≡ piecesOf m sixths
     unfolding piecesOf nearGap
     pieces-second l =
         let w = sym (widest true (lt-ltb _ _ l)) in
-        λ j. piecesBy m ((es ∙ single-is) j) ((ea₁ ∙ ap (gapAt m 3 0) w) j) ((eb₁ ∙ ap (gapAt m 3 1) w) j) (largest j) (eq j) (er j)
+        λ j. piecesBy m sixths ((es ∙ single-is) j) ((ea₁ ∙ ap (gapAt m 3 0) w) j) ((eb₁ ∙ ap (gapAt m 3 1) w) j) (largest j) (eq j) (er j)
 
-    pub pieces-first : a₁ ≤ a₀ → piecesBy m s a₀ b₀ g q r ≡ piecesOf m
+    pub pieces-first : a₁ ≤ a₀ → piecesBy m sixths s a₀ b₀ g q r ≡ piecesOf m sixths
     unfolding piecesOf nearGap
     pieces-first l =
         let w = sym (widest false (le-ltb _ _ l)) in
-        λ j. piecesBy m ((es ∙ single-is) j) ((ea₀ ∙ ap (gapAt m 3 0) w) j) ((eb₀ ∙ ap (gapAt m 3 1) w) j) (largest j) (eq j) (er j)
+        λ j. piecesBy m sixths ((es ∙ single-is) j) ((ea₀ ∙ ap (gapAt m 3 0) w) j) ((eb₀ ∙ ap (gapAt m 3 1) w) j) (largest j) (eq j) (er j)
 
 -- ---- the gaps of degrees 4 and 5: G stands at break point 1, the others at break point 0; one and two pieces have none
 abbrev noGaps : Gaps
@@ -203,10 +204,33 @@ small-gaps m d h l hd hm = subst SmallGaps (sym (many-gaps m d l)) (record {
     fine : T (smallFine m d)
     fine = both-degrees (smallFine m) (many-tested (λ m. every-below 2 (λ e. smallFine m (suc (suc (suc (suc e)))))) small-tested m h l) d hd hm
 
--- ---- 840 is a multiple of every number of pieces
-scale-tested : T (every-below 8 (λ n. eqb (840 / suc n * suc n) 840))
-scale-tested = tt
+-- ---- 5040 is a multiple of every number of pieces, and of 6 times it
+abbrev scaleFine : Bool → ℕ → Bool
+scaleFine b m = eqb (5040 / (m * cond b 6 1) * (m * cond b 6 1)) 5040
 
-pub scaled : {p : Pieces} → HasRows (p .m) → p ≡ piecesOf (p .m) → p .scale * p .m ≡ 840
-unfolding piecesOf piecesBy
-scaled {p} h e = ap (λ q. q .scale * p .m) e ∙ eqb→eq (840 / p .m * p .m) 840 (pieces-tested (λ m. eqb (840 / m * m) 840) scale-tested (p .m) h)
+scale-tested : (b : Bool) → T (every-below 8 (λ n. scaleFine b (suc n)))
+scale-tested true = tt
+scale-tested false = tt
+
+module _ {p : Pieces} (h : HasRows (p .m)) (e : p ≡ piecesOf (p .m) (p .sixths)) where
+  pub divisor-is : p .divisor ≡ p .m * scale (settingOf p)
+  unfolding piecesOf piecesBy
+  divisor-is = ap (λ (q : Pieces). q .divisor) e
+
+  pub divisor-less : p .m ≤ p .divisor
+  divisor-less = rw divisor-is (le-trans (omega arith) (mul-le-mul (le-refl (p .m)) (scale-some (settingOf p))))
+
+  pub divisor-few : p .divisor ≤ 48
+  divisor-few = rw divisor-is (mul-le-mul (h .most) (scale-most (settingOf p)))
+
+  pub scaled : p .scale * p .divisor ≡ 5040
+  unfolding piecesOf piecesBy
+  scaled = ap (λ (q : Pieces). q .scale * q .divisor) e
+      ∙ eqb→eq (5040 / (p .m * scale (settingOf p)) * (p .m * scale (settingOf p))) 5040 (pieces-tested (scaleFine (p .sixths)) (scale-tested (p .sixths)) (p .m) h)
+
+  -- where control values are whole, the divisor is m
+  pub divisor-alone : p .sixths ≡ false → p .divisor ≡ p .m
+  divisor-alone units = divisor-is ∙ ap (λ (b : Bool). p .m * cond b 6 1) units ∙ omega arith
+
+  pub scaled-alone : p .sixths ≡ false → p .scale * p .m ≡ 5040
+  scaled-alone units = ap (λ (q : ℕ). p .scale * q) (sym (divisor-alone units)) ∙ scaled

@@ -5,7 +5,7 @@ use mathlib.Core.List.{List, [], _∷_}
 use Prim.Native.Nat.{ℕ, zero, suc, _+_, _-_, _*_, _/_, _^_, _≤_}
 use lib.Dec.{eqb, ltb}
 use lib.IntN.{ℤ, natAbs, _+ℤ_, _-ℤ_}
-use Rattle.setting.specs.Setting.{HasRows}
+use Rattle.setting.specs.Setting.{Setting, HasRows, listsOf}
 use Rattle.integers.specs.Entry.{entry}
 use Rattle.integers.specs.Squares.{squared}
 use Rattle.curve_nodes.specs.Differences.{difference}
@@ -43,9 +43,14 @@ gapsSum (g ∷ gs) k cs = g * natAbs (difference cs k) + gapsSum gs (suc k) cs
 abbrev pub up : ℕ → ℕ → ℕ
 up n q = (n + (q - 1)) / q
 
--- a sum in sixteenths, rounded up, for values over 2^s; with the gaps of a break point, its width is this or one more
+-- 6 over the scale of control values: sums are multiplied by it, so that one divisor serves units and sixths
+abbrev pub times : Bool → ℕ
+times sixths = cond sixths 1 6
+
+-- a sum so multiplied in sixteenths, rounded up, for values over 2^s; with the gaps of a break point, its width is this
+-- or one more
 unfoldable pub spreadOf : (n s : ℕ) → ℕ
-spreadOf n s = up n (625 * 2 ^ s)
+spreadOf n s = up n (3750 * 2 ^ s)
 
 -- ---- m pieces: two corners in place of the gaps of all break points, none of which is wider than both corners are
 -- the gap of row k of degree d at break point i
@@ -77,9 +82,10 @@ nearCorner m d = cornerOf m (nearGap m) (farGap m) d
 abbrev pub farCorner : (m d : ℕ) → List ℕ
 farCorner m d = cornerOf m (farGap m) (nearGap m) d
 
--- the sums of the near and the far corner
-abbrev pub sumsOf : (m d : ℕ) → List ℤ → List ℕ
-sumsOf m d cs = gapsSum (nearCorner m d) 0 cs ∷ gapsSum (farCorner m d) 0 cs ∷ []
+-- the sums of the near and the far corner, so multiplied
+abbrev pub sumsOf : (sixths : Bool) (m d : ℕ) → List ℤ → List ℕ
+sumsOf sixths m d cs =
+    times sixths * gapsSum (nearCorner m d) 0 cs ∷ times sixths * gapsSum (farCorner m d) 0 cs ∷ []
 
 -- the gaps of the corners are those of break points
 unfoldable pub exactOf : (m d : ℕ) → Bool
@@ -95,34 +101,40 @@ gapsOf m d = cond (ltb m 3) (record { «whole» = 0; «outer» = 0; «first» = 
   «second» = gapAt m d 1 0;
 })
 
--- what goes with the number of pieces: near and other are the gaps of degree 3 at the break point where the first is
--- the largest, both is G
-unfoldable pub piecesBy : (m single near other both : ℕ) → (quartic quintic : Gaps) → Pieces
-piecesBy m single near other both quartic quintic = record {
+-- what goes with the number of pieces and the scale: near and other are the gaps of degree 3 at the break point where
+-- the first is the largest, both is G
+unfoldable pub piecesBy : (m : ℕ) (sixths : Bool) (single near other both : ℕ) → (quartic quintic : Gaps) → Pieces
+piecesBy m sixths single near other both quartic quintic = record {
   «m» = m;
-  «scale» = 840 / m;
-  «single» = single;
-  «near» = near;
-  «far» = both - near;
+  «sixths» = sixths;
+  «divisor» = m * cond sixths 6 1;
+  «scale» = 5040 / (m * cond sixths 6 1);
+  «single» = times sixths * single;
+  «near» = times sixths * near;
+  «far» = times sixths * (both - near);
   «exact» = eqb other (both - near);
   «quartic» = quartic;
   «quintic» = quintic;
 }
 
-unfoldable pub piecesOf : ℕ → Pieces
-piecesOf m =
-    piecesBy m (gapOf m 2) (nearGap m) (gapAt m 3 1 (widestAt m)) (gapOf m 3) (gapsOf m 4) (gapsOf m 5)
+unfoldable pub piecesOf : ℕ → Bool → Pieces
+piecesOf m sixths =
+    piecesBy m sixths (gapOf m 2) (nearGap m) (gapAt m 3 1 (widestAt m)) (gapOf m 3) (gapsOf m 4) (gapsOf m 5)
+
+-- the setting of lists that it goes with
+abbrev pub settingOf : Pieces → Setting
+settingOf p = listsOf (p .m) (p .sixths)
 
 -- what goes with m pieces, and their rows, copied out of the table
 pub record Ready (p : Pieces) (rows : List ℤ) : Type 0 where
   pub has : HasRows (p .m)
-  pub is : p ≡ piecesOf (p .m)
+  pub is : p ≡ piecesOf (p .m) (p .sixths)
   pub copied : Copied (p .m) rows
 
 -- the square of a box's diagonal at break point i, from the terms of both coordinates
-abbrev pub acrossBy : (m s : ℕ) → List ℤ → (x y : Terms) → ℕ → ℤ
-acrossBy m s rows x y i =
-    squared (highBy m s rows x i -ℤ lowBy m s rows x i) +ℤ squared (highBy m s rows y i -ℤ lowBy m s rows y i)
+abbrev pub acrossBy : (q s : ℕ) → List ℤ → (x y : Terms) → ℕ → ℤ
+acrossBy q s rows x y i =
+    squared (highBy q s rows x i -ℤ lowBy q s rows x i) +ℤ squared (highBy q s rows y i -ℤ lowBy q s rows y i)
 
 abbrev pub higherAcrossBy : (m s : ℕ) → List ℤ → (x y : Higher) → ℕ → ℤ
 higherAcrossBy m s rows x y i =

@@ -1,15 +1,19 @@
 // What the test of a node takes from the number of pieces alone.
 ghost use mathlib.Core.Path.{_≡_};
 ghost use mathlib.Core.Bool.{true};
+ghost use mathlib.Core.Bool.{cond};
 ghost use Prim.Native.Nat.{_≤_, _<_, _-_, _+_, _*_, max};
 ghost use Rattle.setting.specs.Setting.{HasRows, degreePieces};
 ghost use Rattle.bound_row_table.specs.Inside.{rowPlace, Copied};
-ghost use Rattle.bound_pieces.specs.Inside.{gapAt, gapsOf, piecesBy, piecesOf};
+ghost use Rattle.bound_pieces.specs.Inside.{times, gapAt, gapsOf, piecesBy, piecesOf};
 
-// The number of pieces, 840 over it, the largest gap of degree 2, the corner of degree 3, whether its gaps are those of
-// a break point, and the gaps of degrees 4 and 5.
+// The number of pieces; whether control values are sixths; the divisor, m times the scale of control values, and 5040
+// over it; the largest gap of degree 2 and the corner of degree 3, each times 6 over the scale of control values;
+// whether the corner's gaps are those of a break point; and the gaps of degrees 4 and 5.
 pub struct Pieces {
     pub m: usize,
+    pub sixths: bool,
+    pub divisor: usize,
     pub scale: usize,
     pub single: u64,
     pub near: u64,
@@ -99,10 +103,25 @@ fn gaps_of(rows: &[i64], m: usize, degree: u32) -> Gaps
     }
 }
 
+// How many of what control values count make a stage unit.
+fn unit_of(sixths: bool) -> usize
+    ensures { λ r. ⌜ (r ≡ cond sixths 6 1) × (1 ≤ r) × (r ≤ 6) ⌝ }
+{
+    if sixths { 6 } else { 1 }
+}
+
+// 6 over that.
+fn times_of(sixths: bool) -> u64
+    ensures { λ r. ⌜ (r ≡ times sixths) × (r ≤ 6) ⌝ }
+{
+    if sixths { 1 } else { 6 }
+}
+
 // The whole, from the gaps at the break point where the first is the largest, the largest sum, and those of degrees 4
 // and 5.
 fn pieces_by(
     m: usize,
+    sixths: bool,
     single: u64,
     near: u64,
     other: u64,
@@ -110,26 +129,31 @@ fn pieces_by(
     quartic: Gaps,
     quintic: Gaps,
 ) -> Pieces
-    requires { ⌜ (1 ≤ m) × (near ≤ both) ⌝ }
-    ensures { λ r. ⌜ r ≡ piecesBy m single near other both quartic quintic ⌝ }
+    requires { ⌜ (1 ≤ m) × (m ≤ 8) × (near ≤ both) × (single ≤ 18000) × (both ≤ 36000) ⌝ }
+    ensures { λ r. ⌜ r ≡ piecesBy m sixths single near other both quartic quintic ⌝ }
 {
     let far = both - near;
+    let times = times_of(sixths);
+    let divisor = m * unit_of(sixths);
     Pieces {
         m,
-        scale: 840 / m,
-        single,
-        near,
-        far,
+        sixths,
+        divisor,
+        scale: 5040 / divisor,
+        single: times * single,
+        near: times * near,
+        far: times * far,
         exact: other == far,
         quartic,
         quintic,
     }
 }
 
-// What goes with m pieces, from their rows. G and the largest gaps stand at the break points 0 and 1.
-pub fn pieces_of(rows: &[i64], m: usize) -> Pieces
+// What goes with m pieces and control values that are sixths or not, from the rows. G and the largest gaps stand at the
+// break points 0 and 1.
+pub fn pieces_of(rows: &[i64], m: usize, sixths: bool) -> Pieces
     requires { ⌜ (HasRows m) × (Copied m (now rows)) ⌝ }
-    ensures { λ r. ⌜ r ≡ piecesOf m ⌝ }
+    ensures { λ r. ⌜ r ≡ piecesOf m sixths ⌝ }
 {
     let a0 = gap_at(rows, m, 3, 0, 0);
     let a1 = gap_at(rows, m, 3, 0, 1);
@@ -140,8 +164,8 @@ pub fn pieces_of(rows: &[i64], m: usize) -> Pieces
     let quintic = gaps_of(rows, m, 5);
     let both = larger(a0 + b0, a1 + b1);
     if a0 < a1 {
-        pieces_by(m, single, a1, b1, both, quartic, quintic)
+        pieces_by(m, sixths, single, a1, b1, both, quartic, quintic)
     } else {
-        pieces_by(m, single, a0, b0, both, quartic, quintic)
+        pieces_by(m, sixths, single, a0, b0, both, quartic, quintic)
     }
 }

@@ -1,8 +1,9 @@
 -- What the code of the spread computes: sums by the degree, and a sum rounded up.
 use mathlib.Core.Path.{_≡_, refl, _∙_, ap}
+use mathlib.Core.Bool.{Bool}
 use mathlib.Core.List.{List, [], _∷_}
 use Prim.Native.Nat.{ℕ, suc, _+_, _-_, _*_, _/_, _%_, _^_, _≤_, _<_, zero-le}
-use native.Mathlib.Nat.{add-zero, mul-comm, mul-le-mul, le-refl, le-trans, lt-of-le-of-lt, div-div-eq-div-mul, mod-eq-of-lt}
+use native.Mathlib.Nat.{add-zero, mul-zero, mul-comm, mul-add, mul-assoc, mul-le-mul, le-refl, le-trans, lt-of-le-of-lt, div-div-eq-div-mul, mod-eq-of-lt}
 use native.Mathlib.Omega.{arith}
 use lib.Dec.{T, leb, leb→le, lit<, lit≤}
 use lib.Pow.{pow-mono, pow-pos}
@@ -26,20 +27,20 @@ use Rattle.setting.specs.Setting.{HasRows}
 use Rattle.bound_rows.specs.Rule.{gapOf}
 use Rattle.bound_rows.proofs.Rule.{gap-most}
 use Rattle.bound_pieces.specs.declared.Pieces.{Pieces}
-use Rattle.bound_pieces.specs.Inside.{gapsSum, spreadOf, nearGap, farGap, cornerOf, sumsOf, exactOf}
+use Rattle.bound_pieces.specs.Inside.{gapsSum, times, spreadOf, nearGap, farGap, cornerOf, sumsOf, exactOf}
 use Rattle.bound_pieces.specs.Inside.{gapsOf, piecesBy, piecesOf}
-use Rattle.bound_pieces.proofs.Apart.{up-most}
+use Rattle.bound_pieces.proofs.Apart.{up-most, times-most}
 use Rattle.bound_pieces.proofs.Corners.{pieces-tested}
 
 pub same-size : {B r : ℕ} {z : ℤ} → r ≡ natAbs z → Small B z → (r ≡ natAbs z) × (r ≤ B)
 same-size e h = (e, rw e (h .size))
 
--- ---- a fraction over 625 × 2^s, rounded up: raised by the denominator less one, then divided down in two steps
+-- ---- a fraction over 3750 × 2^s, rounded up: raised by the denominator less one, then divided down in two steps
 abbrev pub unit : ℕ → ℕ
-unit s = 625 * 2 ^ s
+unit s = 3750 * 2 ^ s
 
-pub unit-under : {s : ℕ} → s ≤ 24 → unit s ≤ 625 * 2 ^ 24
-unit-under h = mul-le-mul (le-refl 625) (pow-mono h)
+pub unit-under : {s : ℕ} → s ≤ 24 → unit s ≤ 3750 * 2 ^ 24
+unit-under h = mul-le-mul (le-refl 3750) (pow-mono h)
 
 pub unit-some : (s : ℕ) → 0 < unit s
 unit-some s = omega (arith, pow-pos s)
@@ -51,19 +52,19 @@ unit-is h = mod-eq-of-lt (lt-of-le-of-lt (unit-under h) (lit< tt))
 pub unit-less : {s : ℕ} → s ≤ 24 → unit s % 2 ^ 64 - 1 ≡ unit s - 1
 unit-less h = ap (λ (q : ℕ). q - 1) (unit-is h)
 
-module _ (n s : ℕ) (h : n ≤ 2 ^ 36 * 2 ^ s) (l : s ≤ 24) where
-  pub raised-under : n + (unit s - 1) ≤ 2 ^ 61
+module _ (n s : ℕ) (h : n ≤ 6 * (2 ^ 36 * 2 ^ s)) (l : s ≤ 24) where
+  pub raised-under : n + (unit s - 1) ≤ 7 * 2 ^ 60
   raised-under = omega (arith, h, unit-under l, pow-mono l)
 
-  whole-under : spreadOf n s ≤ 2 ^ 27
+  pub whole-under : spreadOf n s ≤ 2 ^ 27
   unfolding spreadOf
   whole-under = le-trans (up-most n (unit s) 109951163 (unit-some s) (omega (arith, h))) (lit≤ tt)
 
-  whole-is : (n + (unit s - 1)) / 2 ^ s / 625 ≡ spreadOf n s
+  whole-is : (n + (unit s - 1)) / 2 ^ s / 3750 ≡ spreadOf n s
   unfolding spreadOf
-  whole-is = div-div-eq-div-mul (n + (unit s - 1)) (2 ^ s) 625 ∙ ap (λ q. (n + (unit s - 1)) / q) (mul-comm (2 ^ s) 625)
+  whole-is = div-div-eq-div-mul (n + (unit s - 1)) (2 ^ s) 3750 ∙ ap (λ q. (n + (unit s - 1)) / q) (mul-comm (2 ^ s) 3750)
 
-  pub whole-computed : Computed (2 ^ 27) (pos (spreadOf n s)) (toZ w64 ((n + (unit s - 1)) / 2 ^ s / 625))
+  pub whole-computed : Computed (2 ^ 27) (pos (spreadOf n s)) (toZ w64 ((n + (unit s - 1)) / 2 ^ s / 3750))
   whole-computed =
       let e = ap (toZ w64) whole-is ∙ toZ-pos w64 (lt-of-le-of-lt whole-under (lit< tt)) in
       record { is = e; size = rw e whole-under }
@@ -81,16 +82,16 @@ module _ (m : ℕ) (h : HasRows m) where
   unfolding farGap
   far-most = omega (arith, gap-most m 3 h (lit≤ tt) refl)
 
-module _ {p : Pieces} (h : HasRows (p .m)) (e : p ≡ piecesOf (p .m)) where
-  pub single-is : p .single ≡ gapOf (p .m) 2
+module _ {p : Pieces} (h : HasRows (p .m)) (e : p ≡ piecesOf (p .m) (p .sixths)) where
+  pub single-is : p .single ≡ times (p .sixths) * gapOf (p .m) 2
   unfolding piecesOf piecesBy
   single-is = ap (λ q. q .single) e
 
-  pub near-is : p .near ≡ nearGap (p .m)
+  pub near-is : p .near ≡ times (p .sixths) * nearGap (p .m)
   unfolding piecesOf piecesBy
   near-is = ap (λ q. q .near) e
 
-  pub far-is : p .far ≡ farGap (p .m)
+  pub far-is : p .far ≡ times (p .sixths) * farGap (p .m)
   unfolding piecesOf piecesBy farGap
   far-is = ap (λ q. q .far) e
 
@@ -106,17 +107,17 @@ module _ {p : Pieces} (h : HasRows (p .m)) (e : p ≡ piecesOf (p .m)) where
   unfolding piecesOf piecesBy
   quintic-is = ap (λ q. q .quintic) e
 
-  pub single-under : p .single ≤ 7500
-  single-under = rw single-is (gap-most (p .m) 2 h (lit≤ tt) refl)
+  pub single-under : p .single ≤ 45000
+  single-under = rw single-is (mul-le-mul (times-most (p .sixths)) (gap-most (p .m) 2 h (lit≤ tt) refl))
 
-  pub near-under : p .near ≤ 7500
-  near-under = rw near-is (near-most (p .m) h)
+  pub near-under : p .near ≤ 45000
+  near-under = rw near-is (mul-le-mul (times-most (p .sixths)) (near-most (p .m) h))
 
-  pub far-under : p .far ≤ 7500
-  far-under = rw far-is (far-most (p .m) h)
+  pub far-under : p .far ≤ 45000
+  far-under = rw far-is (mul-le-mul (times-most (p .sixths)) (far-most (p .m) h))
 
 -- a gap times the size of a difference
-pub product-under : {g n : ℕ} → g ≤ 7500 → n ≤ 2 ^ 46 → g * n ≤ 7500 * 2 ^ 46
+pub product-under : {G g n : ℕ} → g ≤ G → n ≤ 2 ^ 46 → g * n ≤ G * 2 ^ 46
 product-under l h = mul-le-mul l h
 
 -- ---- the sums, by the degree
@@ -124,19 +125,19 @@ product-under l h = mul-le-mul l h
 pub size-is : {n : ℕ} {δ r : ℤ} → Computed (2 ^ 46) δ r → n ≡ natAbs (stored w64 r) → n ≡ natAbs δ
 size-is h e = e ∙ ap natAbs (stored-is h tt)
 
-module _ (m : ℕ) {d : ℕ} (cs : List ℤ) where
-  pub line-sums : d ≡ 1 → 0 ∷ 0 ∷ [] ≡ sumsOf m d cs
+module _ (b : Bool) (m : ℕ) {d : ℕ} (cs : List ℤ) where
+  pub line-sums : d ≡ 1 → 0 ∷ 0 ∷ [] ≡ sumsOf b m d cs
   unfolding gapsSum cornerOf
-  line-sums e = rw e
+  line-sums e = rw (e, mul-zero)
 
-  pub quadratic-sums : {g n : ℕ} → d ≡ 2 → g ≡ gapOf m 2 → n ≡ natAbs (difference cs 0) → g * n ∷ g * n ∷ [] ≡ sumsOf m d cs
+  pub quadratic-sums : {g n : ℕ} → d ≡ 2 → g ≡ times b * gapOf m 2 → n ≡ natAbs (difference cs 0) → g * n ∷ g * n ∷ [] ≡ sumsOf b m d cs
   unfolding gapsSum cornerOf
-  quadratic-sums e p f = simp (e, p, f, add-zero)
+  quadratic-sums e p f = simp (e, p, f, add-zero, mul-assoc)
 
-  pub cubic-sums : {a b x y : ℕ} → d ≡ 3 → a ≡ nearGap m → b ≡ farGap m → x ≡ natAbs (difference cs 0) → y ≡ natAbs (difference cs 1)
-      → (a * x + b * y) ∷ (b * x + a * y) ∷ [] ≡ sumsOf m d cs
+  pub cubic-sums : {u v x y : ℕ} → d ≡ 3 → u ≡ times b * nearGap m → v ≡ times b * farGap m → x ≡ natAbs (difference cs 0)
+      → y ≡ natAbs (difference cs 1) → (u * x + v * y) ∷ (v * x + u * y) ∷ [] ≡ sumsOf b m d cs
   unfolding gapsSum cornerOf
-  cubic-sums e p q f g = simp (e, p, q, f, g, add-zero)
+  cubic-sums e p q f g = simp (e, p, q, f, g, add-zero, mul-add, mul-assoc)
 
 -- ---- how large the sums of a node are: each gap is at most 7500, and second differences are within 2^22 of a unit
 module _ (m : ℕ) (h : HasRows m) (W : ℕ) (cs : List ℤ) (each : (k : ℕ) → natAbs (difference cs k) ≤ W) where
@@ -145,21 +146,19 @@ module _ (m : ℕ) (h : HasRows m) (W : ℕ) (cs : List ℤ) (each : (k : ℕ) �
   sum-under {a} {b} ha hb = degrees (λ d. gapsSum (cornerOf m a b d) 0 cs ≤ 15000 * W) zero-le
       (omega (arith, mul-le-mul (gap-most m 2 h (lit≤ tt) refl) (each 0))) (omega (arith, mul-le-mul ha (each 0), mul-le-mul hb (each 1)))
 
-module _ {m depth : ℕ} {c : Curve} (h : HasRows m) (s : Sized depth c) (few : c .degree ≤ 3) where
+module _ (b : Bool) {m depth : ℕ} {c : Curve} (h : HasRows m) (s : Sized depth c) (few : c .degree ≤ 3) where
   abbrev B : ℕ
-  B = 2 ^ 36 * 2 ^ (c .degree * depth)
+  B = 6 * (2 ^ 36 * 2 ^ (c .degree * depth))
 
-  both-under : (cs : List ℤ) {ns : List ℕ} → Each (2 ^ 20 * 2 ^ (c .degree * depth)) cs → ns ≡ sumsOf m (c .degree) cs
+  both-under : (cs : List ℤ) {ns : List ℕ} → Each (2 ^ 20 * 2 ^ (c .degree * depth)) cs → ns ≡ sumsOf b m (c .degree) cs
       → (getD ns 0 0 ≤ B) × (getD ns 1 0 ≤ B)
   both-under cs each e = rw e (one (near-most m h) (far-most m h), one (far-most m h) (near-most m h))
     where
-      one : {a b : ℕ} → a ≤ 7500 → b ≤ 7500 → gapsSum (cornerOf m a b (c .degree)) 0 cs ≤ B
-      one ha hb = omega (
-        arith,
-        sum-under m h (4 * (2 ^ 20 * 2 ^ (c .degree * depth))) cs (difference-under each) ha hb (c .degree) (s .least) few,
-      )
+      one : {u v : ℕ} → u ≤ 7500 → v ≤ 7500 → times b * gapsSum (cornerOf m u v (c .degree)) 0 cs ≤ B
+      one hu hv = mul-le-mul (times-most b) (le-trans
+          (sum-under m h (4 * (2 ^ 20 * 2 ^ (c .degree * depth))) cs (difference-under each) hu hv (c .degree) (s .least) few) (omega arith))
 
-  pub sums-under : {xs ys : List ℕ} → xs ≡ sumsOf m (c .degree) (c .x) → ys ≡ sumsOf m (c .degree) (c .y)
-      → ((getD xs 0 0 ≤ 2 ^ 36 * 2 ^ (c .degree * depth)) × (getD xs 1 0 ≤ 2 ^ 36 * 2 ^ (c .degree * depth)))
-      × ((getD ys 0 0 ≤ 2 ^ 36 * 2 ^ (c .degree * depth)) × (getD ys 1 0 ≤ 2 ^ 36 * 2 ^ (c .degree * depth)))
+  pub sums-under : {xs ys : List ℕ} → xs ≡ sumsOf b m (c .degree) (c .x) → ys ≡ sumsOf b m (c .degree) (c .y)
+      → ((getD xs 0 0 ≤ 6 * (2 ^ 36 * 2 ^ (c .degree * depth))) × (getD xs 1 0 ≤ 6 * (2 ^ 36 * 2 ^ (c .degree * depth))))
+      × ((getD ys 0 0 ≤ 6 * (2 ^ 36 * 2 ^ (c .degree * depth))) × (getD ys 1 0 ≤ 6 * (2 ^ 36 * 2 ^ (c .degree * depth))))
   sums-under ex ey = (both-under (c .x) (s .x) ex, both-under (c .y) (s .y) ey)

@@ -10,7 +10,7 @@ use lib.Dec.{eqb}
 use lib.IntN.{ℤ, _+ℤ_, _-ℤ_}
 use lib.Signed.{ltZ}
 use borrow.Author.Tests.{lt-ltb, le-ltb}
-use Rattle.setting.specs.Setting.{Setting, lists}
+use Rattle.setting.specs.Setting.{Setting}
 use Rattle.integers.specs.Squares.{squared}
 use Rattle.integers.proofs.Ranges.{lt-no}
 use Rattle.curve_nodes.specs.declared.Curve.{Curve}
@@ -22,9 +22,10 @@ use Rattle.bound_coordinate.specs.Higher.{higherOf, higherLow, higherHigh}
 use Rattle.bound_coordinate.proofs.LowHigh.{low-is, high-is, higher-low-is, higher-high-is}
 use Rattle.bound_enclosure.specs.AtDepth.{lowOf, highOf}
 use Rattle.bound_pieces.specs.declared.Pieces.{Pieces}
-use Rattle.bound_pieces.specs.Inside.{gapAt, widestAt, farGap, exactOf, Ready, acrossBy, higherAcrossBy}
+use Rattle.bound_pieces.specs.Inside.{gapAt, widestAt, farGap, exactOf, settingOf, Ready, acrossBy, higherAcrossBy}
 use Rattle.bound_node.specs.Boxes.{boxAt, meets}
 use Rattle.bound_pieces.proofs.Boxes.{low-takes, many-takes}
+use Rattle.bound_pieces.proofs.PiecesLaws.{divisor-is}
 use Rattle.bound_node.proofs.Narrow.{diagonal, longer-wide, wide-fails, narrow-meets}
 
 -- ---- by the degree
@@ -45,21 +46,21 @@ none-next f n before here j l = ⊎-elim (λ e. rw e here) (λ k. before j k) (e
     last = omega arith
 
 -- the code's squares of the diagonals are those of the boxes; q is the square of the tolerance, as the code holds it
-module _ {m : ℕ} (depth : ℕ) (c : Curve) (across : ℕ → ℤ) (is : (i : ℕ) → i ≤ m → across i ≡ diagonal (lists m) depth c i)
+module _ (σ : Setting) (depth : ℕ) (c : Curve) (across : ℕ → ℤ) (is : (i : ℕ) → i ≤ σ .pieces → across i ≡ diagonal σ depth c i)
     (tolerance : ℤ) {q : ℤ} (eq : q ≡ squared tolerance) where
-  pub box-fails : (i : ℕ) → i ≤ m → ltZ q (across i) ≡ true → meets (lists m) tolerance depth c ≡ false
+  pub box-fails : (i : ℕ) → i ≤ σ .pieces → ltZ q (across i) ≡ true → meets σ tolerance depth c ≡ false
   unfolding boxAt
-  box-fails i hi e = wide-fails (lists m) tolerance depth c i hi
-      (longer-wide tolerance (boxAt (lists m) depth c i) (ap₂ ltZ (sym eq) (sym (is i hi)) ∙ e))
+  box-fails i hi e = wide-fails σ tolerance depth c i hi
+      (longer-wide tolerance (boxAt σ depth c i) (ap₂ ltZ (sym eq) (sym (is i hi)) ∙ e))
 
-  pub boxes-pass : ((i : ℕ) → i < m + 1 → ltZ q (across i) ≡ false) → meets (lists m) tolerance depth c ≡ true
-  boxes-pass f = narrow-meets (lists m) tolerance depth c (record {
+  pub boxes-pass : ((i : ℕ) → i < σ .pieces + 1 → ltZ q (across i) ≡ false) → meets σ tolerance depth c ≡ true
+  boxes-pass f = narrow-meets σ tolerance depth c (record {
     each = λ i hi. lt-no (ap₂ ltZ (sym eq) (sym (is i hi)) ∙ f i (omega arith));
   })
 
 module _ {p : Pieces} {rows : List ℤ} (r : Ready p rows) {depth : ℕ} {c : Curve} (s : Sized depth c) where
   abbrev σ : Setting
-  σ = lists (p .m)
+  σ = settingOf p
 
   abbrev shift : ℕ
   shift = c .degree * depth
@@ -70,26 +71,26 @@ module _ {p : Pieces} {rows : List ℤ} (r : Ready p rows) {depth : ℕ} {c : Cu
   -- ---- degrees 1 to 3
   module _ (few : c .degree ≤ 3) {x y : Terms} (ex : x ≡ termsOf (p .m) (c .degree) (c .x)) (ey : y ≡ termsOf (p .m) (c .degree) (c .y)) where
     side : {t : Terms} (cs : List ℤ) → t ≡ termsOf (p .m) (c .degree) cs → (i : ℕ) → i ≤ p .m
-        → Across cs (squared (highBy (p .m) shift rows t i -ℤ lowBy (p .m) shift rows t i)) i
+        → Across cs (squared (highBy (p .divisor) shift rows t i -ℤ lowBy (p .divisor) shift rows t i)) i
     side cs e i hi =
         let takes = low-takes (c .degree) (p .m) few in
-        ap (λ t. squared (highBy (p .m) shift rows t i -ℤ lowBy (p .m) shift rows t i)) e
+        ap₂ (λ q t. squared (highBy q shift rows t i -ℤ lowBy q shift rows t i)) (divisor-is (r .has) (r .is)) e
         ∙ ap₂ (λ a b. squared (a -ℤ b)) (high-is σ (r .has) (s .most) takes cs hi depth (r .copied) few)
         (low-is σ (r .has) (s .most) takes cs hi depth (r .copied) few)
 
-    pub across-is : (i : ℕ) → i ≤ p .m → acrossBy (p .m) (c .degree * depth) rows x y i ≡ diagonal (lists (p .m)) depth c i
+    pub across-is : (i : ℕ) → i ≤ p .m → acrossBy (p .divisor) (c .degree * depth) rows x y i ≡ diagonal (settingOf p) depth c i
     across-is i hi = ap₂ _+ℤ_ (side (c .x) ex i hi) (side (c .y) ey i hi)
 
   -- ---- degrees 4 and 5
-  module _ (many : 3 < c .degree) (l : 3 ≤ p .m) {x y : Higher} (ex : x ≡ higherOf (p .m) (c .degree) (c .degree * depth) (c .x))
+  module _ (many : 3 < c .degree) (l : 3 ≤ p .m) (units : p .sixths ≡ false) {x y : Higher} (ex : x ≡ higherOf (p .m) (c .degree) (c .degree * depth) (c .x))
       (ey : y ≡ higherOf (p .m) (c .degree) (c .degree * depth) (c .y)) where
     higher-side : {t : Higher} (cs : List ℤ) → t ≡ higherOf (p .m) (c .degree) (c .degree * depth) cs → (i : ℕ) → i ≤ p .m
         → Across cs (squared (higherHigh (p .m) shift rows t i -ℤ higherLow (p .m) shift rows t i)) i
     higher-side cs e i hi =
         let takes = many-takes (c .degree) (p .m) l in
         ap (λ t. squared (higherHigh (p .m) shift rows t i -ℤ higherLow (p .m) shift rows t i)) e
-        ∙ ap₂ (λ a b. squared (a -ℤ b)) (higher-high-is σ (r .has) (s .most) takes cs hi depth (r .copied) many)
-        (higher-low-is σ (r .has) (s .most) takes cs hi depth (r .copied) many)
+        ∙ ap₂ (λ a b. squared (a -ℤ b)) (higher-high-is σ (r .has) (s .most) takes cs hi depth (r .copied) many units)
+        (higher-low-is σ (r .has) (s .most) takes cs hi depth (r .copied) many units)
 
-    pub higher-across-is : (i : ℕ) → i ≤ p .m → higherAcrossBy (p .m) (c .degree * depth) rows x y i ≡ diagonal (lists (p .m)) depth c i
+    pub higher-across-is : (i : ℕ) → i ≤ p .m → higherAcrossBy (p .m) (c .degree * depth) rows x y i ≡ diagonal (settingOf p) depth c i
     higher-across-is i hi = ap₂ _+ℤ_ (higher-side (c .x) ex i hi) (higher-side (c .y) ey i hi)

@@ -3,12 +3,12 @@ ghost use mathlib.Core.Path.{_≡_};
 ghost use Prim.Native.Nat.{_≤_, _^_};
 ghost use lib.IntN.{_+ℤ_};
 ghost use lib.Signed.{ltZ};
-ghost use Rattle.setting.specs.Setting.{HasRows, lists};
+ghost use Rattle.setting.specs.Setting.{HasRows};
 ghost use Rattle.integers.specs.Squares.{squared};
 ghost use Rattle.curve_nodes.specs.Bounds.{Sized};
 ghost use Rattle.bound_coordinate.specs.Inside.{Small};
-ghost use Rattle.bound_coordinate.specs.Terms.{Computable};
-ghost use Rattle.bound_pieces.specs.Inside.{piecesOf, exactOf, Ready, acrossBy};
+ghost use Rattle.bound_coordinate.specs.Terms.{ComputableAt};
+ghost use Rattle.bound_pieces.specs.Inside.{piecesOf, settingOf, exactOf, Ready, acrossBy};
 ghost use Rattle.bound_node.specs.Boxes.{meets};
 use bound_coordinate::break_points::high_at;
 use bound_coordinate::break_points::low_at;
@@ -30,7 +30,7 @@ pub fn is_longer(width: i64, height: i64, square: i64) -> bool
 
 // The corners of the degree are break points.
 fn is_exact(pieces: Pieces, degree: u32) -> bool
-    requires { ⌜ (HasRows (pieces .m)) × (pieces ≡ piecesOf (pieces .m)) ⌝ }
+    requires { ⌜ (HasRows (pieces .m)) × (pieces ≡ piecesOf (pieces .m) (pieces .sixths)) ⌝ }
     ensures { λ r. ⌜ r ≡ exactOf (pieces .m) degree ⌝ }
 {
     if degree < 3 {
@@ -46,38 +46,39 @@ fn is_wide(
     y: Terms,
     shift: u32,
     scale: usize,
-    m: usize,
+    divisor: usize,
     i: usize,
     square: i64,
 ) -> bool
-    requires { ⌜ (Computable m shift scale (now rows) x) × (Computable m shift scale (now rows) y) × (i ≤ m) ⌝ }
-    ensures { λ r. ⌜ r ≡ ltZ square (acrossBy m shift (now (rows .entry)) x y i) ⌝ }
+    requires { ⌜ (ComputableAt divisor shift scale i (now rows) x)
+        × (ComputableAt divisor shift scale i (now rows) y) ⌝ }
+    ensures { λ r. ⌜ r ≡ ltZ square (acrossBy divisor shift (now (rows .entry)) x y i) ⌝ }
 {
-    let x_low = low_at(rows, x, shift, scale, m, i);
-    let x_high = high_at(rows, x, shift, scale, m, i);
-    let y_low = low_at(rows, y, shift, scale, m, i);
-    let y_high = high_at(rows, y, shift, scale, m, i);
+    let x_low = low_at(rows, x, shift, scale, divisor, i);
+    let x_high = high_at(rows, x, shift, scale, divisor, i);
+    let y_low = low_at(rows, y, shift, scale, divisor, i);
+    let y_high = high_at(rows, y, shift, scale, divisor, i);
     is_longer(x_high - x_low, y_high - y_low, square)
 }
 
-// The boxes at all break points are narrow.
-fn boxes_meet(rows: &[i64], pieces: Pieces, curve: Curve, depth: u32, t: i64) -> bool
+// The boxes at all break points are narrow. The square is that of the tolerance.
+fn boxes_meet(rows: &[i64], pieces: Pieces, curve: Curve, depth: u32, t: i64, square: i64) -> bool
     requires { ⌜ (Ready pieces (now rows)) × (Sized depth curve) × (curve .degree ≤ 3) × (depth ≤ 8)
-        × (Small (2 ^ 27) t) ⌝ }
-    ensures { λ r. ⌜ r ≡ meets (lists (pieces .m)) t depth curve ⌝ }
+        × (square ≡ squared t) ⌝ }
+    ensures { λ r. ⌜ r ≡ meets (settingOf pieces) t depth curve ⌝ }
 {
     let m = pieces.m;
+    let divisor = pieces.divisor;
     let scale = pieces.scale;
     let degree = curve.degree;
     let xs = curve.x;
     let ys = curve.y;
     let shift = degree * depth;
-    let square = t * t;
     let x = terms_of(xs, degree, m);
     let y = terms_of(ys, degree, m);
     let mut i: usize = 0;
     while i <= m {
-        if is_wide(rows, x, y, shift, scale, m, i, square) {
+        if is_wide(rows, x, y, shift, scale, divisor, i, square) {
             return false;
         }
         i += 1;
@@ -91,7 +92,7 @@ fn boxes_meet(rows: &[i64], pieces: Pieces, curve: Curve, depth: u32, t: i64) ->
 // and so no square wraps.
 pub fn meets(rows: &[i64], pieces: Pieces, curve: Curve, depth: u32, t: i64) -> bool
     requires { ⌜ (Ready pieces (now rows)) × (Sized depth curve) × (curve .degree ≤ 3) × (depth ≤ 8) ⌝ }
-    ensures { λ r. ⌜ r ≡ meets (lists (pieces .m)) t depth curve ⌝ }
+    ensures { λ r. ⌜ r ≡ meets (settingOf pieces) t depth curve ⌝ }
 {
     if t < -134217728 {
         return true;
@@ -106,7 +107,7 @@ pub fn meets(rows: &[i64], pieces: Pieces, curve: Curve, depth: u32, t: i64) -> 
     let x = crate::spread::sums(pieces, xs, degree);
     let y = crate::spread::sums(pieces, ys, degree);
     let shift = degree * depth;
-    let more = (625u64 << shift) - 1;
+    let more = (3750u64 << shift) - 1;
     let x1 = x[0];
     let x2 = x[1];
     let y1 = y[0];
@@ -122,7 +123,7 @@ pub fn meets(rows: &[i64], pieces: Pieces, curve: Curve, depth: u32, t: i64) -> 
         if is_longer(width, crate::spread::whole(there, more, shift), square) {
             return false;
         }
-        return boxes_meet(rows, pieces, curve, depth, t);
+        return boxes_meet(rows, pieces, curve, depth, t, square);
     }
-    boxes_meet(rows, pieces, curve, depth, t)
+    boxes_meet(rows, pieces, curve, depth, t, square)
 }

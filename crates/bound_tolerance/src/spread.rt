@@ -20,19 +20,20 @@ pub fn size(difference: i64) -> u64
     }
 }
 
-// The fraction of a sum over 625 times a power of 2, rounded up: one less than the denominator is added.
+// The fraction of a sum, times 6 over the scale of control values, over 3750 times a power of 2, rounded up: one less
+// than the denominator is added.
 pub fn whole(sum: u64, more: u64, shift: u32) -> i64
-    requires { ⌜ (sum ≤ 2 ^ 36 * 2 ^ shift) × (more ≡ 625 * 2 ^ shift - 1) × (shift ≤ 24) ⌝ }
+    requires { ⌜ (sum ≤ 6 * (2 ^ 36 * 2 ^ shift)) × (more ≡ 3750 * 2 ^ shift - 1) × (shift ≤ 24) ⌝ }
     ensures { λ r. ⌜ Computed (2 ^ 27) (pos (spreadOf sum shift)) r ⌝ }
 {
-    (((sum + more) >> shift) / 625) as i64
+    (((sum + more) >> shift) / 3750) as i64
 }
 
-// The sums of one coordinate at the two corners: gaps times the sizes of its second differences. At degree 2 they are
-// the same.
+// The sums of one coordinate at the two corners: gaps times the sizes of its second differences, times 6 over the scale
+// of control values. At degree 2 they are the same.
 pub fn sums(pieces: Pieces, c: [i64; 6], degree: u32) -> [u64; 2]
-    requires { ⌜ (HasRows (pieces .m)) × (pieces ≡ piecesOf (pieces .m)) × (Boundable c degree) ⌝ }
-    ensures { λ r. ⌜ r ≡ sumsOf (pieces .m) degree c ⌝ }
+    requires { ⌜ (HasRows (pieces .m)) × (pieces ≡ piecesOf (pieces .m) (pieces .sixths)) × (Boundable c degree) ⌝ }
+    ensures { λ r. ⌜ r ≡ sumsOf (pieces .sixths) (pieces .m) degree c ⌝ }
 {
     match degree {
         1 => [0, 0],

@@ -1,6 +1,6 @@
 -- What the gaps tell of a node of degree 4 or 5: no break point has more than `mostOf`, and the two ends have at least `endOf`.
 use mathlib.Core.Path.{_≡_, refl, sym, _∙_, ap, subst}
-use mathlib.Core.Bool.{Bool, _&&_}
+use mathlib.Core.Bool.{Bool, false, _&&_}
 use mathlib.Core.Logic.{⊎-elim}
 use mathlib.Core.List.{List, [], _∷_}
 use Prim.Native.Nat.{ℕ, zero, suc, _+_, _-_, _*_, _^_, _≤_, _<_, max, zero-le, suc-le-suc}
@@ -19,7 +19,7 @@ use Rattle.curve_nodes.proofs.Sizes.{difference-under}
 use Rattle.bound_rows.specs.Table.{table, rowsOf}
 use Rattle.bound_rows.specs.Rule.{gapOf}
 use Rattle.bound_pieces.specs.declared.Gaps.{Gaps}
-use Rattle.bound_pieces.specs.Inside.{gapAt, gapsAt, gapsSum, gapsOf}
+use Rattle.bound_pieces.specs.Inside.{gapAt, gapsAt, gapsSum, times, gapsOf}
 use Rattle.bound_pieces.specs.Inside.{SmallGaps}
 use Rattle.bound_tolerance_higher.specs.Told.{sizesOf, mostOf, endOf, SmallSizes, Spread, SpreadAt}
 use Rattle.bound_pieces.proofs.Corners.{many-tested, both-degrees}
@@ -141,6 +141,10 @@ module _ (m : ℕ) (h : HasRows m) (l : 3 ≤ m) (cs : List ℤ) where
         (spread-most (outerAt m d i) (innerAt m d i) (gapOf m d) (outerAt m d 0) (outerSize d) (innerSize d)
         (outer-under d a b i hi) (all-under d a b i hi)))
 
+    -- the same of sums that are multiplied as those of whole control values are
+    pub most-covers-times : {b : Bool} → b ≡ false → (i : ℕ) → i ≤ m → times b * gapsSum (gapsAt (rowsOf m d) i) 0 cs ≤ 6 * mostOf g ns
+    most-covers-times units i hi = rw units (mul-le-mul (le-refl 6) (most-covers i hi))
+
     -- the first break point has at least this, and the last one from its own end
     pub first-reaches : {a₀ a₁ : ℕ} → a₀ ≡ size 0 → a₁ ≡ size 1 → endOf g (a₀ ∷ a₁ ∷ []) ≤ gapsSum (gapsAt (rowsOf m d) 0) 0 cs
     first-reaches e₀ e₁ = rw (e, many-gaps m d l, e₀, e₁) (first-least d a b)
@@ -163,6 +167,9 @@ module _ (m : ℕ) (h : HasRows m) (l : 3 ≤ m) (cs : List ℤ) where
           mul-le-mul (leb→le (gapAt m d 0 0) (gapAt m d (d - 2) m) (and-left p q ends)) (le-refl (size (d - 2))),
           mul-le-mul (leb→le (gapAt m d 1 0) (gapAt m d (d - 3) m) (and-right p q ends)) (le-refl (size (d - 3))),
         )
+
+pub times-reaches : {b : Bool} {w n : ℕ} → b ≡ false → w ≤ n → 6 * w ≤ times b * n
+times-reaches units h = rw units (mul-le-mul (le-refl 6) h)
 
 -- ---- how large all of that is
 each-under : {B : ℕ} {cs : List ℤ} → Each B cs → (d p : ℕ) → getD (sizesOf d cs) p 0 ≤ 4 * B

@@ -1,13 +1,14 @@
 // The test that a node of degree 4 or 5 meets the tolerance: what the gaps tell, and the boxes.
 ghost use mathlib.Core.Path.{_≡_};
-ghost use mathlib.Core.Bool.{not};
-ghost use Prim.Native.Nat.{_≤_, _<_, _^_};
+ghost use mathlib.Core.Bool.{false, not};
+ghost use Prim.Native.Nat.{_≤_, _<_, _-_, _*_, _^_};
+ghost use lib.IntN.{pos};
 ghost use lib.Signed.{ltZ};
-ghost use Rattle.setting.specs.Setting.{HasRows, lists};
+ghost use Rattle.setting.specs.Setting.{HasRows};
 ghost use Rattle.curve_nodes.specs.Bounds.{Sized};
-ghost use Rattle.bound_coordinate.specs.Inside.{HigherBoundable, Small};
+ghost use Rattle.bound_coordinate.specs.Inside.{HigherBoundable, Small, Computed};
 ghost use Rattle.bound_coordinate.specs.Higher.{HigherComputable};
-ghost use Rattle.bound_pieces.specs.Inside.{piecesOf, gapsOf, Ready, higherAcrossBy};
+ghost use Rattle.bound_pieces.specs.Inside.{spreadOf, piecesOf, settingOf, gapsOf, Ready, higherAcrossBy};
 ghost use Rattle.bound_tolerance_higher.specs.Told.{sizesOf, mostOf, endOf, acrossAbove, acrossOf};
 ghost use Rattle.bound_pieces.specs.Inside.{SmallGaps};
 ghost use Rattle.bound_tolerance_higher.specs.Told.{SmallSizes, Spread, SpreadAt, Told};
@@ -22,7 +23,6 @@ use bound_pieces::Pieces;
 use bound_pieces::larger;
 use bound_tolerance::is_longer;
 use bound_tolerance::spread::size;
-use bound_tolerance::spread::whole;
 use curve_nodes::Curve;
 
 // The box at break point i is too long.
@@ -50,8 +50,8 @@ fn is_wide(
 // The boxes at all break points are narrow.
 pub fn boxes_meet(rows: &[i64], pieces: Pieces, curve: Curve, depth: u32, t: i64) -> bool
     requires { ⌜ (Ready pieces (now rows)) × (3 ≤ pieces .m) × (Sized depth curve) × (3 < curve .degree) × (depth ≤ 4)
-        × (Small (2 ^ 27) t) ⌝ }
-    ensures { λ r. ⌜ r ≡ meets (lists (pieces .m)) t depth curve ⌝ }
+        × (Small (2 ^ 27) t) × (pieces .sixths ≡ false) ⌝ }
+    ensures { λ r. ⌜ r ≡ meets (settingOf pieces) t depth curve ⌝ }
 {
     let m = pieces.m;
     let scale = pieces.scale;
@@ -89,7 +89,8 @@ fn sizes_of(c: [i64; 6], degree: u32) -> [u64; 4]
 
 // The gaps of the degree.
 fn gaps_for(pieces: Pieces, degree: u32) -> Gaps
-    requires { ⌜ (HasRows (pieces .m)) × (pieces ≡ piecesOf (pieces .m)) × (4 ≤ degree) × (degree ≤ 5) ⌝ }
+    requires { ⌜ (HasRows (pieces .m)) × (pieces ≡ piecesOf (pieces .m) (pieces .sixths)) × (4 ≤ degree)
+        × (degree ≤ 5) ⌝ }
     ensures { λ r. ⌜ r ≡ gapsOf (pieces .m) degree ⌝ }
 {
     if degree < 5 {
@@ -110,27 +111,36 @@ fn most(gaps: Gaps, sizes: [u64; 4]) -> u64
     gaps.whole * inner + gaps.outer * beyond
 }
 
+// The fraction of a sum over 625 times a power of 2, rounded up: one less than the denominator is added. Control values
+// of degrees 4 and 5 are whole.
+fn whole_units(sum: u64, more: u64, shift: u32) -> i64
+    requires { ⌜ (sum ≤ 2 ^ 36 * 2 ^ shift) × (more ≡ 625 * 2 ^ shift - 1) × (shift ≤ 24) ⌝ }
+    ensures { λ r. ⌜ Computed (2 ^ 27) (pos (spreadOf (6 * sum) shift)) r ⌝ }
+{
+    (((sum + more) >> shift) / 625) as i64
+}
+
 // The boxes at all break points are narrow: rounded up and one more, no box is wider.
 fn is_narrow(gaps: Gaps, x: [u64; 4], y: [u64; 4], shift: u32, square: i64) -> bool
     requires { ⌜ (Spread gaps shift x) × (Spread gaps shift y) ⌝ }
-    ensures { λ r. ⌜ r ≡ not (ltZ square (acrossAbove (mostOf gaps x) (mostOf gaps y) shift)) ⌝ }
+    ensures { λ r. ⌜ r ≡ not (ltZ square (acrossAbove (6 * mostOf gaps x) (6 * mostOf gaps y) shift)) ⌝ }
 {
     let more = (625u64 << shift) - 1;
-    let width = whole(most(gaps, x), more, shift);
-    let height = whole(most(gaps, y), more, shift);
+    let width = whole_units(most(gaps, x), more, shift);
+    let height = whole_units(most(gaps, y), more, shift);
     !is_longer(width + 1, height + 1, square)
 }
 
 // The box at an end is wide, by the two differences there.
 fn is_wide_at(gaps: Gaps, x: [u64; 2], y: [u64; 2], shift: u32, square: i64) -> bool
     requires { ⌜ (SpreadAt gaps shift x) × (SpreadAt gaps shift y) ⌝ }
-    ensures { λ r. ⌜ r ≡ ltZ square (acrossOf (endOf gaps x) (endOf gaps y) shift) ⌝ }
+    ensures { λ r. ⌜ r ≡ ltZ square (acrossOf (6 * endOf gaps x) (6 * endOf gaps y) shift) ⌝ }
 {
     let more = (625u64 << shift) - 1;
     let first = gaps.first;
     let second = gaps.second;
-    let width = whole(first * x[0] + second * x[1], more, shift);
-    let height = whole(first * y[0] + second * y[1], more, shift);
+    let width = whole_units(first * x[0] + second * x[1], more, shift);
+    let height = whole_units(first * y[0] + second * y[1], more, shift);
     is_longer(width, height, square)
 }
 
@@ -145,9 +155,9 @@ pub enum Verdict {
 // by how far they are apart at its two ends. A tolerance beyond 2^27 is longer than every diagonal, and so no square
 // wraps.
 pub fn verdict_of(pieces: Pieces, curve: Curve, depth: u32, t: i64) -> Verdict
-    requires { ⌜ (HasRows (pieces .m)) × (pieces ≡ piecesOf (pieces .m)) × (3 ≤ pieces .m) × (Sized depth curve)
-        × (3 < curve .degree) × (depth ≤ 4) ⌝ }
-    ensures { λ r. ⌜ Told (lists (pieces .m)) t depth curve r ⌝ }
+    requires { ⌜ (HasRows (pieces .m)) × (pieces ≡ piecesOf (pieces .m) (pieces .sixths)) × (3 ≤ pieces .m)
+        × (Sized depth curve) × (3 < curve .degree) × (depth ≤ 4) × (pieces .sixths ≡ false) ⌝ }
+    ensures { λ r. ⌜ Told (settingOf pieces) t depth curve r ⌝ }
 {
     if t < -134217728 {
         return Verdict::Narrow;

@@ -2,7 +2,7 @@
 ghost use mathlib.Core.Path.{_≡_};
 ghost use lib.ListN.{length};
 ghost use Rattle.setting.specs.Setting.{lists, station};
-ghost use Rattle.band.specs.Banding.{banded, written};
+ghost use Rattle.band.specs.Banding.{banded, written, bandedSpline, writtenSpline};
 ghost use Rattle.judge_points.specs.Points.{pointsJudged, judgedInto};
 ghost use Rattle.draw.specs.Drawing.{drawn, drawnInto};
 ghost use Rattle.contour.specs.Numbers.{bandAnswerOf};
@@ -56,6 +56,23 @@ pub extern "C" fn contour_station_band(
         ≡ written (station m) tolerance (now (outline .entry)) (now (records .entry)) ⌝ }
 {
     let banded = band::station_band(outline, tolerance, m, records);
+    in_numbers(banded)
+}
+
+// The same of a uniform cubic B-spline, by its points: x and y of each.
+#[no_mangle]
+pub extern "C" fn contour_spline_band(
+    points: &[i32],
+    tolerance: i32,
+    m: u32,
+    records: &mut [i32],
+) -> Answer
+    ensures { λ r. ⌜ r
+        ≡ bandAnswerOf (bandedSpline m tolerance (now (points .entry)) (length (now (records .entry)))) ⌝ }
+    ensures { λ r. ⌜ now (records .exit)
+        ≡ writtenSpline m tolerance (now (points .entry)) (now (records .entry)) ⌝ }
+{
+    let banded = band::spline_band(points, tolerance, m, records);
     in_numbers(banded)
 }
 

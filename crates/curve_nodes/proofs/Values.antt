@@ -1,9 +1,9 @@
 -- The halves of a curve: the mirror law, and their values; and a coordinate against its largest control value.
 use mathlib.Core.Path.{_≡_, refl, _∙_, ap, ap₂}
 use mathlib.Core.List.{List}
-use Prim.Native.Nat.{ℕ, zero, suc, _-_, _≤_, _<_}
+use Prim.Native.Nat.{ℕ, zero, suc, _+_, _-_, _≤_, _<_}
 use native.Mathlib.Nat.{le-of-eq}
-use lib.IntN.{ℤ, pos, negℤ, _+ℤ_, _*ℤ_}
+use lib.IntN.{ℤ, pos, negℤ, _+ℤ_, _*ℤ_, pow}
 use lib.Signed.{_≤ℤ_}
 use Rattle.setting.specs.Setting.{mostDegree}
 use Rattle.integers.proofs.RingLaws.{pow-natural, *ℤ-neg}
@@ -15,7 +15,6 @@ use Rattle.curve_halves.proofs.Values.{mirror-padded, half, half-padded-value, 
 use Rattle.curve_nodes.specs.declared.Curve.{Curve}
 use Rattle.curve_nodes.specs.Halves.{leftHalf, rightHalf, reversedOf}
 use Rattle.curve_nodes.specs.Nodes.{halfOf}
-use Rattle.curve_nodes.specs.Points.{scaled}
 
 -- a curve's half is the half of both coordinates
 pub curve-half : (b : ℕ) (c : Curve)
@@ -43,8 +42,8 @@ module _ (p r : ℤ) (b : ℕ) (hb : b < 2) (c : Curve) (h : c .degree ≤ mostD
 
 -- ---- a coordinate lies within its largest control value
 module _ (p r B d : ℕ) (cs : List ℤ) (e : Each B cs) where
-  pub value-high : value (pos p) (pos r) d cs ≤ℤ scaled d p r (pos B)
+  pub value-high : value (pos p) (pos r) d cs ≤ℤ (pow (pos (p + r)) d *ℤ pos B)
   value-high = rw pow-natural (abs-high (value (pos p) (pos r) d cs) (value-within p r B d cs e))
 
-  pub value-low : scaled d p r (negℤ (pos B)) ≤ℤ value (pos p) (pos r) d cs
+  pub value-low : (pow (pos (p + r)) d *ℤ negℤ (pos B)) ≤ℤ value (pos p) (pos r) d cs
   value-low = rw (pow-natural, *ℤ-neg) (abs-low (value (pos p) (pos r) d cs) (value-within p r B d cs e))

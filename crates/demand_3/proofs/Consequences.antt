@@ -6,14 +6,14 @@ use Prim.Native.Nat.{ℕ, _+_, _*_, _^_, _≤_, _<_}
 use native.Mathlib.Omega.{arith}
 use lib.Dec.{lit<}
 use lib.ListN.{length, take}
-use lib.IntN.{ℤ, pos, negℤ, _+ℤ_, pow, one}
-use lib.Signed.{_≤ℤ_, leZ-yes}
+use lib.IntN.{ℤ, pos, negℤ, _+ℤ_, _*ℤ_, pow, one}
+use lib.Signed.{_≤ℤ_, _<ℤ_, leZ-yes}
 use Rattle.integers.specs.Entry.{entry}
 use Rattle.integers.specs.First.{firstBad}
 use Rattle.integers.specs.Squares.{squared}
 use Rattle.integers.proofs.Ring.{ring, sides}
 use Rattle.integers.proofs.Between.{between-low}
-use Rattle.integers.proofs.Order.{NonNeg, gap, natural, nonneg-by, le-by, pos-lt, pow-positive, times-positive, *ℤ-cancel, _+₀_, _×₀_}
+use Rattle.integers.proofs.Order.{NonNeg, gap, gap<, natural, nonneg-by, le-by, pos-le, pos-lt, pow-positive, times-positive, *ℤ-cancel, _+₀_, _×₀_}
 use Rattle.curve_bernstein.specs.Value.{choose, sum, value}
 use Rattle.curve_halves.specs.Sizes.{Each}
 use Rattle.curve_nodes.specs.declared.Curve.{Curve}
@@ -23,7 +23,8 @@ use Rattle.curve_nodes.specs.Points.{Equals, Within, Near}
 use Rattle.curve_nodes.specs.Differences.{largestOf, bend, largest}
 use Rattle.curve_nodes.proofs.Points.{within-near}
 use Rattle.curve_nodes.proofs.Values.{value-high, value-low}
-use Rattle.setting.specs.Setting.{Setting, lists, standard, recordLength}
+use Rattle.setting.specs.Setting.{Setting, lists, standard, scale, recordLength}
+use Rattle.setting.proofs.Scales.{scale-some}
 use Rattle.bound_rows.specs.Table.{table, rowsOf}
 use Rattle.bound_rows.specs.Rule.{gapOf}
 use Rattle.outline.specs.Curves.{curveAt}
@@ -46,25 +47,27 @@ use Rattle.demand_3.proofs.Meeting.{same-curves}
 abbrev pub Reach : ℤ → ℤ → Type 0
 Reach T z = (negℤ (pos 16777216 +ℤ T) ≤ℤ z) × (z ≤ℤ (pos 16777216 +ℤ T))
 
-near-in-reach : (T : ℤ) (d p r : ℕ) (cs : List ℤ) → Each 1048576 cs → 0 < p + r → (z : ℤ) → Near T d p r cs z → Reach T z
-near-in-reach T d p r cs each nonzero z near =
+near-in-reach : (s : ℕ) → 0 < s → (T : ℤ) (d p r : ℕ) (cs : List ℤ) → Each 1048576 cs → 0 < p + r → (z : ℤ) → Near s T d p r cs z → Reach T z
+near-in-reach s hs T d p r cs each nonzero z near =
     let w = pow (pos (p + r)) d in
     let v = value (pos p) (pos r) d cs in
     let low = value-low p r 1048576 d cs each in
     let high = value-high p r 1048576 d cs each in
-    let positive = pow-positive (pos-lt nonzero) d in (
-      *ℤ-cancel positive (le-by (w ∷ v ∷ z ∷ T ∷ []) (gap (near .below) +₀ natural 16 ×₀ gap low) (search sides depth 20) refl),
-      *ℤ-cancel positive (le-by (w ∷ v ∷ z ∷ T ∷ []) (gap (near .above) +₀ natural 16 ×₀ gap high) (search sides depth 20) refl),
+    let positive = pow-positive (pos-lt nonzero) d in
+    let k : pos 0 <ℤ (pos s *ℤ w) = times-positive (pos-lt hs) positive in
+    let more = natural 16777216 ×₀ gap (pos-le hs) ×₀ (gap< positive +₀ natural 1) in (
+      *ℤ-cancel k (le-by (pos s ∷ w ∷ v ∷ z ∷ T ∷ []) (gap (near .below) +₀ natural 16 ×₀ gap low +₀ more) (search sides depth 20) refl),
+      *ℤ-cancel k (le-by (pos s ∷ w ∷ v ∷ z ∷ T ∷ []) (gap (near .above) +₀ natural 16 ×₀ gap high +₀ more) (search sides depth 20) refl),
     )
 
-pub somewhere-in-reach : (T : ℤ) (cs : List Curve) → ((c : Curve) → List·Memᴰ c cs → Sized 0 c)
-    → (x y : ℤ) → NonNeg T → Somewhere T cs x y → Reach T x × Reach T y
-somewhere-in-reach T cs sized x y nonneg s =
+pub somewhere-in-reach : (σ : Setting) (T : ℤ) (cs : List Curve) → ((c : Curve) → List·Memᴰ c cs → Sized 0 c)
+    → (x y : ℤ) → NonNeg T → Somewhere σ T cs x y → Reach T x × Reach T y
+somewhere-in-reach σ T cs sized x y nonneg s =
     let c = s .curve in
     let each = small (sized c (of-member (s .of))) in
     let near = within-near nonneg (s .near) in (
-      near-in-reach T (c .degree) (s .p) (s .r) (c .x) (each .0) (s .some) x (near .0),
-      near-in-reach T (c .degree) (s .p) (s .r) (c .y) (each .1) (s .some) y (near .1),
+      near-in-reach (scale σ) (scale-some σ) T (c .degree) (s .p) (s .r) (c .x) (each .0) (s .some) x (near .0),
+      near-in-reach (scale σ) (scale-some σ) T (c .degree) (s .p) (s .r) (c .y) (each .1) (s .some) y (near .1),
     )
 
 -- ---- the node that stands in a record of depth at most j
@@ -88,7 +91,7 @@ module _ (σ : Setting) (T : ℤ) (ns old : List ℤ) (a b c : ℕ) (done : band
     on-in-reach on =
         let sized = accepted-all (σ .most) (σ .pieces) ns 0 (claim .all) (outlined-from (σ .most) (σ .pieces) ns (claim .all) (claim .are)) in
         let least = between-low (pos 2) (pos 1048576) T (done-exactly σ T ns (length old) a b c .0 done .1 .tolerance) in
-        somewhere-in-reach T (claim .all) sized x y (nonneg-by (T ∷ []) (gap least +₀ natural 2) (search sides depth 20) refl)
+        somewhere-in-reach σ T (claim .all) sized x y (nonneg-by (T ∷ []) (gap least +₀ natural 2) (search sides depth 20) refl)
         (claim .demand-3 .every-on-near on)
 
     -- the node that stands in a leaf's record has depth at most j
@@ -110,7 +113,7 @@ of-a : outlined (standard .most) (standard .pieces) A ≡ curves (curveA ∷ [])
 unfolding outlined outlineFrom faultAt firstBad curveAt
 of-a = refl
 
-pub half-way : Equals curveA 1 1 (pos 240) (pos 360)
+pub half-way : Equals 1 curveA 1 1 (pos 240) (pos 360)
 unfolding value sum choose pow one
 half-way = record { in-x = refl; in-y = refl }
 
@@ -163,7 +166,7 @@ dot-value : (p r : ℤ) → value p r 1 zeros ≡ pos 0
 unfolding value sum choose pow one
 dot-value p r = ring (p ∷ r ∷ []) (search sides depth 40 fits 9999) refl
 
-in-circle : (T x y : ℤ) (p r : ℕ) → 0 < p + r → Within T dot p r x y → (squared x +ℤ squared y) ≤ℤ squared T
+in-circle : (T x y : ℤ) (p r : ℕ) → 0 < p + r → Within 1 T dot p r x y → (squared x +ℤ squared y) ≤ℤ squared T
 in-circle T x y p r nonzero w =
     let W = pow (pos (p + r)) 1 in
     let h = rw (dot-value (pos p) (pos r)) at (w .distance) in
@@ -177,7 +180,7 @@ on-in-circle T old a b c done x y answer judged on =
     let d = claim standard T dotted old a b c done x y answer judged in
     let s = d .demand-3 .every-on-near on in
     let one = List·Memᴰ·eq-of-singleton (subst (λ cs. List·Memᴰ (s .curve) cs) (same-curves (d .are) of-dotted) (of-member (s .of))) in
-    in-circle T x y (s .p) (s .r) (s .some) (subst (λ e. Within T e (s .p) (s .r) x y) one (s .near))
+    in-circle T x y (s .p) (s .r) (s .some) (subst (λ e. Within 1 T e (s .p) (s .r) x y) one (s .near))
 
 -- ---- the point between two curves: the leaf that holds it at the end of the one has a stretch that ends where the curve does, and the leaf that
 -- holds it at the start of the next has one that begins where that curve does

@@ -20,7 +20,7 @@ use Rattle.bound_node.proofs.Narrow.{Narrow, meets-narrow}
 use Rattle.walk_tree.specs.Leaves.{Spans}
 use Rattle.walk_curve.specs.Walked.{nodeMeets}
 use Rattle.boxes.specs.declared.Box.{Box}
-use Rattle.setting.specs.Setting.{Setting, HasRows, covers, recordLength, degreePieces}
+use Rattle.setting.specs.Setting.{Setting, HasRows, scale, covers, recordLength, degreePieces}
 use Rattle.boxes.specs.Records.{boxIndex, boxAtIndex}
 use Rattle.band_records.specs.Records.{boxNumbers, recordOf}
 use Rattle.band_records.proofs.Sound.{record-box}
@@ -74,7 +74,7 @@ module _ (σ : Setting) (c : Curve) (n : ℕ) (hn : 0 < n) {rs : List ℤ} {j : 
 module _ (σ : Setting) (rows : HasRows (σ .pieces)) (c : Curve) (s : Sized 0 c) (takes : degreePieces (c .degree) (σ .pieces) ≡ true) (n : ℕ)
     (hn : 0 < n) where
   -- ---- a point of the curve
-  pub point-held : (p r : ℕ) → 0 < p + r → Spans n p r → (x y : ℤ) → Equals c p r x y → Held σ (nodeBox σ c n) x y
+  pub point-held : (p r : ℕ) → 0 < p + r → Spans n p r → (x y : ℤ) → Equals (scale σ) c p r x y → Held σ (nodeBox σ c n) x y
   point-held p r some within x y equals =
       let P = nonneg-natural (gap (pos-le (within .from))) in
       let to = subst (λ m. 2 ^ depth n * p ≤ m * (p + r)) {x = start n + 1} {y = suc (start n)} (omega arith) (within .to) in
@@ -98,7 +98,7 @@ module _ (σ : Setting) (rows : HasRows (σ .pieces)) (c : Curve) (s : Sized 0 c
   -- ---- a point that a cover of a leaf holds
   pub held-near : (T : ℤ) → nodeMeets σ T c n ≡ true → (i : ℕ) → i < σ .pieces
       → (x y : ℤ) (h : Holds (nodeBox σ c n i) (nodeBox σ c n (suc i)) x y)
-      → Within T c (upP (σ .pieces) n i (h .a) (h .b)) (upR (σ .pieces) n i (h .a) (h .b)) x y
+      → Within (scale σ) T c (upP (σ .pieces) n i (h .a) (h .b)) (upR (σ .pieces) n i (h .a) (h .b)) x y
   held-near T meet i hi x y h =
       let narrow = subst (Narrow σ T (depth n)) (node-curve c n hn) (meets-narrow σ T (depth n) (nodeCurve c n) meet) in
       mixed-within σ rows c (s .least) (s .most) takes n hn i (h .a) (h .b) hi T x y (narrow .each i (omega arith)) (narrow .each (suc i) hi)

@@ -1,9 +1,9 @@
 -- Demand 3, as one theorem from a list of curves and a tolerance to the answer of judging, and from the outline that banding is given. Judging is
 -- known here by what it promises of its answer alone. That it refuses no point of the curves is proved, not assumed.
 use mathlib.Core.Path.{_≡_, refl, sym, _∙_, ap, subst}
-use mathlib.Core.Bool.{true}
+use mathlib.Core.Bool.{true, false}
 use mathlib.Core.List.{List, [], _∷_, _++_, List·Memᴰ, List·Memᴰ·head, Memᴰ·append-right}
-use mathlib.Core.Option.{none}
+use mathlib.Core.Option.{Option, none, some}
 use Prim.Native.Nat.{ℕ, suc, _+_, _*_, _^_, _≤_, _<_}
 use native.Mathlib.Nat.{le-of-eq, mul-zero}
 use native.Mathlib.Omega.{arith}
@@ -16,30 +16,35 @@ use Rattle.curve_halves.specs.Sizes.{Each}
 use Rattle.curve_nodes.specs.Bounds.{Sized}
 use Rattle.curve_nodes.specs.Points.{Equals}
 use Rattle.curve_halves.proofs.Sizes.{each-wider}
-use Rattle.setting.specs.Setting.{Setting, lists, station, HasRows, covers, recordLength, degreePieces, deepest}
-use Rattle.outline.proofs.Accepted.{outlined-from, accepted-most, accepted-some, accepted-all, accepted-pieces}
+use Rattle.setting.specs.Setting.{Setting, listsOf, lists, splines, station, HasRows, scale, covers, recordLength, degreePieces, deepest}
+use Rattle.setting.proofs.Scales.{scale-some}
+use Rattle.refusals.specs.declared.Refusal.{Refusal}
+use Rattle.outline.specs.Checks.{Outlined}
 use Rattle.walk_curve.specs.Walked.{nodeMeets}
 use Rattle.walk_tree.proofs.Leaves.{end-facts}
 use Rattle.band.specs.declared.banding.Banded.the-variants.{Done}
 use Rattle.band_records.specs.Records.{recordOf, allRecords}
-use Rattle.band.specs.Banding.{banded, written}
+use Rattle.band.specs.Banding.{bandGiven, writtenGiven, banded, written, bandedSpline, writtenSpline}
 use Rattle.band_records.specs.Ranges.{SoundList}
 use Rattle.band_passes.specs.Leaves.{leavesOf}
 use Rattle.band_passes.specs.Meeting.{AllMeet}
 use Rattle.band.specs.Outcomes.{Flat}
 use Rattle.band_records.proofs.Sound.{record-curve, record-node}
 use Rattle.band_records.proofs.Standing.{Found, every-end-stands, every-record-stands}
-use Rattle.band.proofs.Theorems.{done-exactly, faultless-rows, records-written, leaves-exactly, every-parameter}
+use Rattle.band.proofs.Theorems.{done-given, faultless-rows, records-given, leaves-exactly, every-parameter}
+use Rattle.band.proofs.Given.{Taken, Given, outline-given, spline-given}
+use Rattle.band.proofs.ByPieces.{listed}
 use Rattle.band.proofs.Station.{done-listed, written-listed}
 use Rattle.band.proofs.Sound.{curves-leaves, curves-sound}
 use Rattle.band.proofs.Depths.{end-depth}
 use Rattle.judge_cover.specs.Covers.{Holds, CoverHolds}
 use Rattle.judge.specs.declared.judging.Judgement.{Judgement}
 use Rattle.judge.specs.declared.judging.Judgement.the-variants.{On, Off, Refused}
-use Rattle.judge.specs.Judging.{Verdict, Judged}
+use Rattle.judge_list.specs.Checks.{numberFault}
+use Rattle.judge.specs.Judging.{judgingFault, Verdict, Judged}
 use Rattle.judge.proofs.Judgements.{judged-on}
 use Rattle.demand_3.specs.Meeting.{HeldAt}
-use Rattle.demand_3.specs.Demand3.{CurveOf, IsOn, Somewhere, Shallow, Demand3, OutlineDemand3}
+use Rattle.demand_3.specs.Demand3.{CurveOf, IsOn, Somewhere, Shallow, Demand3, GivenDemand3, OutlineDemand3, SplineDemand3}
 use Rattle.demand_3.proofs.Passing.{coordinate-fine, none-refused}
 use Rattle.demand_3.proofs.Mixtures.{upP, upR, up-some}
 use Rattle.demand_3.proofs.Covers.{nodeBox, box-there, point-held, held-near}
@@ -54,7 +59,7 @@ module _ (σ : Setting) (rs : List ℤ) (x y : ℤ) where
   held-on (Refused r) v k i hk hi h = absurd v
 
 -- ---- one place of a list, one curve
-same-curve : (bs ds after rest : List Curve) {c d : Curve} → length bs ≡ length ds → bs ++ c ∷ after ≡ ds ++ d ∷ rest → c ≡ d
+pub same-curve : (bs ds after rest : List Curve) {c d : Curve} → length bs ≡ length ds → bs ++ c ∷ after ≡ ds ++ d ∷ rest → c ≡ d
 same-curve [] [] after rest l e = cc
 same-curve [] (d ∷ ds) after rest l e = absurd (omega arith)
 same-curve (b ∷ bs) [] after rest l e = absurd (omega arith)
@@ -76,7 +81,7 @@ module _ (σ : Setting) (rows : HasRows (σ .pieces)) (T : ℤ) (cs : List Curve
   rs = allRecords σ T 0 cs
 
   -- a point of a curve is held by a record of this curve, at a leaf with its parameter
-  pub held-at : (k : ℕ) (c : Curve) → CurveOf cs k c → (p r : ℕ) → 0 < p + r → (x y : ℤ) → Equals c p r x y
+  pub held-at : (k : ℕ) (c : Curve) → CurveOf cs k c → (p r : ℕ) → 0 < p + r → (x y : ℤ) → Equals (scale σ) c p r x y
       → HeldAt σ (allRecords σ T 0 cs) k p r x y
   held-at k c of p r positive x y equals =
       let i = of-member of in
@@ -101,16 +106,16 @@ module _ (σ : Setting) (rows : HasRows (σ .pieces)) (T : ℤ) (cs : List Curve
       }
 
   module _ (n : ℕ) (some : 0 < n) (sound : SoundList σ n rs) (x y : ℤ) (answer : Judgement) (judged : Judged σ rs x y answer) where
-    point-on : (k : ℕ) (c : Curve) → CurveOf cs k c → (p r : ℕ) → 0 < p + r → Equals c p r x y → IsOn answer
+    point-on : (k : ℕ) (c : Curve) → CurveOf cs k c → (p r : ℕ) → 0 < p + r → Equals (scale σ) c p r x y → IsOn answer
     point-on k c of p r positive equals =
         let h = held-at k c of p r positive x y equals in
         let near = small (sized c (of-member of)) in
         let passes = none-refused σ rows some sound x y
-        (coordinate-fine (c .degree) (c .x) (near .0) p r positive x (equals .in-x))
-        (coordinate-fine (c .degree) (c .y) (near .1) p r positive y (equals .in-y)) in
+        (coordinate-fine (scale σ) (scale-some σ) (c .degree) (c .x) (near .0) p r positive x (equals .in-x))
+        (coordinate-fine (scale σ) (scale-some σ) (c .degree) (c .y) (near .1) p r positive y (equals .in-y)) in
         held-on σ rs x y answer (subst (λ f. Verdict σ f rs x y answer) passes judged) (h .place) (h .cover) (h .inside) (h .one-of) (h .holds)
 
-    on-near : IsOn answer → Somewhere T cs x y
+    on-near : IsOn answer → Somewhere σ T cs x y
     on-near on =
         let v = judged-on σ rs x y (on .leaf) (on .cover) (subst (Judged σ rs x y) (on .is) judged) in
         let w = every-record-stands σ T 0 cs (on .leaf) (v .inside) in
@@ -151,49 +156,79 @@ module _ (σ : Setting) (rows : HasRows (σ .pieces)) (T : ℤ) (cs : List Curve
       pos-same : {m n : ℕ} → pos m ≡ pos n → m ≡ n
       pos-same e = cc
 
--- ---- demand 3 of a list of curves: some, not too many, of the size of an outline's, of degrees that take so many pieces, and none too wide
-pub curves-demand-3 : (σ : Setting) → HasRows (σ .pieces) → (T : ℤ) (cs : List Curve) → 0 < length cs → length cs ≤ σ .most
-    → ((c : Curve) → List·Memᴰ c cs → Sized 0 c) → ((c : Curve) → List·Memᴰ c cs → degreePieces (c .degree) (σ .pieces) ≡ true) → AllMeet σ T cs
+-- ---- demand 3 of a list of curves that banding takes, of which none is too wide
+pub curves-demand-3 : (σ : Setting) → HasRows (σ .pieces) → (T : ℤ) (cs : List Curve) → Taken σ cs → AllMeet σ T cs
     → (x y : ℤ) (answer : Judgement) → Judged σ (allRecords σ T 0 cs) x y answer → Demand3 σ T cs (allRecords σ T 0 cs) x y answer
-curves-demand-3 σ rows T cs some few sized takes meet x y answer judged =
-    let one = curves-leaves σ T cs some in
-    let sound = curves-sound σ rows T 0 cs (omega (arith, few)) sized takes in
+curves-demand-3 σ rows T cs t meet x y answer judged =
+    let one = curves-leaves σ T cs (t .some) in
+    let sound = curves-sound σ rows T 0 cs (omega (arith, t .most)) (t .sized) (t .takes) in
     record {
-      every-point-on = point-on σ rows T cs sized takes meet (leavesOf σ T cs) one sound x y answer judged;
-      every-on-near = on-near σ rows T cs sized takes meet (leavesOf σ T cs) one sound x y answer judged;
-      every-leaf-shallow = leaf-shallow σ rows T cs sized takes meet;
+      every-point-on = point-on σ rows T cs (t .sized) (t .takes) meet (leavesOf σ T cs) one sound x y answer judged;
+      every-on-near = on-near σ rows T cs (t .sized) (t .takes) meet (leavesOf σ T cs) one sound x y answer judged;
+      every-leaf-shallow = leaf-shallow σ rows T cs (t .sized) (t .takes) meet;
     }
 
--- ---- demand 3 of an outline, in every setting: where it is accepted, there are rows for the number of pieces
+-- ---- demand 3 of what is given, in every setting: where it is accepted, there are rows for the number of pieces
+pub given-demand-3 : (σ : Setting) (T : ℤ) {o : Outlined} → Given σ o → (old : List ℤ) (a b c : ℕ) → bandGiven σ T o (length old) ≡ Done a b c
+    → (x y : ℤ) (answer : Judgement) → Judged σ (take (recordLength σ * b) (writtenGiven σ T o old)) x y answer
+    → GivenDemand3 σ T o (take (recordLength σ * b) (writtenGiven σ T o old)) x y answer
+given-demand-3 σ T given old a b c done x y answer judged =
+    let h = done-given σ T given (length old) a b c .0 done in
+    let cs = h .0 in
+    let is = records-given σ T given old (h .1) (h .2) in
+    let said = subst (λ rs. Judged σ rs x y answer) is judged in
+    record {
+      all = cs;
+      are = h .1 .outline;
+      demand-3 = subst (λ rs. Demand3 σ T cs rs x y answer) (sym is)
+          (curves-demand-3 σ (faultless-rows (h .1)) T cs (given .taken cs (h .1 .outline)) (h .2 .meet) x y answer said);
+    }
+
+-- of an outline
 pub demand-3 : (σ : Setting) (T : ℤ) (ns old : List ℤ) (a b c : ℕ) → banded σ T ns (length old) ≡ Done a b c
     → (x y : ℤ) (answer : Judgement) → Judged σ (take (recordLength σ * b) (written σ T ns old)) x y answer
     → OutlineDemand3 σ T ns (take (recordLength σ * b) (written σ T ns old)) x y answer
-demand-3 σ T ns old a b c done x y answer judged =
-    let h = done-exactly σ T ns (length old) a b c .0 done in
-    let cs = h .0 in
-    let o = h .1 .outline in
-    let is = records-written σ T ns old (h .1) (h .2) in
-    let said = subst (λ rs. Judged σ rs x y answer) is judged in
-    let from = outlined-from (σ .most) (σ .pieces) ns cs o in
-    record {
-      all = cs;
-      are = o;
-      demand-3 = subst (λ rs. Demand3 σ T cs rs x y answer) (sym is) (curves-demand-3 σ (faultless-rows (h .1)) T cs
-          (accepted-some (σ .most) (σ .pieces) ns cs o) (accepted-most (σ .most) (σ .pieces) ns cs o) (accepted-all (σ .most) (σ .pieces) ns 0 cs from)
-          (accepted-pieces (σ .most) (σ .pieces) ns 0 cs from) (h .2 .meet) x y answer said);
-    }
+demand-3 σ T ns = given-demand-3 σ T (outline-given σ ns)
+
+-- ---- of a B-spline, whose leaves are judged as every leaf list is: judging does not know the scale of control values
+faults-same : (m : ℕ) (rs : List ℤ) (x y : ℤ) → judgingFault (lists m) rs x y ≡ judgingFault (splines m) rs x y
+unfolding judgingFault numberFault
+faults-same m rs x y = refl
+
+verdict-same : (m : ℕ) (o : Option Refusal) (rs : List ℤ) (x y : ℤ) (answer : Judgement) → Verdict (lists m) o rs x y answer
+    → Verdict (splines m) o rs x y answer
+verdict-same m (some r) rs x y answer v = v
+verdict-same m none rs x y (On k i) v = record {
+  inside = v .inside;
+  cover = v .cover;
+  holds = v .holds;
+  none-earlier = v .none-earlier;
+  none-lower = v .none-lower;
+}
+verdict-same m none rs x y Off v = v
+verdict-same m none rs x y (Refused r) v = v
+
+pub spline-demand-3 : (m : ℕ) (T : ℤ) (ns old : List ℤ) (a b c : ℕ) → bandedSpline m T ns (length old) ≡ Done a b c
+    → (x y : ℤ) (answer : Judgement) → Judged (lists m) (take (recordLength (lists m) * b) (writtenSpline m T ns old)) x y answer
+    → SplineDemand3 m T ns (take (recordLength (lists m) * b) (writtenSpline m T ns old)) x y answer
+spline-demand-3 m T ns old a b c done x y answer judged =
+    let rs = take (recordLength (lists m) * b) (writtenSpline m T ns old) in
+    given-demand-3 (splines m) T (spline-given m ns) old a b c done x y answer
+    (verdict-same m (judgingFault (splines m) rs x y) rs x y answer (rw (faults-same m rs x y) at judged))
 
 -- ---- the same where fewer curves may stand than in lists: the leaves are judged as every leaf list is
-pub demand-3-listed : (σ : Setting) → σ .most ≤ lists (σ .pieces) .most → (T : ℤ) (ns old : List ℤ) (a b c : ℕ)
+pub demand-3-listed : (σ : Setting) → σ .sixths ≡ false → σ .most ≤ lists (σ .pieces) .most → (T : ℤ) (ns old : List ℤ) (a b c : ℕ)
     → banded σ T ns (length old) ≡ Done a b c
     → (x y : ℤ) (answer : Judgement) → Judged (lists (σ .pieces)) (take (recordLength σ * b) (written σ T ns old)) x y answer
     → OutlineDemand3 (lists (σ .pieces)) T ns (take (recordLength σ * b) (written σ T ns old)) x y answer
-demand-3-listed σ few T ns old a b c done x y answer judged =
-    let same = written-listed σ few T ns old done in
-    rw same (demand-3 (lists (σ .pieces)) T ns old a b c (done-listed σ few T ns (length old) done) x y answer (rw same at judged))
+demand-3-listed σ units few T ns old a b c done x y answer judged =
+    let e : listed σ ≡ lists (σ .pieces) = ap (listsOf (σ .pieces)) units in
+    let same : written σ T ns old ≡ written (lists (σ .pieces)) T ns old = written-listed σ few T ns old done ∙ ap (λ τ. written τ T ns old) e in
+    let accepted = subst (λ τ. banded τ T ns (length old) ≡ Done a b c) e (done-listed σ few T ns (length old) done) in
+    rw same (demand-3 (lists (σ .pieces)) T ns old a b c accepted x y answer (rw same at judged))
 
 -- so of the bands of the bench station
 pub station-demand-3 : (m : ℕ) (T : ℤ) (ns old : List ℤ) (a b c : ℕ) → banded (station m) T ns (length old) ≡ Done a b c
     → (x y : ℤ) (answer : Judgement) → Judged (lists m) (take (recordLength (station m) * b) (written (station m) T ns old)) x y answer
     → OutlineDemand3 (lists m) T ns (take (recordLength (station m) * b) (written (station m) T ns old)) x y answer
-station-demand-3 m = demand-3-listed (station m) (lit≤ tt)
+station-demand-3 m = demand-3-listed (station m) refl (lit≤ tt)

@@ -7,4 +7,5 @@ pub mod Demand3
 pub mod Points
 pub mod Meeting
 pub mod Consequences
+pub mod SplineConsequences
 pub mod Starred

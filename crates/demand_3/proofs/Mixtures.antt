@@ -4,14 +4,15 @@ use mathlib.Core.Path.{_≡_, refl, sym, _∙_, ap, ap₂, subst, subst₂}
 use mathlib.Core.Bool.{true}
 use mathlib.Core.List.{List, [], _∷_}
 use Prim.Native.Nat.{ℕ, zero, suc, _+_, _*_, _-_, _^_, _≤_, _<_}
-use native.Mathlib.Nat.{one-le-pow, zero-lt-suc, mul-le-mul-left}
+use native.Mathlib.Nat.{mul-le-mul-left}
 use native.Mathlib.Omega.{arith}
 use lib.IntN.{ℤ, pos, negℤ, natAbs, _+ℤ_, _-ℤ_, _*ℤ_, pow, one}
 use lib.Signed.{_≤ℤ_, _<ℤ_}
-use Rattle.setting.specs.Setting.{Setting, HasRows, mostDegree, degreePieces}
+use Rattle.setting.specs.Setting.{Setting, HasRows, scale, mostDegree, degreePieces}
+use Rattle.setting.proofs.Scales.{over-some}
 use Rattle.integers.specs.Squares.{squared}
 use Rattle.integers.proofs.Squares.{square-within}
-use Rattle.integers.proofs.RingLaws.{pow-last}
+use Rattle.integers.proofs.RingLaws.{pow-last, *ℤ-assoc}
 use Rattle.integers.proofs.Ring.{ring, sides}
 use Rattle.integers.proofs.Order.{gap, natural, square, balance, le-by, ≤ℤ-trans, +ℤ-mono}
 use Rattle.integers.proofs.Order.{pos-lt, pow-nonneg, pow-positive, times-positive, *ℤ-cancel, _+₀_, _×₀_}
@@ -89,7 +90,7 @@ module _ (m d D : ℕ) (ρs : List Row) (cs : List ℤ) (hd : 0 < d) (hD : 0 < D
   abbrev h₁ : ℤ
   h₁ = high m ρs (pos D) d cs (suc i)
 
-  enclosed-mixed : 0 < p + r → Place m i a b p r → Encloses m ρs (pos D) d cs i a b p r → (z : ℤ) → pos D *ℤ scaled d p r z ≡ sixteenths d p r cs
+  enclosed-mixed : 0 < p + r → Place m i a b p r → Encloses m ρs (pos D) d cs i a b p r → (z : ℤ) → pos D *ℤ (pow (pos (p + r)) d *ℤ z) ≡ sixteenths d p r cs
       → Mixed a b l₀ h₀ l₁ h₁ z
   enclosed-mixed some w e z same =
       let positive : pos 0 <ℤ (pos D *ℤ factor) = times-positive (pos-lt hD) (pow-positive (pos-lt some) (d - 1)) in
@@ -126,11 +127,14 @@ down-sum n p r P R eP eR = ap natAbs (ap₂ _+ℤ_ eP eR ∙ same-sum n (pos p) 
 
 module _ (σ : Setting) (rows : HasRows (σ .pieces)) (d : ℕ) (least : 1 ≤ d) (most : d ≤ mostDegree) (takes : degreePieces d (σ .pieces) ≡ true)
     (cs : List ℤ) (n : ℕ) (hn : 0 < n) where
+  abbrev E : ℕ
+  E = 2 ^ (d * depth n)
+
   abbrev D : ℕ
-  D = 2 ^ (d * depth n)
+  D = scale σ * E
 
   some-D : 0 < D
-  some-D = one-le-pow (d * depth n) 2 (zero-lt-suc 1)
+  some-D = over-some σ (d * depth n)
 
   abbrev lows : ℕ → ℤ
   lows = lowOf σ d (depth n) (nodeValues d cs n)
@@ -140,20 +144,21 @@ module _ (σ : Setting) (rows : HasRows (σ .pieces)) (d : ℕ) (least : 1 ≤ d
 
   -- p / (p + r) at node 1 is P / (P + R) at node n
   pub point-mixed : (p r P R : ℕ) → 0 < p + r → pos P ≡ pAt n (pos p) (pos r) → pos R ≡ rAt n (pos p) (pos r) → (l : Located (σ .pieces) P R)
-      → (z : ℤ) → scaled d p r z ≡ sixteenths d p r cs
+      → (z : ℤ) → scaled (scale σ) d p r z ≡ sixteenths d p r cs
       → Mixed (l .near) (l .far) (lows (l .piece)) (highs (l .piece)) (lows (suc (l .piece))) (highs (suc (l .piece))) z
   point-mixed p r P R some eP eR l z same =
       enclosed-mixed (σ .pieces) d D (rowsOf (σ .pieces) d) (nodeValues d cs n) least some-D (l .piece) (l .near) (l .far) P R (rw sum some) (l .place)
       (enclosure (σ .pieces) d rows least most takes (pos D) (pos-lt some-D) (nodeValues d cs n) (l .piece) (l .near) (l .far) P R (l .inside) (l .place))
       z
-      (ap (λ (q : ℕ). pos D *ℤ (pow (pos q) d *ℤ z)) sum ∙ ap (λ x. pos D *ℤ x) same ∙ ring (pos D ∷ value (pos p) (pos r) d cs ∷ [])
-      (search sides depth 20) refl
+      (ap (λ (q : ℕ). pos D *ℤ (pow (pos q) d *ℤ z)) sum
+      ∙ ring (pos (scale σ) ∷ pos E ∷ pow (pos (p + r)) d ∷ z ∷ []) {b = pos E *ℤ (pos (scale σ) *ℤ (pow (pos (p + r)) d *ℤ z))} (search sides depth 20) refl
+      ∙ ap (λ x. pos E *ℤ x) same ∙ ring (pos E ∷ value (pos p) (pos r) d cs ∷ []) (search sides depth 20) refl
       ∙ ap (λ x. pos 16 *ℤ x) (sym down))
     where
       sum : P + R ≡ p + r
       sum = down-sum n p r P R eP eR
 
-      down : value (pos P) (pos R) d (nodeValues d cs n) ≡ pos D *ℤ value (pos p) (pos r) d cs
+      down : value (pos P) (pos R) d (nodeValues d cs n) ≡ pos E *ℤ value (pos p) (pos r) d cs
       down = ap₂ (λ x y. value x y d (nodeValues d cs n)) eP eR ∙ values-down d most cs n hn (pos p) (pos r)
           ∙ ap (λ x. x *ℤ value (pos p) (pos r) d cs) (denominator d (depth n))
 
@@ -168,27 +173,30 @@ module _ (σ : Setting) (rows : HasRows (σ .pieces)) (d : ℕ) (least : 1 ≤ d
     abbrev R : ℕ
     R = atR m i a b
 
-    -- (p + r)^d at node 1 is this times a + b
+    -- the scale times (p + r)^d at node 1 is this times a + b
     abbrev unit : ℤ
     unit = pos D *ℤ pow (pos (P + R)) (d - 1) *ℤ pos m
 
-    power : pow (pos (upP m n i a b + upR m n i a b)) d ≡ pos D *ℤ pow (pos (P + R)) d
-    power = ap (λ x. pow x d) (up-sum n hn (pos P) (pos R)) ∙ pow-times (pos (2 ^ depth n)) (pos (P + R)) d
-        ∙ ap (λ x. x *ℤ pow (pos (P + R)) d) (denominator d (depth n))
+    power : pos (scale σ) *ℤ pow (pos (upP m n i a b + upR m n i a b)) d ≡ pos D *ℤ pow (pos (P + R)) d
+    power = ap (λ x. pos (scale σ) *ℤ x) (ap (λ x. pow x d) (up-sum n hn (pos P) (pos R)) ∙ pow-times (pos (2 ^ depth n)) (pos (P + R)) d
+        ∙ ap (λ x. x *ℤ pow (pos (P + R)) d) (denominator d (depth n)))
+        ∙ ring (pos (scale σ) ∷ pos E ∷ pow (pos (P + R)) d ∷ []) {a = pos (scale σ) *ℤ (pos E *ℤ pow (pos (P + R)) d)} (search sides depth 20) refl
 
-    unit-power : pow (pos (upP m n i a b + upR m n i a b)) d ≡ unit *ℤ (pos a +ℤ pos b)
+    unit-power : pos (scale σ) *ℤ pow (pos (upP m n i a b + upR m n i a b)) d ≡ unit *ℤ (pos a +ℤ pos b)
     unit-power = power ∙ ap (λ x. pos D *ℤ x) (pow-last (pos (P + R)) d least)
         ∙ ap (λ x. pos D *ℤ (pow (pos (P + R)) (d - 1) *ℤ x)) (ap pos (sym (place-at m i a b hi .whole)))
         ∙ ring (pos D ∷ pow (pos (P + R)) (d - 1) ∷ pos m ∷ pos a ∷ pos b ∷ []) (search sides depth 20) refl
 
-    mixed-off : (z : ℤ) → Mixed a b (lows i) (highs i) (lows (suc i)) (highs (suc i)) z → squared (offset d (upP m n i a b) (upR m n i a b) cs z)
+    mixed-off : (z : ℤ) → Mixed a b (lows i) (highs i) (lows (suc i)) (highs (suc i)) z → squared (offset (scale σ) d (upP m n i a b) (upR m n i a b) cs z)
         ≤ℤ squared (unit *ℤ (pos a *ℤ (highs i -ℤ lows i) +ℤ pos b *ℤ (highs (suc i) -ℤ lows (suc i))))
     mixed-off z mixed =
         let e = unit *ℤ (pos a *ℤ (highs i -ℤ lows i) +ℤ pos b *ℤ (highs (suc i) -ℤ lows (suc i))) in
-        let s = subst₂ (λ w v. Close e w v z) (sym power) (sym (values-up d most cs n hn (pos P) (pos R)))
+        let W = pow (pos (upP m n i a b + upR m n i a b)) d in
+        let v = value (pos (upP m n i a b)) (pos (upR m n i a b)) d cs in
+        let s : Close e (pos (scale σ) *ℤ W) v z = subst₂ (λ w v. Close e w v z) (sym power) (sym (values-up d most cs n hn (pos P) (pos R)))
         (mixed-close m d D (rowsOf m d) (nodeValues d cs n) least some-D i a b P R (place-at m i a b hi)
         (enclosure-between m d rows least most takes (pos D) (pos-lt some-D) (nodeValues d cs n) i a b hi) z mixed) in
-        square-within (s .below) (s .above)
+        subst (λ x. squared (x -ℤ pos 16 *ℤ v) ≤ℤ squared e) (*ℤ-assoc (pos (scale σ)) W z) (square-within (s .below) (s .above))
 
 -- ---- both coordinates: boxes with a diagonal within T have mixtures with one within T, since 2 × w₀ × w₁ ≤ w₀² + w₁²
 mixed-squares : (k : ℤ) (a b : ℕ) (T w₀ h₀ w₁ h₁ : ℤ) → (squared w₀ +ℤ squared h₀) ≤ℤ squared T → (squared w₁ +ℤ squared h₁) ≤ℤ squared T
@@ -224,15 +232,21 @@ module _ (σ : Setting) (rows : HasRows (σ .pieces)) (c : Curve) (least : 1 ≤
 
   pub mixed-within : (squared (w i) +ℤ squared (h i)) ≤ℤ squared T → (squared (w (suc i)) +ℤ squared (h (suc i))) ≤ℤ squared T
       → Mixed a b (lowX i) (highX i) (lowX (suc i)) (highX (suc i)) x → Mixed a b (lowY i) (highY i) (lowY (suc i)) (highY (suc i)) y
-      → Within T c (upP (σ .pieces) n i a b) (upR (σ .pieces) n i a b) x y
+      → Within (scale σ) T c (upP (σ .pieces) n i a b) (upR (σ .pieces) n i a b) x y
   mixed-within first second in-x in-y = record {
     distance = ≤ℤ-trans
         (+ℤ-mono (mixed-off σ rows (c .degree) least most takes (c .x) n hn i a b hi x in-x)
         (mixed-off σ rows (c .degree) least most takes (c .y) n hn i a b hi y in-y))
-        (subst (λ z. (squared (k *ℤ (pos a *ℤ w i +ℤ pos b *ℤ w (suc i))) +ℤ squared (k *ℤ (pos a *ℤ h i +ℤ pos b *ℤ h (suc i)))) ≤ℤ squared (z *ℤ T))
-        (sym (unit-power σ rows (c .degree) least most takes (c .x) n hn i a b hi))
-        (mixed-squares k a b T (w i) (h i) (w (suc i)) (h (suc i)) first second));
+        (subst (λ z. across ≤ℤ squared z) (*ℤ-assoc (pos (scale σ)) W T)
+        (subst (λ z. across ≤ℤ squared (z *ℤ T)) (sym (unit-power σ rows (c .degree) least most takes (c .x) n hn i a b hi))
+        (mixed-squares k a b T (w i) (h i) (w (suc i)) (h (suc i)) first second)));
   }
     where
       k : ℤ
       k = unit σ rows (c .degree) least most takes (c .x) n hn i a b hi
+
+      W : ℤ
+      W = pow (pos (upP (σ .pieces) n i a b + upR (σ .pieces) n i a b)) (c .degree)
+
+      across : ℤ
+      across = squared (k *ℤ (pos a *ℤ w i +ℤ pos b *ℤ w (suc i))) +ℤ squared (k *ℤ (pos a *ℤ h i +ℤ pos b *ℤ h (suc i)))

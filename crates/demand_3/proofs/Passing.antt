@@ -8,11 +8,11 @@ use native.Mathlib.Nat.{zero-add, div-add-mod, mul-mod-right}
 use native.Mathlib.Omega.{arith}
 use lib.Dec.{eqb·suc-zero}
 use lib.ListN.{length}
-use lib.IntN.{ℤ, pos, negℤ, pow}
-use lib.Signed.{_≤ℤ_}
+use lib.IntN.{ℤ, pos, negℤ, _*ℤ_, pow}
+use lib.Signed.{_≤ℤ_, _<ℤ_}
 use Rattle.integers.specs.Entry.{entry}
 use Rattle.integers.proofs.Ring.{sides}
-use Rattle.integers.proofs.Order.{gap, gap<, natural, balance, le-by, pos-lt, pow-positive, *ℤ-cancel, _+₀_, _×₀_}
+use Rattle.integers.proofs.Order.{gap, gap<, natural, balance, le-by, pos-le, pos-lt, pow-positive, times-positive, *ℤ-cancel, _+₀_, _×₀_}
 use Rattle.integers.proofs.Ranges.{yes-le, yes-lt}
 use Rattle.integers.proofs.First.{bad-none}
 use Rattle.curve_bernstein.specs.Value.{value}
@@ -67,18 +67,20 @@ no-bad-number {σ} {n} {rs} l = bad-none (λ i. numberFine (σ .most) (i % recor
     (subst₂ (λ a b. numberFine (σ .most) p (entry rs a) (entry rs b) ≡ true) {x = L * k + p} {y = i} {u = L * k + suc p} {v = suc i}
     e (omega (arith, e)) (each-fine (l .each k (record-below L n j)) p (place-below L n j))))
 
--- ---- 11: a coordinate of a point that equals a curve is within 16 · 2^20
-pub coordinate-fine : (d : ℕ) (cs : List ℤ) → Each 1048576 cs → (p r : ℕ) → 0 < p + r → (z : ℤ) → scaled d p r z ≡ sixteenths d p r cs
-    → inRange z ≡ true
-coordinate-fine d cs each p r some z e =
+-- ---- 11: a coordinate of a point that equals a curve is within 16 · 2^20, whatever the scale s
+pub coordinate-fine : (s : ℕ) → 0 < s → (d : ℕ) (cs : List ℤ) → Each 1048576 cs → (p r : ℕ) → 0 < p + r → (z : ℤ)
+    → scaled s d p r z ≡ sixteenths d p r cs → inRange z ≡ true
+coordinate-fine s hs d cs each p r some z e =
     let w = pow (pos (p + r)) d in
     let v = value (pos p) (pos r) d cs in
     let positive = pow-positive (pos-lt some) d in
-    let low : negℤ (pos farthest) ≤ℤ z = *ℤ-cancel positive (le-by (w ∷ v ∷ z ∷ [])
-    (natural 16 ×₀ gap (value-low p r 1048576 d cs each) +₀ balance (pos 1) e +₀ natural 520093696 ×₀ gap< positive +₀ natural 520093696)
+    let k : pos 0 <ℤ (pos s *ℤ w) = times-positive (pos-lt hs) positive in
+    let more = natural 536870912 ×₀ gap (pos-le hs) ×₀ (gap< positive +₀ natural 1) +₀ natural 520093696 ×₀ gap< positive +₀ natural 520093696 in
+    let low : negℤ (pos farthest) ≤ℤ z = *ℤ-cancel k (le-by (pos s ∷ w ∷ v ∷ z ∷ [])
+    (natural 16 ×₀ gap (value-low p r 1048576 d cs each) +₀ balance (pos 1) e +₀ more)
     (search sides depth 20) refl) in
-    let high : z ≤ℤ pos farthest = *ℤ-cancel positive (le-by (w ∷ v ∷ z ∷ [])
-    (natural 16 ×₀ gap (value-high p r 1048576 d cs each) +₀ balance (negℤ (pos 1)) e +₀ natural 520093696 ×₀ gap< positive +₀ natural 520093696)
+    let high : z ≤ℤ pos farthest = *ℤ-cancel k (le-by (pos s ∷ w ∷ v ∷ z ∷ [])
+    (natural 16 ×₀ gap (value-high p r 1048576 d cs each) +₀ balance (negℤ (pos 1)) e +₀ more)
     (search sides depth 20) refl) in
     rw (yes-le low, yes-le high)
 

@@ -21,7 +21,7 @@ use Rattle.outline.specs.Checks.{toleranceFine, Outlined, curves, faulty, outli
 use Rattle.band_passes.specs.Leaves.{firstTooWide, leavesOf, nodesOf}
 use Rattle.band.specs.declared.banding.Banded.{Banded}
 use Rattle.band.specs.declared.banding.Banded.the-variants.{Done, Refused as NotBanded}
-use Rattle.band.specs.Banding.{answerFor, bandCurves, bandOutlined, banded, written}
+use Rattle.band.specs.Banding.{bandGiven, answerFor, bandCurves, bandOutlined, banded, written}
 use Rattle.band.proofs.Theorems.{few-exactly, done-exactly, faultless-rows, written-some, written-sound}
 use Rattle.judge.specs.declared.judging.Judgement.{Judgement}
 use Rattle.judge.specs.Judging.{pointFault, judgingFault, Verdict, Judged}
@@ -103,7 +103,7 @@ module _ (σ : Setting) (T : ℤ) (ns : List ℤ) (room : ℕ) (point : Refusal)
     curves-again cs = answer-again (firstTooWide σ T 0 cs) (length cs) (leavesOf σ T cs) (nodesOf σ T cs)
 
     pub other-again : banded σ T ns 0 ≡ NotBanded r → r ≡ refusalOr point (banded σ T ns room)
-    unfolding banded
+    unfolding bandGiven
     other-again e = ap (refusalOr point) (sym (go (piecesFine (σ .pieces)) (toleranceFine T) (outlined (σ .most) (σ .pieces) ns) e))
       where
         answer : Bool → Bool → Outlined → ℕ → Banded

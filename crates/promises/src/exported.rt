@@ -2,7 +2,7 @@
 ghost use mathlib.Core.Path.{_≡_};
 ghost use lib.ListN.{length};
 ghost use Rattle.setting.specs.Setting.{lists, station};
-ghost use Rattle.band.specs.Banding.{banded, written};
+ghost use Rattle.band.specs.Banding.{banded, written, bandedSpline, writtenSpline};
 ghost use Rattle.judge_points.specs.Points.{pointsJudged, judgedInto};
 ghost use Rattle.draw.specs.Drawing.{drawn, drawnInto};
 ghost use Rattle.contour.specs.Numbers.{bandAnswerOf};
@@ -33,6 +33,15 @@ pub fn contour_station_band(outline: &[i32], tolerance: i32, m: u32, records: &m
         ≡ written (station m) tolerance (now (outline .entry)) (now (records .entry)) ⌝ }
 {
     contour::contour_station_band(outline, tolerance, m, records)
+}
+
+pub fn contour_spline_band(points: &[i32], tolerance: i32, m: u32, records: &mut [i32]) -> Answer
+    ensures { λ r. ⌜ r
+        ≡ bandAnswerOf (bandedSpline m tolerance (now (points .entry)) (length (now (records .entry)))) ⌝ }
+    ensures { λ r. ⌜ now (records .exit)
+        ≡ writtenSpline m tolerance (now (points .entry)) (now (records .entry)) ⌝ }
+{
+    contour::contour_spline_band(points, tolerance, m, records)
 }
 
 pub fn contour_judge(leaves: &[i32], m: u32, x: i32, y: i32) -> JudgingAnswer

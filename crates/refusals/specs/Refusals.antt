@@ -1,5 +1,5 @@
 -- The number and the spot of each refusal (document 01, "Place of each check"; 17 is request 03's, 18 request 05's, 19
--- request 07's, 20 request 08's; 101 stands in no document, and is that of a list of points).
+-- request 07's, 20 request 08's, 24 and 25 request 13's; 101 stands in no document, and is that of a list of points).
 use Prim.Native.Nat.{ℕ, _+_, _*_}
 use Rattle.refusals.specs.declared.Refusal.{Refusal}
 use Rattle.refusals.specs.declared.Refusal.the-variants.{
@@ -24,6 +24,8 @@ use Rattle.refusals.specs.declared.Refusal.the-variants.{
   Pieces,
   TooManyLeaves,
   DegreePieces,
+  SplineLength,
+  SplineCoordinate,
   OddPoints,
 }
 
@@ -49,6 +51,8 @@ numberOf (Gap index) = 17
 numberOf Pieces = 18
 numberOf (TooManyLeaves leaves) = 19
 numberOf (DegreePieces index) = 20
+numberOf (SplineLength length) = 24
+numberOf (SplineCoordinate index) = 25
 numberOf (OddPoints count) = 101
 
 -- a curve and a node of it as one number
@@ -77,4 +81,6 @@ spotOf (Gap index) = index
 spotOf Pieces = 0
 spotOf (TooManyLeaves leaves) = leaves
 spotOf (DegreePieces index) = index
+spotOf (SplineLength length) = length
+spotOf (SplineCoordinate index) = index
 spotOf (OddPoints count) = count

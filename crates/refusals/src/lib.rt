@@ -45,6 +45,10 @@ pub enum Refusal {
     TooManyLeaves(usize),
     // 20: a degree takes more pieces, at this index.
     DegreePieces(usize),
+    // 24: the list of a B-spline's points is odd, too short or too long; its length.
+    SplineLength(usize),
+    // 25: the first coordinate of a B-spline outside its range, at this index.
+    SplineCoordinate(usize),
     // 101: a list of points has an odd count of numbers, this one.
     OddPoints(usize),
 }
@@ -76,6 +80,8 @@ impl Refusal {
             Refusal::Pieces => 18,
             Refusal::TooManyLeaves(_) => 19,
             Refusal::DegreePieces(_) => 20,
+            Refusal::SplineLength(_) => 24,
+            Refusal::SplineCoordinate(_) => 25,
             Refusal::OddPoints(_) => 101,
         }
     }
@@ -106,6 +112,8 @@ impl Refusal {
             Refusal::Pieces => 0,
             Refusal::TooManyLeaves(leaves) => leaves,
             Refusal::DegreePieces(index) => index,
+            Refusal::SplineLength(length) => length,
+            Refusal::SplineCoordinate(index) => index,
             Refusal::OddPoints(count) => count,
         }
     }

@@ -1,6 +1,6 @@
 -- What the operations leave open, in one record, and the sizes that follow from it (document 01). Definitions take a
 -- setting; an operation's contract says which.
-use mathlib.Core.Bool.{Bool, _&&_, _||_, cond}
+use mathlib.Core.Bool.{Bool, true, false, _&&_, _||_, cond}
 use Prim.Native.Nat.{ℕ, suc, _+_, _*_, _≤_}
 use lib.Dec.{leb}
 
@@ -11,15 +11,33 @@ pub record Setting : Type 0 where
   pub leaves : ℕ
   -- how many pieces a leaf has, so that its break points are 0 to this number
   pub pieces : ℕ
+  -- control values are sixths of a stage unit (request 13), and no units
+  pub sixths : Bool
+
+-- how many of what control values count make a stage unit
+abbrev pub scale : Setting → ℕ
+scale σ = cond (σ .sixths) 6 1
 
 -- at most so many curves and leaves, and m pieces
 abbrev pub limited : (most leaves m : ℕ) → Setting
-limited most leaves m = record { most = most; leaves = leaves; pieces = m }
+limited most leaves m = record { most = most; leaves = leaves; pieces = m; sixths = false }
+
+-- that of a caller who gives lists, with m pieces and control values that are sixths or not
+abbrev pub listsOf : ℕ → Bool → Setting
+listsOf m sixths = record { most = 4096; leaves = 1048576; pieces = m; sixths = sixths }
 
 -- that of a caller who gives lists and the number of pieces, m (requests 05 and 06); every leaf list is judged in it.
 -- No curve has more than 256 leaves, so their limit is never passed.
 abbrev pub lists : ℕ → Setting
-lists m = limited 4096 1048576 m
+lists m = listsOf m false
+
+-- that of a caller who gives B-splines (request 13)
+abbrev pub splines : ℕ → Setting
+splines m = listsOf m true
+
+-- σ with other limits of curves and leaves
+abbrev pub relimited : Setting → (most leaves : ℕ) → Setting
+relimited σ most leaves = record { most = most; leaves = leaves; pieces = σ .pieces; sixths = σ .sixths }
 
 -- that of the bench station (request 07)
 abbrev pub station : ℕ → Setting

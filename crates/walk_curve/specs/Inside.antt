@@ -1,11 +1,12 @@
 -- For contracts inside the engine alone, no part of a public promise: where a walk stands, its steps, and what the walk
 -- of a curve finds. A part of a curve is one of its nodes, with the node's own curve.
 use mathlib.Core.Path.{_≡_}
+use mathlib.Core.Bool.{true, false}
 use mathlib.Core.Option.{none, some}
-use Prim.Native.Nat.{suc, _*_, _^_, _<_}
+use Prim.Native.Nat.{ℕ, suc, _*_, _^_, _<_}
 use lib.ListN.{length}
 use lib.IntN.{ℤ}
-use Rattle.setting.specs.Setting.{Setting, deepest}
+use Rattle.setting.specs.Setting.{Setting, degreePieces, deepest}
 use Rattle.curve_nodes.specs.declared.Curve.{Curve}
 use Rattle.curve_nodes.specs.Bounds.{Sized}
 use Rattle.curve_nodes.specs.Halves.{leftHalf}
@@ -15,6 +16,11 @@ use Rattle.walk_curve.specs.declared.Part.{Part}
 use Rattle.walk_curve.specs.declared.Walked.{Walked}
 use Rattle.walk_curve.specs.declared.Walked.the-variants.{Leaves, WideNode}
 use Rattle.walk_curve.specs.Walked.{nodeMeets, endsOf}
+
+-- a setting has what a curve of degree d needs: as many pieces as it takes, and whole control values at degrees 4 and 5
+pub record Suits (σ : Setting) (d : ℕ) : Type 0 where
+  pub takes : degreePieces d (σ .pieces) ≡ true
+  pub units : 3 < d → σ .sixths ≡ false
 
 -- p is a part of the curve `root`, and no deeper than its nodes go
 pub record PartOf (root : Curve) (p : Part) : Type 0 where

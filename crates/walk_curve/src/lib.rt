@@ -1,11 +1,11 @@
 // The walk of a curve in parameter order, from its root on: where it stands, its steps, and a curve walked.
 ghost use mathlib.Core.Path.{_≡_};
-ghost use mathlib.Core.Bool.{true};
+ghost use mathlib.Core.Bool.{false};
 ghost use Prim.Native.Nat.{_≤_, _<_, _^_};
-ghost use Rattle.setting.specs.Setting.{lists, deepest, degreePieces};
+ghost use Rattle.setting.specs.Setting.{deepest};
 ghost use Rattle.curve_nodes.specs.Bounds.{Sized};
-ghost use Rattle.bound_pieces.specs.Inside.{Ready};
-ghost use Rattle.walk_curve.specs.Inside.{Standing, leftPart, AfterOf, walkedOf};
+ghost use Rattle.bound_pieces.specs.Inside.{Ready, settingOf};
+ghost use Rattle.walk_curve.specs.Inside.{Suits, Standing, leftPart, AfterOf, walkedOf};
 use bound_pieces::Pieces;
 use bound_tolerance_higher::Verdict;
 use curve_nodes::Curve;
@@ -55,8 +55,8 @@ pub enum Walked {
 
 // The leaves of a curve, counted. The rows lent are those of the number of pieces.
 pub fn walk(rows: &[i64], pieces: Pieces, curve: Curve, t: i64) -> Walked
-    requires { ⌜ (Ready pieces (now rows)) × (Sized 0 curve) × (degreePieces (curve .degree) (pieces .m) ≡ true) ⌝ }
-    ensures { λ r. ⌜ r ≡ walkedOf (lists (pieces .m)) t curve ⌝ }
+    requires { ⌜ (Ready pieces (now rows)) × (Sized 0 curve) × (Suits (settingOf pieces) (curve .degree)) ⌝ }
+    ensures { λ r. ⌜ r ≡ walkedOf (settingOf pieces) t curve ⌝ }
 {
     if 3 < curve.degree {
         walk_higher(rows, pieces, curve, t)
@@ -68,7 +68,7 @@ pub fn walk(rows: &[i64], pieces: Pieces, curve: Curve, t: i64) -> Walked
 // Those of degree 1 to 3.
 fn walk_low(rows: &[i64], pieces: Pieces, curve: Curve, t: i64) -> Walked
     requires { ⌜ (Ready pieces (now rows)) × (Sized 0 curve) × (curve .degree ≤ 3) ⌝ }
-    ensures { λ r. ⌜ r ≡ walkedOf (lists (pieces .m)) t curve ⌝ }
+    ensures { λ r. ⌜ r ≡ walkedOf (settingOf pieces) t curve ⌝ }
 {
     let mut part = Part { node: 1, curve };
     let mut leaves: usize = 0;
@@ -92,8 +92,9 @@ fn walk_low(rows: &[i64], pieces: Pieces, curve: Curve, t: i64) -> Walked
 
 // Those of degree 4 and 5.
 fn walk_higher(rows: &[i64], pieces: Pieces, curve: Curve, t: i64) -> Walked
-    requires { ⌜ (Ready pieces (now rows)) × (Sized 0 curve) × (3 < curve .degree) × (3 ≤ pieces .m) ⌝ }
-    ensures { λ r. ⌜ r ≡ walkedOf (lists (pieces .m)) t curve ⌝ }
+    requires { ⌜ (Ready pieces (now rows)) × (Sized 0 curve) × (3 < curve .degree) × (3 ≤ pieces .m)
+        × (pieces .sixths ≡ false) ⌝ }
+    ensures { λ r. ⌜ r ≡ walkedOf (settingOf pieces) t curve ⌝ }
 {
     let mut part = Part { node: 1, curve };
     let mut leaves: usize = 0;

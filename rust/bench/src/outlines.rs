@@ -25,6 +25,34 @@ pub fn rounds(curves: usize) -> Vec<i32> {
     cubics().into_iter().cycle().take(9 * curves).collect()
 }
 
+/// The points of a closed B-spline of 64 curves that swings in and out. Each coordinate is a multiple of 6, so the control
+/// points of its curves are whole.
+pub fn spline() -> Vec<i32> {
+    let point = |i: i32| {
+        let radius = if i % 2 == 0 { 110_000.0 } else { 100_000.0 };
+        let angle = TAU * f64::from(i) / 64.0;
+        [angle.cos(), angle.sin()].map(|z| 6 * (radius * z / 6.0).round() as i32)
+    };
+    (0..67).flat_map(|i| point(i % 64)).collect()
+}
+
+/// The curves of that B-spline as an outline.
+pub fn splined() -> Vec<i32> {
+    let points = spline();
+    let mut outline = Vec::new();
+    for neighbours in points.windows(8).step_by(2) {
+        let control = |weights: [i32; 4]| {
+            [0, 1].map(|z| {
+                weights.iter().zip(neighbours[z..].iter().step_by(2)).map(|(w, b)| w * (b / 6)).sum::<i32>()
+            })
+        };
+        outline.push(3);
+        outline
+            .extend([[1, 4, 1, 0], [0, 4, 2, 0], [0, 2, 4, 0], [0, 1, 4, 1]].into_iter().flat_map(control));
+    }
+    outline
+}
+
 /// 64 quadratic arches whose leaves at T 44 are all at one depth, 0 to 8, with three pieces. A halving makes the second
 /// difference of a quadratic a quarter of what it was, everywhere alike.
 pub fn arches(depth: u32) -> Vec<i32> {

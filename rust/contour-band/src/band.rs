@@ -1,12 +1,12 @@
-//! Banding an outline.
+//! Banding an outline or a B-spline.
 
 use crate::library;
 use crate::refusal::Refusal;
 
-/// What banding reports of an outline that it accepts.
+/// What banding reports of an outline or a B-spline that it accepts.
 #[derive(Debug, Clone, Copy, PartialEq, Eq, Hash)]
 pub struct Report {
-    /// The curves of the outline, 1 to 4,096.
+    /// The curves, 1 to 4,096.
     pub curves: u64,
     /// The leaves, each written as one record.
     pub leaves: u64,
@@ -99,6 +99,46 @@ pub const STATION_LEAVES: usize = 128;
 /// after a stretch that is too wide and before a list that is too short; it has the number of all leaves.
 pub fn station_band(outline: &[i32], tolerance: i32, m: u32, records: &mut [i32]) -> Result<Report, Refusal> {
     report(library::station_band(outline, tolerance, m, records))
+}
+
+/// Puts a band round a uniform cubic B-spline.
+///
+/// `points` has x and y of each of its n points in stage units, each from −131,072 to 131,072; n is 4 to 4,099.
+/// Four neighbours b0 to b3 make one cubic curve, with control points (b0 + 4 b1 + b2)/6, (2 b1 + b2)/3,
+/// (b1 + 2 b2)/3 and (b1 + 4 b2 + b3)/6: n − 3 curves, each of which begins where the one before it ends. Sixths are
+/// carried exactly, and only the bounds of a box are rounded. With the first three points again at its end a spline
+/// is closed. `tolerance`, `m`, `records`, the report and the records are as in [`band`], and [`judge`](crate::judge)
+/// takes the records.
+///
+/// ```
+/// use contour_band::{judge, leaves, record_length, spline_band, Judgement, Refusal};
+///
+/// const M: u32 = 3;
+/// // One curve, with control points (10 25), (40/3 30), (50/3 30) and (20 25).
+/// let points = [0, 0, 10, 30, 20, 30, 30, 0];
+/// let mut records = [0; record_length(M)];
+/// let report = spline_band(&points, 9, M, &mut records)?;
+/// assert_eq!((report.curves, report.leaves, report.nodes), (1, 1, 1));
+///
+/// // Break point 1 lies at x 40/3 of a unit, which is 213.3 sixteenths.
+/// let leaf = leaves(&records, M).next().unwrap();
+/// assert_eq!((leaf.boxes[1].x.low, leaf.boxes[1].x.high), (213, 214));
+///
+/// // The middle of the curve, (15 28.75).
+/// assert_eq!(judge(&records, M, 240, 460), Ok(Judgement::On { leaf: 0, cover: 1 }));
+/// assert_eq!(judge(&records, M, 240, 462), Ok(Judgement::Off));
+///
+/// assert_eq!(spline_band(&points[..6], 9, M, &mut records), Err(Refusal::SplineLength { length: 6 }));
+/// # Ok::<(), Refusal>(())
+/// ```
+///
+/// # Errors
+///
+/// A [`Refusal`], of which the first in this order: `m` or the tolerance is outside its range, there are not 8 to
+/// 8,198 numbers or not an even count of them, a coordinate is outside its range, a stretch is too wide after the
+/// last halving, or `records` is too short. `records` is then unaltered.
+pub fn spline_band(points: &[i32], tolerance: i32, m: u32, records: &mut [i32]) -> Result<Report, Refusal> {
+    report(library::spline_band(points, tolerance, m, records))
 }
 
 /// An answer in numbers as a report or a refusal.

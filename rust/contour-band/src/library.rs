@@ -91,6 +91,15 @@ extern "C" {
         records_length: usize,
     ) -> Answer;
 
+    fn contour_spline_band(
+        points: *const i32,
+        points_length: usize,
+        tolerance: i32,
+        m: u32,
+        records: *mut i32,
+        records_length: usize,
+    ) -> Answer;
+
     fn contour_judge(leaves: *const i32, leaves_length: usize, m: u32, x: i32, y: i32) -> Judgement;
 
     fn contour_judge_points(
@@ -138,6 +147,14 @@ pub fn station_band(outline: &[i32], tolerance: i32, m: u32, records: &mut [i32]
             records.as_mut_ptr(),
             records.len(),
         )
+    }
+}
+
+/// The answer for a B-spline. Writes to `records` as the header says.
+pub fn spline_band(points: &[i32], tolerance: i32, m: u32, records: &mut [i32]) -> Answer {
+    // Safety: as for `band`.
+    unsafe {
+        contour_spline_band(points.as_ptr(), points.len(), tolerance, m, records.as_mut_ptr(), records.len())
     }
 }
 
@@ -242,6 +259,26 @@ mod tests {
         let bow = [2, 0, 0, 0, 800, 0, 0];
         assert_eq!(station_band(&bow.repeat(32), 100, 3, &mut []), refused(8, 128));
         assert_eq!(station_band(&bow.repeat(33), 100, 3, &mut []), refused(19, 132));
+    }
+
+    #[test]
+    fn a_spline_answers_with_its_own_checks() {
+        let refused = |refusal, spot| Answer { refusal, spot, curves: 0, leaves: 0, nodes: 0 };
+        let points = [0, 0, 10, 30, 20, 30, 30, 0];
+        let mut records = [0; 18];
+        assert_eq!(spline_band(&points[..6], 1, 9, &mut records), refused(18, 0));
+        assert_eq!(spline_band(&points[..6], 1, 3, &mut records), refused(1, 0));
+        assert_eq!(spline_band(&points[..6], 9, 3, &mut records), refused(24, 6));
+        assert_eq!(spline_band(&points[..7], 9, 3, &mut records), refused(24, 7));
+        assert_eq!(spline_band(&[0; 8_200], 9, 3, &mut records), refused(24, 8_200));
+        let far = [0, 0, 10, 30, 20, -131_073, 30, 0];
+        assert_eq!(spline_band(&far, 9, 3, &mut records), refused(25, 5));
+        assert_eq!(spline_band(&points, 9, 3, &mut records[..17]), refused(8, 1));
+        assert_eq!(records, [0; 18]);
+        let expected = Answer { refusal: 0, spot: 0, curves: 1, leaves: 1, nodes: 1 };
+        assert_eq!(spline_band(&points, 9, 3, &mut records), expected);
+        let leaf = [0, 1, 160, 160, 400, 407, 213, 214, 453, 461, 266, 267, 453, 461, 320, 320, 400, 407];
+        assert_eq!(records, leaf);
     }
 
     #[test]

@@ -43,6 +43,16 @@ pub enum Refusal {
     },
     /// 6: the outline has no curve.
     EmptyOutline,
+    /// 24: a B-spline's list of points has an odd count of numbers, fewer than 8 or more than 8,198.
+    SplineLength {
+        /// The list's length.
+        length: usize,
+    },
+    /// 25: a coordinate of a B-spline's point is not −131,072 to 131,072.
+    SplineCoordinate {
+        /// The index in the list of the first such coordinate.
+        index: usize,
+    },
     /// 7: a box still has a diagonal longer than the tolerance after the last halving.
     TooWide {
         /// The number of the curve, from 0.
@@ -115,6 +125,8 @@ impl Refusal {
             Refusal::Pieces => 18,
             Refusal::TooManyLeaves { .. } => 19,
             Refusal::TooFewPieces { .. } => 20,
+            Refusal::SplineLength { .. } => 24,
+            Refusal::SplineCoordinate { .. } => 25,
             Refusal::OddPoints { .. } => 101,
         }
     }
@@ -129,9 +141,11 @@ impl Refusal {
             | Refusal::TooManyCurves { index }
             | Refusal::LeafListNumber { index }
             | Refusal::Gap { index }
-            | Refusal::TooFewPieces { index } => index as u64,
+            | Refusal::TooFewPieces { index }
+            | Refusal::SplineCoordinate { index } => index as u64,
             Refusal::CutShort { length }
             | Refusal::LeafListLength { length }
+            | Refusal::SplineLength { length }
             | Refusal::OddPoints { length } => length as u64,
             Refusal::TooWide { curve, node } => 512 * curve as u64 + u64::from(node),
             Refusal::TooFewRecords { leaves } | Refusal::TooManyLeaves { leaves } => leaves as u64,
@@ -166,6 +180,8 @@ impl Refusal {
             18 => Refusal::Pieces,
             19 => Refusal::TooManyLeaves { leaves: place },
             20 => Refusal::TooFewPieces { index: place },
+            24 => Refusal::SplineLength { length: place },
+            25 => Refusal::SplineCoordinate { index: place },
             101 => Refusal::OddPoints { length: place },
             _ => panic!("the library answered refusal {number} at {spot}, which does not exist"),
         }
@@ -185,6 +201,12 @@ impl fmt::Display for Refusal {
             Refusal::TooManyCurves { .. } => write!(f, "the outline has more curves than are taken"),
             Refusal::Gap { .. } => write!(f, "a curve does not begin where the one before it ends"),
             Refusal::EmptyOutline => write!(f, "the outline is empty"),
+            Refusal::SplineLength { .. } => {
+                write!(f, "a B-spline has 4 to 4,099 points, x and y of each")
+            }
+            Refusal::SplineCoordinate { .. } => {
+                write!(f, "a coordinate of a B-spline is outside its range")
+            }
             Refusal::TooWide { curve, node } => {
                 write!(f, "node {node} of curve {curve} is too wide after its last halving")
             }
@@ -220,7 +242,7 @@ mod tests {
     #[test]
     fn number_and_spot_are_what_the_library_answered() {
         let places = [0, 1, 17, 575, 32_767];
-        for number in (2..=10).chain(12..=13).chain([17, 19, 20, 101]) {
+        for number in (2..=10).chain(12..=13).chain([17, 19, 20, 24, 25, 101]) {
             for place in places {
                 // 6 has the spot 0 only.
                 let spot = if number == 6 { 0 } else { place };

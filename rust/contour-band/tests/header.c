@@ -1,5 +1,5 @@
-/* A C caller of the header: bands curve A, judges points, one by one and as a list, draws two boxes, and prints the answers, to
- * be compared by header.rs. */
+/* A C caller of the header: bands curve A and B-splines, judges points, one by one and as a list, draws two boxes, and prints the
+ * answers, to be compared by header.rs. */
 #include "contour_band.h"
 
 #include <stdio.h>
@@ -83,6 +83,28 @@ static void higher(int32_t *records) {
     print(contour_band(sextic, 1, 44, M - 1, records, 2 * CONTOUR_BAND_RECORD(M)));
 }
 
+/* The B-spline of curve A's control points; its refusals; and splines of the most points and of one more. */
+static void spline(int32_t *records) {
+    const int32_t points[10] = {0, 0, 10, 30, 20, 30, 30, 0};
+    const int32_t far[8] = {0, 0, 0, CONTOUR_BAND_SPLINE_COORDINATE_MIN - 1, 0, 0, 0, 0};
+    print(contour_spline_band(points, 8, 9, M, records, CONTOUR_BAND_RECORD(M)));
+    for (int i = 0; i < CONTOUR_BAND_RECORD(M); i++) {
+        printf(i < CONTOUR_BAND_RECORD(M) - 1 ? "%d " : "%d\n", (int)records[i]);
+    }
+    /* The middle of the curve, and a point above it. */
+    print_judgement(contour_judge(records, CONTOUR_BAND_RECORD(M), M, 240, 460));
+    print_judgement(contour_judge(records, CONTOUR_BAND_RECORD(M), M, 240, 462));
+    print(contour_spline_band(points, 6, 1, CONTOUR_BAND_PIECES_MAX + 1, records, CONTOUR_BAND_RECORD(M)));
+    print(contour_spline_band(points, 6, 1, M, records, CONTOUR_BAND_RECORD(M)));
+    print(contour_spline_band(points, CONTOUR_BAND_SPLINE_LENGTH_MIN - 2, 9, M, records, CONTOUR_BAND_RECORD(M)));
+    print(contour_spline_band(points, CONTOUR_BAND_SPLINE_LENGTH_MIN + 1, 9, M, records, CONTOUR_BAND_RECORD(M)));
+    print(contour_spline_band(far, 8, 9, M, records, CONTOUR_BAND_RECORD(M)));
+    print(contour_spline_band(points, 8, 9, M, records, CONTOUR_BAND_RECORD(M) - 1));
+    static int32_t many[CONTOUR_BAND_SPLINE_LENGTH_MAX + 2], room[CONTOUR_BAND_RECORD(M) * CONTOUR_BAND_CURVES_MAX];
+    print(contour_spline_band(many, CONTOUR_BAND_SPLINE_LENGTH_MAX, 2, M, room, sizeof room / sizeof *room));
+    print(contour_spline_band(many, CONTOUR_BAND_SPLINE_LENGTH_MAX + 2, 2, M, room, sizeof room / sizeof *room));
+}
+
 static void draw(struct contour_band_box first, struct contour_band_box second, size_t length) {
     int32_t vertices[CONTOUR_BAND_VERTEX_ROOM] = {0};
     struct contour_band_drawing drawing = contour_draw(first, second, vertices, length);
@@ -142,6 +164,8 @@ int main(void) {
     }
     print(contour_station_band(lines, 5 * CONTOUR_BAND_STATION_CURVES_MAX, 2, M, records, 0));
     print(contour_station_band(lines, 5 * CONTOUR_BAND_STATION_CURVES_MAX + 1, 2, M, records, 0));
+
+    spline(records);
 
     const struct contour_band_box near = {0, 1, 0, 1}, far = {3, 4, 3, 4};
     const struct contour_band_box beyond = {0, 0, 0, CONTOUR_BAND_FARTHEST + 1};

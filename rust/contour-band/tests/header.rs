@@ -72,6 +72,18 @@ const EXPECTED: &str = "\
 8 132 0 0 0
 8 64 0 0 0
 5 320 0 0 0
+0 0 1 1 1
+0 1 160 160 400 407 213 214 453 461 266 267 453 461 320 320 400 407
+0 0 1 0 1
+0 0 0 0 0
+18 0 0 0 0
+1 0 0 0 0
+24 6 0 0 0
+24 9 0 0 0
+25 3 0 0 0
+8 1 0 0 0
+0 0 4096 4096 4096
+24 8200 0 0 0
 0 0 6 0 0 1 0 4 3 4 4 3 4 0 1 0 0 0 0
 13 15 0 0 0 0 0 0 0 0 0 0 0 0 0 0 0 0 0
 12 7 0 0 0 0 0 0 0 0 0 0 0 0 0 0 0 0 0
@@ -89,13 +101,13 @@ fn a_c_program_gets_the_same_answers() {
     assert_eq!(printed(&c::root().join("rust/contour-band/tests/header.c"), "header"), EXPECTED);
 }
 
-/// What the header says of the stack of a call: of the station's, for curves of each degree, refused or banded, with the
-/// most leaves or few; and of judging a list of points.
+/// What the header says of the stack of a call: of the station's, for curves of each degree, and of a B-spline's, refused
+/// or banded, with the most leaves or few; and of judging a list of points.
 #[test]
 fn calls_take_little_stack() {
     let printed = printed(&c::root().join("rust/contour-band/tests/stack.c"), "stack");
     let mut most = [0; 5];
-    let mut points = 0;
+    let (mut splines, mut points) = (0, 0);
     for line in printed.lines() {
         let (call, numbers) = line.split_once(' ').expect("a word and numbers are printed");
         let numbers: Vec<i32> = numbers.split(' ').map(|n| n.parse().expect("a number is printed")).collect();
@@ -106,6 +118,10 @@ fn calls_take_little_stack() {
                 let at = usize::try_from(degree).expect("a degree is printed") - 1;
                 most[at] = bytes.max(most[at]);
             }
+            ("spline", &[bytes]) => {
+                assert!(bytes <= 6_144, "{bytes} bytes of stack");
+                splines = bytes.max(splines);
+            }
             ("points", &[bytes]) => {
                 assert!(bytes <= 34_816, "{bytes} bytes of stack");
                 points = bytes.max(points);
@@ -113,9 +129,12 @@ fn calls_take_little_stack() {
             _ => panic!("{line}"),
         }
     }
-    println!("the most bytes of stack: the station's by degree {most:?}, judging points {points}");
+    println!("the most bytes of stack: the station's by degree {most:?}, a B-spline's {splines}, judging points {points}");
     // Some outline of each degree is walked: a refusal before the walk takes less than 300 bytes.
-    assert!(most.iter().all(|bytes| *bytes > 1_024) && points > 1_024, "{most:?} {points}");
+    assert!(
+        most.iter().chain([&splines, &points]).all(|bytes| *bytes > 1_024),
+        "{most:?} {splines} {points}"
+    );
 }
 
 #[test]

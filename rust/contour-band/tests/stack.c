@@ -1,6 +1,6 @@
-/* How much stack contour_station_band and contour_judge_points take: each call runs on a stack of its own, filled with one byte
- * beforehand, and what it did not touch is counted from the far end. Prints the bytes that the header promises, then a line for
- * each call, the station's with its degree, to be compared by header.rs. */
+/* How much stack contour_station_band, contour_spline_band and contour_judge_points take: each call runs on a stack of its own,
+ * filled with one byte beforehand, and what it did not touch is counted from the far end. Prints the bytes that the header
+ * promises, then a line for each call, the station's with its degree, to be compared by header.rs. */
 #define _XOPEN_SOURCE 700
 #include "contour_band.h"
 
@@ -14,8 +14,8 @@
 static unsigned char stack[SIZE];
 static ucontext_t caller, callee;
 
-/* What banding is given. */
-static int32_t outline[(3 + 2 * CONTOUR_BAND_DEGREE_MAX) * 66], records[CONTOUR_BAND_STATION_ROOM(CONTOUR_BAND_PIECES_MAX)];
+/* What banding is given: an outline, or the points of a B-spline. */
+static int32_t outline[CONTOUR_BAND_SPLINE_LENGTH_MAX + 2], records[CONTOUR_BAND_STATION_ROOM(CONTOUR_BAND_PIECES_MAX)];
 static size_t outline_length, records_length;
 static int32_t tolerance;
 static uint32_t m;
@@ -30,6 +30,8 @@ static int64_t answers[6 * CONTOUR_BAND_ANSWER];
 static void nothing(void) {}
 
 static void station(void) { contour_station_band(outline, outline_length, tolerance, m, records, records_length); }
+
+static void spline(void) { contour_spline_band(outline, outline_length, tolerance, m, records, records_length); }
 
 static void judge_points(void) {
     contour_judge_points(leaves, leaves_length, m, points, points_length, answers, sizeof answers / sizeof *answers);
@@ -60,6 +62,14 @@ static void curves(int count, int degree, int32_t far) {
             outline[outline_length++] = 0;
             outline[outline_length++] = point == 0 || point == degree ? 0 : far;
         }
+    }
+}
+
+/* So many points of a B-spline, by turns at 0 and so far away. */
+static void zigzag(size_t count, int32_t far) {
+    outline_length = 2 * count;
+    for (size_t i = 0; i < outline_length; i++) {
+        outline[i] = i / 2 % 2 ? far : 0;
     }
 }
 
@@ -95,6 +105,21 @@ static void measure_station(void) {
     }
 }
 
+/* B-splines of too few points, of some, and of too many. */
+static void measure_splines(void) {
+    const int32_t far[] = {0, 1, 800, CONTOUR_BAND_SPLINE_COORDINATE_MAX, CONTOUR_BAND_SPLINE_COORDINATE_MAX + 1};
+    const int32_t tolerances[] = {1, 2, 3, 100, CONTOUR_BAND_TOLERANCE_MAX};
+    const size_t counts[] = {0, 3, 4, 5, 66, CONTOUR_BAND_SPLINE_LENGTH_MAX / 2, CONTOUR_BAND_SPLINE_LENGTH_MAX / 2 + 1};
+    for (m = 0; m <= CONTOUR_BAND_PIECES_MAX + 1; m++) {
+        for (int i = 0; i < 7 * 5 * 5; i++) {
+            zigzag(counts[i / 25], far[i / 5 % 5]);
+            tolerance = tolerances[i % 5];
+            records_length = i % 2 ? sizeof records / sizeof *records : 0;
+            printf("spline %d\n", touched(spline) - touched(nothing));
+        }
+    }
+}
+
 static void measure_points(void) {
     const int counts[] = {0, 1, 2, 64, 65, 2048, 2049};
     for (m = CONTOUR_BAND_PIECES_MIN; m <= CONTOUR_BAND_PIECES_MAX; m++) {
@@ -114,8 +139,10 @@ int main(void) {
     tolerance = 100;
     curves(1, 3, 800);
     touched(station);
+    touched(spline);
     touched(judge_points);
     measure_station();
+    measure_splines();
     measure_points();
     return 0;
 }

@@ -1,4 +1,4 @@
-//! One outline, tolerance, m and lent list to both engines, and what they answer compared.
+//! One outline or list of points, tolerance, m and lent list to both engines, and what they answer compared.
 
 use crate::random::Random;
 use crate::refusals::Refusals;
@@ -37,6 +37,8 @@ pub enum Caller {
     Lists,
     /// The bench station.
     Station,
+    /// A caller who gives the points of a B-spline.
+    Splines,
 }
 
 /// Compares the engines on one input after the other, and counts.
@@ -56,7 +58,7 @@ pub struct Comparison {
 /// Counts of what was compared.
 #[derive(Debug, Clone, Default)]
 pub struct Tally {
-    /// Outlines, each with one tolerance or more and one lent list or more.
+    /// Outlines or lists of points, each with one tolerance or more and one lent list or more.
     pub outlines: u64,
     /// Answers.
     pub answers: u64,
@@ -193,6 +195,7 @@ fn by_proved(caller: Caller, outline: &[i32], tolerance: i32, m: u32, records: &
     let band = match caller {
         Caller::Lists => contour_band::band,
         Caller::Station => contour_band::station_band,
+        Caller::Splines => contour_band::spline_band,
     };
     match band(outline, tolerance, m, records) {
         Ok(contour_band::Report { curves, leaves, nodes }) => Accepted { curves, leaves, nodes },
@@ -204,6 +207,7 @@ fn by_plain(caller: Caller, outline: &[i32], tolerance: i32, m: u32, records: &m
     let band = match caller {
         Caller::Lists => plain::band,
         Caller::Station => plain::station_band,
+        Caller::Splines => plain::spline_band,
     };
     match band(outline, tolerance, m, records) {
         Ok(plain::Report { curves, leaves, nodes }) => Accepted { curves, leaves, nodes },

@@ -14,6 +14,7 @@ pub mod pieces;
 pub mod program;
 pub mod random;
 pub mod refusals;
+pub mod splines;
 pub mod text;
 pub mod texts;
 pub mod together;

@@ -6,6 +6,7 @@ use crate::enclosure::BoxBounds;
 use crate::outline;
 use crate::pieces::{check_pieces, for_pieces, record_length};
 use crate::refusal::Refusal;
+use crate::spline;
 
 /// What banding counted.
 #[derive(Debug, Clone, Copy, PartialEq, Eq)]
@@ -55,17 +56,46 @@ pub fn band_most(
     check_pieces(m)?;
     outline::check_tolerance(tolerance)?;
     let curves = outline::curves(outline, most.curves, m)?;
-    for_pieces!(m, band_curves)(&curves, most.leaves, tolerance, records)
+    for_pieces!(m, band_units)(&curves, most.leaves, tolerance, records)
 }
 
-/// Bands curves that may have `most` leaves, with B break points to a leaf. Checks 7, 19 and 8.
-fn band_curves<const B: usize>(
+/// Bands the uniform cubic B-spline of a list of points, x and y of each, as [`band`] does an outline.
+pub fn spline_band(points: &[i32], tolerance: i32, m: u32, records: &mut [i32]) -> Result<Report, Refusal> {
+    check_pieces(m)?;
+    outline::check_tolerance(tolerance)?;
+    let curves = spline::curves(points)?;
+    for_pieces!(m, band_sixths)(&curves, usize::MAX, tolerance, records)
+}
+
+/// Bands curves whose control values are stage units.
+fn band_units<const B: usize>(
     curves: &[Curve],
     most: usize,
     tolerance: i32,
     records: &mut [i32],
 ) -> Result<Report, Refusal> {
-    let mut walk = Walk::<B> { tolerance: tolerance.into(), nodes: 0, leaves: Vec::new() };
+    band_curves::<B, 1>(curves, most, tolerance, records)
+}
+
+/// Bands curves whose control values are sixths of a stage unit.
+fn band_sixths<const B: usize>(
+    curves: &[Curve],
+    most: usize,
+    tolerance: i32,
+    records: &mut [i32],
+) -> Result<Report, Refusal> {
+    band_curves::<B, 6>(curves, most, tolerance, records)
+}
+
+/// Bands curves that may have `most` leaves, with B break points to a leaf; U control values make a stage unit.
+/// Checks 7, 19 and 8.
+fn band_curves<const B: usize, const U: i64>(
+    curves: &[Curve],
+    most: usize,
+    tolerance: i32,
+    records: &mut [i32],
+) -> Result<Report, Refusal> {
+    let mut walk = Walk::<B, U> { tolerance: tolerance.into(), nodes: 0, leaves: Vec::new() };
     for (number, curve) in curves.iter().enumerate() {
         walk.visit(number, curve, 1, 0)?;
     }
@@ -82,17 +112,17 @@ fn band_curves<const B: usize>(
 }
 
 /// A walk so far.
-struct Walk<const B: usize> {
+struct Walk<const B: usize, const U: i64> {
     tolerance: i64,
     nodes: u64,
     leaves: Vec<Leaf<B>>,
 }
 
-impl<const B: usize> Walk<B> {
+impl<const B: usize, const U: i64> Walk<B, U> {
     /// Visits a node, and below it the left half before the right half.
     fn visit(&mut self, number: usize, curve: &Curve, node: usize, depth: u32) -> Result<(), Refusal> {
         self.nodes += 1;
-        if let Some(boxes) = curve.boxes_within(self.tolerance) {
+        if let Some(boxes) = curve.boxes_within::<B, U>(self.tolerance) {
             self.leaves.push(Leaf::new(number, node, &boxes));
             return Ok(());
         }

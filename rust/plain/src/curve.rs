@@ -4,7 +4,7 @@
 pub type Values = [i64; 6];
 
 /// A curve, or a part of one that was halved some times. Every control value is a whole number
-/// over 2^`shift`.
+/// over 2^`shift`, of stage units in an outline and of sixths of them in a B-spline.
 #[derive(Debug, Clone, Copy, PartialEq, Eq)]
 pub struct Curve {
     pub degree: usize,

@@ -32,21 +32,21 @@ impl BoxBounds {
 
 impl Curve {
     /// The boxes at B break points, or nothing where the diagonal of one of them is longer than the
-    /// tolerance.
-    pub fn boxes_within<const B: usize>(&self, tolerance: i64) -> Option<[BoxBounds; B]> {
+    /// tolerance. U control values make a stage unit.
+    pub fn boxes_within<const B: usize, const U: i64>(&self, tolerance: i64) -> Option<[BoxBounds; B]> {
         // The compiler then knows how many second differences there are.
         match self.degree {
-            1 => self.boxes::<B, 0>(tolerance),
-            2 => self.boxes::<B, 1>(tolerance),
-            3 => self.boxes::<B, 2>(tolerance),
-            4 => self.boxes::<B, 3>(tolerance),
-            _ => self.boxes::<B, 4>(tolerance),
+            1 => self.boxes::<B, U, 0>(tolerance),
+            2 => self.boxes::<B, U, 1>(tolerance),
+            3 => self.boxes::<B, U, 2>(tolerance),
+            4 => self.boxes::<B, U, 3>(tolerance),
+            _ => self.boxes::<B, U, 4>(tolerance),
         }
     }
 
-    fn boxes<const B: usize, const D: usize>(&self, tolerance: i64) -> Option<[BoxBounds; B]> {
-        let x = Enclosure::<B, D>::new(&self.x, self.shift);
-        let y = Enclosure::<B, D>::new(&self.y, self.shift);
+    fn boxes<const B: usize, const U: i64, const D: usize>(&self, tolerance: i64) -> Option<[BoxBounds; B]> {
+        let x = Enclosure::<B, U, D>::new(&self.x, self.shift);
+        let y = Enclosure::<B, U, D>::new(&self.y, self.shift);
         let mut boxes = [BoxBounds::default(); B];
         for (i, at) in boxes.iter_mut().enumerate() {
             *at = BoxBounds { x: x.bounds(i), y: y.bounds(i) };
@@ -58,9 +58,9 @@ impl Curve {
     }
 }
 
-/// What the bounds of one coordinate at B break points are made of: control values over 2^`shift`, with D
-/// second differences.
-struct Enclosure<const B: usize, const D: usize> {
+/// What the bounds of one coordinate at B break points are made of: control values over 2^`shift`, of which U
+/// make a stage unit, with D second differences.
+struct Enclosure<const B: usize, const U: i64, const D: usize> {
     first: i64,
     last: i64,
     differences: [Difference<B>; D],
@@ -84,11 +84,11 @@ impl<const B: usize> Difference<B> {
     }
 }
 
-impl<const B: usize, const D: usize> Enclosure<B, D> {
+impl<const B: usize, const U: i64, const D: usize> Enclosure<B, U, D> {
     /// The number of pieces between the break points.
     const M: i64 = B as i64 - 1;
 
-    fn new(values: &Values, shift: u32) -> Enclosure<B, D> {
+    fn new(values: &Values, shift: u32) -> Enclosure<B, U, D> {
         let rows = Rows::of(D + 1);
         let difference = |k: usize| values[k] - 2 * values[k + 1] + values[k + 2];
         let differences = std::array::from_fn(|k| Difference::new(difference(k), &rows[k]));
@@ -96,12 +96,13 @@ impl<const B: usize, const D: usize> Enclosure<B, D> {
     }
 
     /// The bounds at break point `i`. The document's sum of m-ths and ten-thousandths, times 16, is one
-    /// fraction over 625 × m × 2^shift.
+    /// fraction over 625 × m × U × 2^shift.
     ///
-    /// It stays within 64 bits. A control value over 2^shift is at most 2^20 in size, so at degree 3 and depth
-    /// 8 it is at most 2^44, and a difference 2^46; m times an entry is below 2^15, so the chord is below 2^61
-    /// and two rows add at most 2^62. At degree 5 and depth 4 they are at most 2^40 and 2^42; m times an entry
-    /// is below 2^16, so the chord is below 2^57 and four rows add at most 2^60. Lower degrees have less.
+    /// It stays within 64 bits. A control value over 2^shift is at most 2^20 in size, also in sixths, which are
+    /// at most 6 × 2^17; so at degree 3 and depth 8 it is at most 2^44, and a difference 2^46; m times an entry is
+    /// below 2^15, so the chord is below 2^61 and two rows add at most 2^62. At degree 5 and depth 4 they are at
+    /// most 2^40 and 2^42; m times an entry is below 2^16, so the chord is below 2^57 and four rows add at most
+    /// 2^60. Lower degrees have less.
     fn bounds(&self, i: usize) -> Bounds {
         let along = i as i64;
         let chord = 10_000 * ((Self::M - along) * self.first + along * self.last);
@@ -113,10 +114,10 @@ impl<const B: usize, const D: usize> Enclosure<B, D> {
         Bounds { low: self.floor(low), high: -self.floor(-high) }
     }
 
-    /// A number over 625 × m × 2^shift, rounded down: first by the power of two, then by a divisor that the
+    /// A number over 625 × m × U × 2^shift, rounded down: first by the power of two, then by a divisor that the
     /// compiler knows.
     fn floor(&self, number: i64) -> i64 {
-        (number >> self.shift).div_euclid(625 * Self::M)
+        (number >> self.shift).div_euclid(625 * Self::M * U)
     }
 }
 
@@ -127,14 +128,14 @@ mod tests {
     use crate::pieces::for_pieces;
 
     /// The bounds of one coordinate at every break point.
-    fn bounds<const B: usize>(values: &Values, degree: usize, shift: u32) -> [Bounds; B] {
+    fn bounds<const B: usize, const U: i64>(values: &Values, degree: usize, shift: u32) -> [Bounds; B] {
         let curve = Curve { degree, x: *values, y: *values, shift };
-        let boxes = curve.boxes_within::<B>(1 << 30).expect("no box is so large");
+        let boxes = curve.boxes_within::<B, U>(1 << 30).expect("no box is so large");
         boxes.map(|b| b.x)
     }
 
-    /// The document's formula, kept over m × 10000 × 2^shift in wide numbers.
-    fn formula<const B: usize>(values: &Values, degree: usize, shift: u32, i: usize) -> Bounds {
+    /// The document's formula, kept over m × 10000 × U × 2^shift in wide numbers.
+    fn formula<const B: usize, const U: i64>(values: &Values, degree: usize, shift: u32, i: usize) -> Bounds {
         let c: Vec<i128> = values[..=degree].iter().map(|&v| i128::from(v)).collect();
         let (m, i_wide) = (B as i128 - 1, i as i128);
         let chord = ((m - i_wide) * c[0] + i_wide * c[degree]) * 10_000;
@@ -148,7 +149,7 @@ mod tests {
                 })
                 .sum()
         };
-        let over = (m * 10_000) << shift;
+        let over = (m * 10_000 * i128::from(U)) << shift;
         let low = (16 * (chord + sum(false))).div_euclid(over);
         let high = -(-16 * (chord + sum(true))).div_euclid(over);
         Bounds { low: low as i64, high: high as i64 }
@@ -158,12 +159,22 @@ mod tests {
     fn bounds_are_the_documents_formula() {
         for m in 1..=8 {
             for degree in (1..=5).filter(|&degree| m >= fewest_pieces(degree)) {
-                for_pieces!(m, bounds_are_the_formula)(degree);
+                for_pieces!(m, bounds_in_units_are_the_formula)(degree);
             }
+            for_pieces!(m, bounds_in_sixths_are_the_formula)();
         }
     }
 
-    fn bounds_are_the_formula<const B: usize>(degree: usize) {
+    fn bounds_in_units_are_the_formula<const B: usize>(degree: usize) {
+        bounds_are_the_formula::<B, 1>(degree);
+    }
+
+    /// Of the degree of a B-spline's curves.
+    fn bounds_in_sixths_are_the_formula<const B: usize>() {
+        bounds_are_the_formula::<B, 6>(3);
+    }
+
+    fn bounds_are_the_formula<const B: usize, const U: i64>(degree: usize) {
         const EDGE: i64 = 1_048_576;
         const SOME: [i64; 8] = [-EDGE, -37, 1, EDGE, 18, -EDGE + 1, 0, -1];
         // The more control values, the fewer numbers for each.
@@ -174,8 +185,8 @@ mod tests {
             values[degree + 1..].fill(0);
             let mut node = Curve { degree, x: values, y: values, shift: 0 };
             for depth in 0..=deepest(degree) {
-                for (i, got) in bounds::<B>(&node.x, degree, node.shift).into_iter().enumerate() {
-                    assert_eq!(got, formula::<B>(&node.x, degree, node.shift, i));
+                for (i, got) in bounds::<B, U>(&node.x, degree, node.shift).into_iter().enumerate() {
+                    assert_eq!(got, formula::<B, U>(&node.x, degree, node.shift, i));
                     assert!(got.low <= got.high);
                     // A record holds it, and passes check 10.
                     assert!(got.low.abs().max(got.high.abs()) <= 536_870_912);
@@ -191,10 +202,14 @@ mod tests {
     fn a_low_is_rounded_down_below_zero() {
         // -37.6, 37.6 and -38, over 1875 and over 7500.
         for shift in [0, 2] {
-            let over = Enclosure::<4, 0>::new(&[0; 6], shift);
+            let over = Enclosure::<4, 1, 0>::new(&[0; 6], shift);
             assert_eq!(over.floor(-70_500 << shift), -38);
             assert_eq!(over.floor(70_500 << shift), 37);
             assert_eq!(over.floor(-71_250 << shift), -38);
+            let sixths = Enclosure::<4, 6, 0>::new(&[0; 6], shift);
+            assert_eq!(sixths.floor(-6 * 70_500 << shift), -38);
+            assert_eq!(sixths.floor(-6 * 71_250 << shift), -38);
+            assert_eq!(sixths.floor(-6 * 71_250 - 1 << shift), -39);
         }
     }
 
@@ -208,7 +223,7 @@ mod tests {
             2 => (6666 - 3155 + 3703, 6667 - 2962 + 4400),
             _ => (10_000 - 88, 10_000 + 696),
         };
-        for (i, got) in bounds::<4>(&values, 3, 0).into_iter().enumerate() {
+        for (i, got) in bounds::<4, 1>(&values, 3, 0).into_iter().enumerate() {
             let (low, high) = tenthousandths(i);
             let expected = ((16_i64 * low).div_euclid(10_000), -(-16_i64 * high).div_euclid(10_000));
             assert_eq!((got.low, got.high), expected);
@@ -227,10 +242,10 @@ mod tests {
         for inner in [[10_000, 0], [1_000, 1_000], [100, 100], [0, 100]] {
             let y = [0, inner[0], inner[1], 0, 0, 0];
             let curve = Curve { degree: 3, x: [0; 6], y, shift: 0 };
-            let widths = bounds::<B>(&y, 3, 0).map(Bounds::width);
+            let widths = bounds::<B, 1>(&y, 3, 0).map(Bounds::width);
             let widest = widths.into_iter().max().expect("there are boxes");
-            assert!(curve.boxes_within::<B>(widest).is_some());
-            assert!(curve.boxes_within::<B>(widest - 1).is_none());
+            assert!(curve.boxes_within::<B, 1>(widest).is_some());
+            assert!(curve.boxes_within::<B, 1>(widest - 1).is_none());
             inside |= widest > widths[0].max(widths[B - 1]);
         }
         // A test of the first and last boxes only would miss it.

@@ -62,27 +62,57 @@ fn over(above: usize, below: usize) -> Fraction {
     Fraction::new(above as i128, below as i128)
 }
 
+/// One coordinate of each of some points, given as x and y in turn: 0 for x, 1 for y.
+fn coordinate(points: &[i32], which: usize) -> Vec<Fraction> {
+    points[which..].iter().step_by(2).map(|&c| Fraction::new(c.into(), 1)).collect()
+}
+
 /// The records of an outline that no check refuses, or 512 × curve + node of the first node at the greatest
 /// depth, which is 8, or 4 for degrees 4 and 5, that does not meet the tolerance.
 pub fn records(outline: &[i32], tolerance: i32, m: usize) -> Result<Vec<i32>, u64> {
-    let rows: Vec<Pair> = pairs().into_iter().filter(|pair| pair.m == m).collect();
-    let mut records = Vec::new();
-    let (mut curve, mut at) = (0, 0);
+    let mut curves = Vec::new();
+    let mut at = 0;
     while at < outline.len() {
         let degree = outline[at] as usize;
         let points = &outline[at + 1..][..2 * (degree + 1)];
-        let coordinate = |first: usize| -> Vec<Fraction> {
-            points[first..].iter().step_by(2).map(|&c| Fraction::new(c.into(), 1)).collect()
-        };
-        let [x, y] = [coordinate(0), coordinate(1)];
+        curves.push([0, 1].map(|which| coordinate(points, which)));
+        at += 3 + 2 * degree;
+    }
+    records_of(&curves, tolerance, m)
+}
+
+/// The records of the B-spline of a list of points that no check refuses, or the spot of refusal 7.
+pub fn spline_records(points: &[i32], tolerance: i32, m: usize) -> Result<Vec<i32>, u64> {
+    let curve = |first: usize| [0, 1].map(|which| control_values(&coordinate(&points[2 * first..], which)));
+    let curves: Vec<_> = (0..points.len() / 2 - 3).map(curve).collect();
+    records_of(&curves, tolerance, m)
+}
+
+/// One coordinate of the control points that request 13 makes of the first four points.
+fn control_values(b: &[Fraction]) -> Vec<Fraction> {
+    let (two, four) = (over(2, 1), over(4, 1));
+    vec![
+        over(1, 6) * (b[0] + four * b[1] + b[2]),
+        over(1, 3) * (two * b[1] + b[2]),
+        over(1, 3) * (b[1] + two * b[2]),
+        over(1, 6) * (b[1] + four * b[2] + b[3]),
+    ]
+}
+
+/// The records of curves, each as the control values of x and of y.
+fn records_of(curves: &[[Vec<Fraction>; 2]], tolerance: i32, m: usize) -> Result<Vec<i32>, u64> {
+    let rows: Vec<Pair> = pairs().into_iter().filter(|pair| pair.m == m).collect();
+    let mut records = Vec::new();
+    for (curve, values) in curves.iter().enumerate() {
+        let degree = values[0].len() - 1;
         let greatest_depth = if [4, 5].contains(&degree) { 4 } else { 8 };
         let mut node = 1_usize;
         loop {
-            let [x, y] = [&x, &y].map(|values| bounds(&part(values, node), &rows));
+            let [x, y] = [0, 1].map(|which| bounds(&part(&values[which], node), &rows));
             let width = |(low, high): &(i128, i128)| high - low;
             let meets = |(x, y)| width(x).pow(2) + width(y).pow(2) <= i128::from(tolerance).pow(2);
             if x.iter().zip(&y).all(meets) {
-                records.extend([curve, node as i32]);
+                records.extend([curve as i32, node as i32]);
                 let boxes = x.iter().zip(&y);
                 records.extend(boxes.flat_map(|(x, y)| [x.0, x.1, y.0, y.1].map(|n| n as i32)));
                 node = (node + 1) >> (node + 1).trailing_zeros();
@@ -95,8 +125,6 @@ pub fn records(outline: &[i32], tolerance: i32, m: usize) -> Result<Vec<i32>, u6
                 node *= 2;
             }
         }
-        at += 3 + 2 * degree;
-        curve += 1;
     }
     Ok(records)
 }

@@ -2,7 +2,7 @@
 //! degrees 4 and 5, and laws of banding's reports.
 
 use crate::documented::{by_pieces, pairs};
-use crate::{band, exact, record_length, Refusal, Report};
+use crate::{band, exact, record_length, spline_band, Refusal, Report};
 
 /// The length of a record of three pieces.
 const RECORD: usize = 18;
@@ -287,6 +287,79 @@ fn records_are_those_in_exact_fractions() {
             }
         }
     }
+}
+
+/// The answer for a B-spline, with room for every leaf, and the records. Checks that nothing else was written.
+fn spline(m: u32, points: &[i32], tolerance: i32) -> (Result<Report, Refusal>, Vec<i32>) {
+    let length = record_length(m);
+    let mut records = vec![UNTOUCHED; length * 64 * 256];
+    let answer = spline_band(points, tolerance, m, &mut records);
+    let rest = records.split_off(length * answer.map_or(0, |report| report.leaves as usize));
+    assert!(rest.iter().all(|&n| n == UNTOUCHED));
+    (answer, records)
+}
+
+/// The control points of curve A. Those of its B-spline are (10 25), (40/3 30), (50/3 30) and (20 25).
+const SPLINE_A: [i32; 8] = [0, 0, 10, 30, 20, 30, 30, 0];
+
+#[test]
+fn a_spline_is_banded_in_sixths() {
+    let (answer, records) = spline(3, &SPLINE_A, 9);
+    assert_eq!(answer, Ok(Report { curves: 1, leaves: 1, nodes: 1 }));
+    #[rustfmt::skip]
+    let leaf = [0, 1, 160, 160, 400, 407, 213, 214, 453, 461, 266, 267, 453, 461, 320, 320, 400, 407];
+    assert_eq!(records, leaf);
+}
+
+#[test]
+fn records_of_splines_are_those_in_exact_fractions() {
+    const EDGE: i32 = 131_072;
+    let splines: [&[i32]; 6] = [
+        &SPLINE_A,
+        // Sixths that are no halves and no thirds, of either sign.
+        &[0, 0, 1, -1, 3, 7, -4, 2, 5, 5, 11, -13, 0, 1],
+        // One point; points on a line; a point that stands twice.
+        &[-7, 5].repeat(5),
+        &[0, 0, 10, 20, 20, 40, 30, 60, 35, 70],
+        &[0, 0, 400, 300, 400, 300, 0, 800, 0, 800, 0, 800, 100, 100],
+        &[EDGE, -EDGE, -EDGE, EDGE, EDGE, EDGE, -EDGE, -EDGE, EDGE, -EDGE],
+    ];
+    for (m, points) in (1..=8).flat_map(|m| splines.map(|points| (m, points))) {
+        for tolerance in [2, 3, 7, 16, 45, 1_000, 50_000, 1_048_576] {
+            let (answer, records) = spline(m, points, tolerance);
+            match exact::spline_records(points, tolerance, m as usize) {
+                Ok(expected) => {
+                    let report = answer.expect("the list is accepted");
+                    assert_eq!(report.curves as usize, points.len() / 2 - 3);
+                    assert_eq!(report.leaves as usize, expected.len() / record_length(m));
+                    assert_eq!(records, expected);
+                }
+                Err(spot) => assert_eq!(answer.map_err(number_and_spot), Err((7, spot))),
+            }
+        }
+    }
+}
+
+/// The checks in their order: 18, 1, 24, 25, 7, 8.
+#[test]
+fn refusals_of_splines_in_their_order() {
+    let refused = |points: &[i32], tolerance, m, lent: usize| {
+        let mut records = vec![UNTOUCHED; lent];
+        let refusal = spline_band(points, tolerance, m, &mut records).expect_err("it is refused");
+        assert!(records.iter().all(|&n| n == UNTOUCHED));
+        number_and_spot(refusal)
+    };
+    let far = [0, 0, 0, 131_073, 0, 0, 0, 0];
+    for m in 1..=8 {
+        assert_eq!(refused(&[], 1, 9, 0), (18, 0));
+        assert_eq!(refused(&[], 1, m, 0), (1, 0));
+        assert_eq!(refused(&[], 2, m, 0), (24, 0));
+        assert_eq!(refused(&far[..7], 2, m, 0), (24, 7));
+        assert_eq!(refused(&far, 2, m, 0), (25, 3));
+        assert_eq!(refused(&[0; 8], 2, m, record_length(m) - 1), (8, 1));
+    }
+    let wide = [0, 131_072, 0, -131_072, 0, 131_072, 0, -131_072];
+    assert_eq!(refused(&wide, 2, 1, 0), (7, 256));
 }
 
 #[test]

@@ -2,11 +2,11 @@
 //! proved engine, and the two are compared with each other, number by number.
 //!
 //! [`band`] encloses an outline of Bézier curves in boxes, with m pieces to a leaf, and [`station_band`] a small
-//! one; [`judge`] says whether a point lies on what they cover, [`band_and_judge`] does both, and [`draw`] draws
-//! the hull of two boxes.
+//! one; [`spline_band`] encloses a B-spline. [`judge`] says whether a point lies on what they cover,
+//! [`band_and_judge`] does both, and [`draw`] draws the hull of two boxes.
 //! [`text::answer`] is the text program. The modules follow the documents: the checks of an outline, of a
-//! degree and of m, halving, the rows and the enclosure, the walk; the checks of a leaf list and a point,
-//! covers, judging; drawing; the lines of a text, its answer.
+//! degree and of m, the curves of a B-spline, halving, the rows and the enclosure, the walk; the checks of a leaf
+//! list and a point, covers, judging; drawing; the lines of a text, its answer.
 
 #![forbid(unsafe_code)]
 
@@ -29,9 +29,10 @@ mod outline;
 mod pieces;
 mod refusal;
 mod rows;
+mod spline;
 pub mod text;
 
-pub use band::{band, station_band, Report};
+pub use band::{band, spline_band, station_band, Report};
 pub use hull::draw;
 pub use judge::{band_and_judge, judge, judge_points, Judgement};
 pub use pieces::record_length;

@@ -97,6 +97,16 @@ pub enum Refusal {
         /// Where the degree stands in the outline.
         index: usize,
     },
+    /// 24: a B-spline's list of points has an odd count of numbers, too few or too many.
+    SplineLength {
+        /// The length of the list.
+        length: usize,
+    },
+    /// 25: a coordinate of a B-spline's point is outside its range.
+    SplineCoordinate {
+        /// Where the first such coordinate stands in the list.
+        index: usize,
+    },
     /// 101: the list of points has an odd count of numbers.
     OddPoints {
         /// The length of the list.
@@ -128,6 +138,8 @@ impl Refusal {
             Refusal::Pieces => 18,
             Refusal::TooManyLeaves { .. } => 19,
             Refusal::TooFewPieces { .. } => 20,
+            Refusal::SplineLength { .. } => 24,
+            Refusal::SplineCoordinate { .. } => 25,
             Refusal::OddPoints { .. } => 101,
         }
     }
@@ -142,9 +154,11 @@ impl Refusal {
             | Refusal::TooManyCurves { index }
             | Refusal::LeafListNumber { index }
             | Refusal::Gap { index }
-            | Refusal::TooFewPieces { index } => index,
+            | Refusal::TooFewPieces { index }
+            | Refusal::SplineCoordinate { index } => index,
             Refusal::CutShort { length }
             | Refusal::LeafListLength { length }
+            | Refusal::SplineLength { length }
             | Refusal::OddPoints { length } => length,
             Refusal::TooWide { curve, node } => 512 * curve + node,
             Refusal::TooFewRecords { leaves } | Refusal::TooManyLeaves { leaves } => leaves,

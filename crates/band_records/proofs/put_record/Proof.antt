@@ -4,7 +4,8 @@ use lib.Dec.{lit<}
 use lib.ListN.{length-set}
 use mir.Syntax.{w32}
 use mir.Facts.{toZ-pos}
-use Rattle.setting.specs.Setting.{lists, breakPoints}
+use Rattle.setting.specs.Setting.{breakPoints}
+use Rattle.bound_pieces.specs.Inside.{settingOf}
 use Rattle.curve_nodes.specs.Nodes.{depth}
 use Rattle.curve_nodes.proofs.Numbers.{depth-under}
 use Rattle.band_records.specs.Records.{boxesTo, nodeNumbers}
@@ -23,8 +24,7 @@ put-boxes-requires c κs =
     let p = s .pre in (
       simp length-set (omega arith),
       p .4,
-      p .5,
-      rw (c .before .depth .ensures) (p .6),
+      rw (c .before .depth .ensures) (p .5),
       omega arith,
       rw (c .before .depth .ensures) (depth-under (s .args .node) 8 (p .3) (p .2)),
     )
@@ -34,14 +34,14 @@ returns c =
     let d = c .before .before .before in
     let s = d .before in
     let a = s .args in
-    head-sets (a .records .now) (a .at) (a .number) (a .node) (boxesTo (lists (a .m)) (breakPoints (lists (a .m))) (depth (a .node)) (a .curve))
+    head-sets (a .records .now) (a .at) (a .number) (a .node) (boxesTo (settingOf (a .pieces)) (breakPoints (settingOf (a .pieces))) (depth (a .node)) (a .curve))
     (toZ-pos w32 (s .pre .1)) (toZ-pos w32 (lt-trans (s .pre .2) (lit< tt))) (rw (← (d .depth .ensures)) (c .before .put-boxes .ensures))
 
 same-length : tie.Need-same-length
 same-length c =
     let a = c .before .before .before .before .args in
     kept (a .records .now) (a .at)
-    (nodeNumbers (a .number) (a .node) (boxesTo (lists (a .m)) (breakPoints (lists (a .m))) (depth (a .node)) (a .curve))) (returns c)
+    (nodeNumbers (a .number) (a .node) (boxesTo (settingOf (a .pieces)) (breakPoints (settingOf (a .pieces))) (depth (a .node)) (a .curve))) (returns c)
 
 pub put-record-spec : {M : Type 1} → statement M
 put-record-spec =

@@ -4,10 +4,11 @@ use lib.Dec.{lit<}
 use lib.ListN.{length-set}
 use mir.Syntax.{w32}
 use mir.Facts.{toZ-pos}
-use Rattle.setting.specs.Setting.{lists, breakPoints}
+use Rattle.setting.specs.Setting.{breakPoints}
+use Rattle.bound_pieces.specs.Inside.{settingOf}
 use Rattle.curve_nodes.specs.Nodes.{depth}
 use Rattle.curve_nodes.proofs.Numbers.{depth-under}
-use Rattle.bound_pieces.proofs.PiecesLaws.{scaled}
+use Rattle.bound_pieces.proofs.PiecesLaws.{scaled-alone}
 use Rattle.band_records.specs.Records.{boxesTo, nodeNumbers}
 use Rattle.band_records.proofs.Writing.{kept, head-sets}
 use native.Mathlib.Omega.{arith}
@@ -29,7 +30,7 @@ put-boxes-requires c κs =
       p .7,
       p .5,
       rw (c .before .depth .ensures) (depth-under (s .args .node) 4 (p .3) (p .2)),
-      scaled (p .4 .has) (p .4 .is),
+      scaled-alone (p .4 .has) (p .4 .is) (p .8),
     )
 
 returns : tie.Need-returns
@@ -37,14 +38,14 @@ returns c =
     let d = c .before .before .before in
     let s = d .before in
     let a = s .args in
-    head-sets (a .records .now) (a .at) (a .number) (a .node) (boxesTo (lists (a .pieces .m)) (breakPoints (lists (a .pieces .m))) (depth (a .node)) (a .curve))
-    (toZ-pos w32 (s .pre .1)) (toZ-pos w32 (lt-trans (s .pre .2) (lit< tt))) (rw (← (d .depth .ensures)) (c .before .put-boxes .ensures))
+    head-sets (a .records .now) (a .at) (a .number) (a .node) (boxesTo (settingOf (a .pieces)) (breakPoints (settingOf (a .pieces))) (depth (a .node)) (a .curve))
+    (toZ-pos w32 (s .pre .1)) (toZ-pos w32 (lt-trans (s .pre .2) (lit< tt))) (rw (s .pre .8, ← (d .depth .ensures)) (c .before .put-boxes .ensures))
 
 same-length : tie.Need-same-length
 same-length c =
     let a = c .before .before .before .before .args in
     kept (a .records .now) (a .at)
-    (nodeNumbers (a .number) (a .node) (boxesTo (lists (a .pieces .m)) (breakPoints (lists (a .pieces .m))) (depth (a .node)) (a .curve))) (returns c)
+    (nodeNumbers (a .number) (a .node) (boxesTo (settingOf (a .pieces)) (breakPoints (settingOf (a .pieces))) (depth (a .node)) (a .curve))) (returns c)
 
 pub put-record-higher-spec : {M : Type 1} → statement M
 put-record-higher-spec =

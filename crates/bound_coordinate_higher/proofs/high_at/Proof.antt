@@ -11,7 +11,7 @@ use Rattle.bound_coordinate_higher.proofs.high_at.Statement.{statement}
 use Rattle.bound_coordinate_higher.proofs.high_at.Tie as tie
 
 sub-more : tie.Need-sub-more
-sub-more c = let h = c .before .pre .0 in less-fits (h .most) (le-trans (h .shallow) (omega arith))
+sub-more c = let h = c .before .pre .0 in less-fits (le-trans (h .most) (omega arith)) (le-trans (h .shallow) (omega arith))
 
 add-rounded-down : tie.Need-add-rounded-down
 add-rounded-down c =

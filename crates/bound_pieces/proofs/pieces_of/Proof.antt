@@ -17,7 +17,7 @@ returns c =
     let a0 = a1 .before in
     c .pieces-by .ensures ∙ pieces-second (a0 .before .pre .0) (single .gap-at5 .ensures .0) (a0 .gap-at .ensures .0) (a1 .gap-at2 .ensures .0)
     (b0 .gap-at3 .ensures .0) (b1 .gap-at4 .ensures .0) (g .larger .ensures) (quartic .gaps-of .ensures) (quintic .gaps-of2 .ensures)
-    (c .before .if1 .taken)
+    (a0 .before .args .sixths) (c .before .if1 .taken)
 
 returns-2 : tie.Need-returns-2
 returns-2 c =
@@ -31,7 +31,7 @@ returns-2 c =
     let a0 = a1 .before in
     c .pieces-by2 .ensures ∙ pieces-first (a0 .before .pre .0) (single .gap-at5 .ensures .0) (a0 .gap-at .ensures .0) (a1 .gap-at2 .ensures .0)
     (b0 .gap-at3 .ensures .0) (b1 .gap-at4 .ensures .0) (g .larger .ensures) (quartic .gaps-of .ensures) (quintic .gaps-of2 .ensures)
-    (c .before .if1 .left)
+    (a0 .before .args .sixths) (c .before .if1 .left)
 
 pub pieces-of-spec : {M : Type 1} → statement M
 pieces-of-spec =

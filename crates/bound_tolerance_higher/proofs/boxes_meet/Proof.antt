@@ -8,16 +8,15 @@ use lib.IntN.{ℤ, _*ℤ_}
 use lib.Signed.{ltZ}
 use mir.Syntax.{w64}
 use mir.Val.{toZ}
-use Rattle.setting.specs.Setting.{lists}
 use Rattle.integers.specs.Squares.{squared}
 use Rattle.integers.proofs.Ranges.{stored}
 use Rattle.integers.proofs.Machine.{fits!, is! }
 use Rattle.bound_coordinate.proofs.Coordinates.{bounded}
 use Rattle.bound_coordinate.proofs.Chosen.{higher-computable}
-use Rattle.bound_pieces.specs.Inside.{higherAcrossBy}
+use Rattle.bound_pieces.specs.Inside.{settingOf, higherAcrossBy}
 use Rattle.bound_node.proofs.Narrow.{diagonal}
 use Rattle.bound_pieces.proofs.Boxes.{higher-boundable-x, higher-boundable-y}
-use Rattle.bound_pieces.proofs.PiecesLaws.{scaled}
+use Rattle.bound_pieces.proofs.PiecesLaws.{scaled-alone}
 use Rattle.bound_tolerance.proofs.ToleranceLaws.{none-next, box-fails, boxes-pass, higher-across-is}
 use Rattle.bound_tolerance_higher.proofs.boxes_meet.Statement.{statement}
 use Rattle.bound_tolerance_higher.proofs.boxes_meet.Tie as tie
@@ -49,8 +48,8 @@ is-wide-requires c κs =
     let y = c .before .before in
     let p = y .before .before .before .before .pre in
     let r = p .0 in (
-      rw (y .before .higher-of .ensures) (higher-computable (r .has) (r .copied) (p .3) (p .2 .most) (p .4) (p .2 .x) (scaled (r .has) (r .is))),
-      rw (y .higher-of2 .ensures) (higher-computable (r .has) (r .copied) (p .3) (p .2 .most) (p .4) (p .2 .y) (scaled (r .has) (r .is))),
+      rw (y .before .higher-of .ensures) (higher-computable (r .has) (r .copied) (p .3) (p .2 .most) (p .4) (p .2 .x) (scaled-alone (r .has) (r .is) (p .6))),
+      rw (y .higher-of2 .ensures) (higher-computable (r .has) (r .copied) (p .3) (p .2 .most) (p .4) (p .2 .y) (scaled-alone (r .has) (r .is) (p .6))),
       omega arith,
     )
 
@@ -66,17 +65,17 @@ found y =
 
 same : (y : tie.After-higher-of2 Inv-loop μ-loop) →
     let a = y .before .before .before .before .args in
-    (i : ℕ) → i ≤ a .pieces .m → found y i ≡ diagonal (lists (a .pieces .m)) (a .depth) (a .curve) i
+    (i : ℕ) → i ≤ a .pieces .m → found y i ≡ diagonal (settingOf (a .pieces)) (a .depth) (a .curve) i
 same y =
     let p = y .before .before .before .before .pre in
-    higher-across-is (p .0) (p .2) (p .3) (p .1) (y .before .higher-of .ensures) (y .higher-of2 .ensures)
+    higher-across-is (p .0) (p .2) (p .3) (p .1) (p .6) (y .before .higher-of .ensures) (y .higher-of2 .ensures)
 
 returns : tie.Need-returns Inv-loop μ-loop
 returns c =
     let l = c .before .before .before in
     let y = l .before in
     let s = y .before .before .before .before in
-    sym (box-fails (s .args .depth) (s .args .curve) (found y) (same y) (s .args .t) (square-is s) (l .loop .i) (omega arith) (sym (c .before .is-wide .ensures) ∙ c .if1 .taken))
+    sym (box-fails (settingOf (s .args .pieces)) (s .args .depth) (s .args .curve) (found y) (same y) (s .args .t) (square-is s) (l .loop .i) (omega arith) (sym (c .before .is-wide .ensures) ∙ c .if1 .taken))
 
 add-i : tie.Need-add-i Inv-loop μ-loop
 add-i c = omega (arith, c .before .before .before .before .before .before .before .before .pre .0 .has .most)
@@ -100,7 +99,7 @@ returns-2 c =
     let y = l .before in
     let s = y .before .before .before .before in
     let e : l .loop .i ≡ s .args .pieces .m + 1 = omega arith in
-    sym (boxes-pass (s .args .depth) (s .args .curve) (found y) (same y) (s .args .t) (square-is s)
+    sym (boxes-pass (settingOf (s .args .pieces)) (s .args .depth) (s .args .curve) (found y) (same y) (s .args .t) (square-is s)
     (λ j h. l .loop .inv .1 j (omega (arith, e, h))))
 
 pub boxes-meet-spec : {M : Type 1} → statement M

@@ -12,17 +12,18 @@ use lib.Signed.{ltZ}
 use mir.Syntax.{w64}
 use borrow.Author.Needs.{needs}
 use borrow.Author.Tests.{not-true}
-use Rattle.setting.specs.Setting.{lists, degreePieces}
+use Rattle.setting.specs.Setting.{degreePieces}
 use Rattle.integers.specs.Squares.{squared}
 use Rattle.integers.proofs.Ranges.{stored, lt-yes}
 use Rattle.integers.proofs.Machine.{fits!, is!, flag! }
 use Rattle.bound_coordinate.specs.Inside.{Small}
 use Rattle.bound_coordinate.proofs.Coordinates.{bounded}
+use Rattle.bound_pieces.specs.Inside.{settingOf}
 use Rattle.bound_tolerance_higher.specs.Told.{mostOf, endOf, acrossOf, acrossAbove}
 use Rattle.bound_pieces.proofs.Boxes.{many-takes, higher-boundable-x, higher-boundable-y}
 use Rattle.bound_pieces.proofs.Apart.{below-meets, above-meets, tolerance-small}
 use Rattle.bound_pieces.proofs.Corners.{covered-meets, reached-fails}
-use Rattle.bound_tolerance_higher.proofs.HigherLaws.{most-covers, first-reaches, last-reaches, spread, spread-at}
+use Rattle.bound_tolerance_higher.proofs.HigherLaws.{most-covers-times, times-reaches, first-reaches, last-reaches, spread, spread-at}
 use Rattle.bound_tolerance_higher.proofs.verdict_of.Statement.{statement}
 use Rattle.bound_tolerance_higher.proofs.verdict_of.Tie as tie
 
@@ -47,13 +48,13 @@ takes s = many-takes (s .args .curve .degree) (s .args .pieces .m) (s .pre .2)
 returns : tie.Need-returns
 returns c =
     let s = c .before in
-    below-meets (lists (s .args .pieces .m)) (s .pre .0) (s .args .t) (s .args .depth) (s .args .curve) (s .pre .3) (takes s)
+    below-meets (settingOf (s .args .pieces)) (s .pre .0) (s .args .t) (s .args .depth) (s .args .curve) (s .pre .3) (takes s)
     (lt-yes (flag! (c .if1 .taken) (search (s .fits .t, bounded) depth 40) tt))
 
 returns-2 : tie.Need-returns-2
 returns-2 c =
     let s = c .before .before in
-    above-meets (lists (s .args .pieces .m)) (s .pre .0) (s .args .t) (s .args .depth) (s .args .curve) (s .pre .3) (takes s)
+    above-meets (settingOf (s .args .pieces)) (s .pre .0) (s .args .t) (s .args .depth) (s .args .curve) (s .pre .3) (takes s)
     (lt-yes (flag! (c .if2 .taken) (search (s .fits .t, bounded) depth 40) tt))
 
 gaps-for-requires : tie.Need-gaps-for-requires
@@ -94,11 +95,11 @@ returns-3 c =
     let a = s .args in
     let p = s .pre in
     let e = g .gaps-for .ensures in
-    let w = mostOf (g .gaps-for .result) (x .sizes-of .result) in
-    let h = mostOf (g .gaps-for .result) (y .sizes-of2 .result) in
-    covered-meets (lists (a .pieces .m)) (p .0) (a .t) (p .3) (takes s) w h
-    (most-covers (a .pieces .m) (p .0) (p .2) (a .curve .x) (p .4) (p .3 .most) e (x .sizes-of .ensures))
-    (most-covers (a .pieces .m) (p .0) (p .2) (a .curve .y) (p .4) (p .3 .most) e (y .sizes-of2 .ensures))
+    let w = 6 * mostOf (g .gaps-for .result) (x .sizes-of .result) in
+    let h = 6 * mostOf (g .gaps-for .result) (y .sizes-of2 .result) in
+    covered-meets (settingOf (a .pieces)) (p .0) (a .t) (p .3) (takes s) w h
+    (most-covers-times (a .pieces .m) (p .0) (p .2) (a .curve .x) (p .4) (p .3 .most) e (x .sizes-of .ensures) (p .6))
+    (most-covers-times (a .pieces .m) (p .0) (p .2) (a .curve .y) (p .4) (p .3 .most) e (y .sizes-of2 .ensures) (p .6))
     (ap (λ q. ltZ q (acrossAbove w h (a .curve .degree * a .depth))) (sym (square-is (g .before)))
     ∙ opposite (ltZ (stored w64 (stored w64 (a .t) *ℤ stored w64 (a .t))) (acrossAbove w h (a .curve .degree * a .depth)))
     (sym (n .is-narrow .ensures) ∙ c .if3 .taken))
@@ -128,11 +129,11 @@ returns-4 c =
     let e = g .gaps-for .ensures in
     let ex = x .sizes-of .ensures in
     let ey = y .sizes-of2 .ensures in
-    let u = endOf (g .gaps-for .result) (getD (x .sizes-of .result) 0 0 ∷ getD (x .sizes-of .result) 1 0 ∷ []) in
-    let v = endOf (g .gaps-for .result) (getD (y .sizes-of2 .result) 0 0 ∷ getD (y .sizes-of2 .result) 1 0 ∷ []) in
-    reached-fails (lists (a .pieces .m)) (p .0) (a .t) (p .3) (takes s) u v 0 zero-le
-    (first-reaches (a .pieces .m) (p .0) (p .2) (a .curve .x) (p .4) (p .3 .most) e ex (ap (λ ns. getD ns 0 0) ex) (ap (λ ns. getD ns 1 0) ex))
-    (first-reaches (a .pieces .m) (p .0) (p .2) (a .curve .y) (p .4) (p .3 .most) e ey (ap (λ ns. getD ns 0 0) ey) (ap (λ ns. getD ns 1 0) ey))
+    let u = 6 * endOf (g .gaps-for .result) (getD (x .sizes-of .result) 0 0 ∷ getD (x .sizes-of .result) 1 0 ∷ []) in
+    let v = 6 * endOf (g .gaps-for .result) (getD (y .sizes-of2 .result) 0 0 ∷ getD (y .sizes-of2 .result) 1 0 ∷ []) in
+    reached-fails (settingOf (a .pieces)) (p .0) (a .t) (p .3) (takes s) u v 0 zero-le
+    (times-reaches (p .6) (first-reaches (a .pieces .m) (p .0) (p .2) (a .curve .x) (p .4) (p .3 .most) e ex (ap (λ ns. getD ns 0 0) ex) (ap (λ ns. getD ns 1 0) ex)))
+    (times-reaches (p .6) (first-reaches (a .pieces .m) (p .0) (p .2) (a .curve .y) (p .4) (p .3 .most) e ey (ap (λ ns. getD ns 0 0) ey) (ap (λ ns. getD ns 1 0) ey)))
     (ap (λ q. ltZ q (acrossOf u v (a .curve .degree * a .depth))) (sym (square-is (g .before))) ∙ sym (w .is-wide-at .ensures) ∙ c .if4 .taken)
 
 is-wide-at-requires-2 : tie.Need-is-wide-at-requires-2
@@ -160,11 +161,11 @@ returns-5 c =
     let e = g .gaps-for .ensures in
     let ex = x .sizes-of .ensures in
     let ey = y .sizes-of2 .ensures in
-    let u = endOf (g .gaps-for .result) (getD (x .sizes-of .result) 3 0 ∷ getD (x .sizes-of .result) 2 0 ∷ []) in
-    let v = endOf (g .gaps-for .result) (getD (y .sizes-of2 .result) 3 0 ∷ getD (y .sizes-of2 .result) 2 0 ∷ []) in
-    reached-fails (lists (a .pieces .m)) (p .0) (a .t) (p .3) (takes s) u v (a .pieces .m) (le-refl (a .pieces .m))
-    (last-reaches (a .pieces .m) (p .0) (p .2) (a .curve .x) (p .4) (p .3 .most) e ex (ap (λ ns. getD ns 3 0) ex) (ap (λ ns. getD ns 2 0) ex))
-    (last-reaches (a .pieces .m) (p .0) (p .2) (a .curve .y) (p .4) (p .3 .most) e ey (ap (λ ns. getD ns 3 0) ey) (ap (λ ns. getD ns 2 0) ey))
+    let u = 6 * endOf (g .gaps-for .result) (getD (x .sizes-of .result) 3 0 ∷ getD (x .sizes-of .result) 2 0 ∷ []) in
+    let v = 6 * endOf (g .gaps-for .result) (getD (y .sizes-of2 .result) 3 0 ∷ getD (y .sizes-of2 .result) 2 0 ∷ []) in
+    reached-fails (settingOf (a .pieces)) (p .0) (a .t) (p .3) (takes s) u v (a .pieces .m) (le-refl (a .pieces .m))
+    (times-reaches (p .6) (last-reaches (a .pieces .m) (p .0) (p .2) (a .curve .x) (p .4) (p .3 .most) e ex (ap (λ ns. getD ns 3 0) ex) (ap (λ ns. getD ns 2 0) ex)))
+    (times-reaches (p .6) (last-reaches (a .pieces .m) (p .0) (p .2) (a .curve .y) (p .4) (p .3 .most) e ey (ap (λ ns. getD ns 3 0) ey) (ap (λ ns. getD ns 2 0) ey)))
     (ap (λ q. ltZ q (acrossOf u v (a .curve .degree * a .depth))) (sym (square-is (g .before))) ∙ sym (w .is-wide-at2 .ensures) ∙ c .if5 .taken)
 
 returns-6 : tie.Need-returns-6

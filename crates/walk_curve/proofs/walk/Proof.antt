@@ -9,7 +9,7 @@ walk-higher-requires : tie.Need-walk-higher-requires
 walk-higher-requires c κs =
     let s = c .before .before in
     let h = c .if1 .taken in
-    (s .pre .0, s .pre .1, h, degree-takes (s .args .curve .degree) (s .args .pieces .m) .0 (s .pre .2) h)
+    (s .pre .0, s .pre .1, h, degree-takes (s .args .curve .degree) (s .args .pieces .m) .0 (s .pre .2 .takes) h, s .pre .2 .units h)
 
 returns : tie.Need-returns
 returns c = rw (toZ-ofZ (c .before .before .before .fits .t)) at (c .walk-higher .ensures)

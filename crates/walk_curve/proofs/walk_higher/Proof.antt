@@ -9,7 +9,8 @@ use mir.Syntax.{w64}
 use mir.Val.{toZ}
 use mir.Facts.{toZ-ofZ}
 use Rattle.integers.proofs.Ranges.{stored}
-use Rattle.setting.specs.Setting.{lists, deepest}
+use Rattle.setting.specs.Setting.{deepest}
+use Rattle.bound_pieces.specs.Inside.{settingOf}
 use Rattle.setting.proofs.Depths.{deepest-high}
 use Rattle.bound_node.specs.Boxes.{meets}
 use Rattle.walk_curve.specs.Walked.{nodeMeets}
@@ -20,7 +21,7 @@ use Rattle.walk_curve.proofs.walk_higher.Statement.{statement}
 use Rattle.walk_curve.proofs.walk_higher.Tie as tie
 
 abbrev Inv-loop : tie.InvT-loop
-Inv-loop rows pieces t part₀ leaves₀ part leaves = Counted (lists (pieces .m)) (toZ w64 t) (part₀ .curve) part leaves
+Inv-loop rows pieces t part₀ leaves₀ part leaves = Counted (settingOf pieces) (toZ w64 t) (part₀ .curve) part leaves
 
 abbrev μ-loop : tie.MeasureT-loop
 μ-loop rows pieces t part₀ leaves₀ part leaves = partRank (part₀ .curve) part
@@ -37,7 +38,7 @@ verdict-of-requires c κs =
     let l = c .before .before in
     let h = l .before .pre in
     let p = part-high (l .loop .inv .walk .of) (h .2) in
-    rw (c .depth .ensures) (h .0 .has, h .0 .is, h .3, p .0, p .1, p .2)
+    rw (c .depth .ensures) (h .0 .has, h .0 .is, h .3, p .0, p .1, p .2, h .4)
 
 same-requires : tie.Need-same-requires Inv-loop μ-loop
 same-requires c κs = part-halvable (c .before .before .before .before .before .loop .inv .walk .of)
@@ -49,12 +50,12 @@ boxes-meet-requires c κs =
     let l = v .before .before .before in
     let h = l .before .pre in
     let p = part-high (l .loop .inv .walk .of) (h .2) in
-    rw (v .before .depth .ensures, c .same .ensures) (h .0, h .3, p .0, p .1, p .2, rw (e .enum-told3 .given .1) at (v .verdict-of .ensures))
+    rw (v .before .depth .ensures, c .same .ensures) (h .0, h .3, p .0, p .1, p .2, rw (e .enum-told3 .given .1) at (v .verdict-of .ensures), h .4)
 
 met : (c : tie.At-match-came Inv-loop μ-loop)
     → let l = c .before .before .before .before in
     let a = l .before .args in
-    c .match .met ≡ nodeMeets (lists (a .pieces .m)) (stored w64 (a .t)) (a .curve) (l .loop .part .node)
+    c .match .met ≡ nodeMeets (settingOf (a .pieces)) (stored w64 (a .t)) (a .curve) (l .loop .part .node)
 met c =
     let v = c .before in
     let l = v .before .before .before in
@@ -65,7 +66,7 @@ met c =
     (λ w. part-narrow p _ (stored w64 (a .t)) e (v .verdict-of .ensures) (w .1 .given .1) (w .2))
     (⊎-elim
     (λ w. part-wide p _ (stored w64 (a .t)) e (v .verdict-of .ensures) (w .1 .given .1) (w .2))
-    (λ w. part-meets p (lists (a .pieces .m)) (stored w64 (a .t)) e (w .4 ∙ w .3 .ensures ∙ ap (meets _ _ _) (w .2 .ensures))))
+    (λ w. part-meets p (settingOf (a .pieces)) (stored w64 (a .t)) e (w .4 ∙ w .3 .ensures ∙ ap (meets _ _ _) (w .2 .ensures))))
     (c .match .came)
 
 -- ---- a leaf

@@ -7,7 +7,8 @@ use mir.Syntax.{w64}
 use mir.Val.{toZ}
 use mir.Facts.{toZ-ofZ}
 use Rattle.integers.proofs.Ranges.{stored}
-use Rattle.setting.specs.Setting.{lists, deepest}
+use Rattle.setting.specs.Setting.{deepest}
+use Rattle.bound_pieces.specs.Inside.{settingOf}
 use Rattle.setting.proofs.Depths.{deepest-low}
 use Rattle.walk_curve.specs.Walked.{nodeMeets}
 use Rattle.walk_curve.proofs.Parts.{part-degree, part-low, part-meets}
@@ -17,7 +18,7 @@ use Rattle.walk_curve.proofs.walk_low.Statement.{statement}
 use Rattle.walk_curve.proofs.walk_low.Tie as tie
 
 abbrev Inv-loop : tie.InvT-loop
-Inv-loop rows pieces t part₀ leaves₀ part leaves = Counted (lists (pieces .m)) (toZ w64 t) (part₀ .curve) part leaves
+Inv-loop rows pieces t part₀ leaves₀ part leaves = Counted (settingOf pieces) (toZ w64 t) (part₀ .curve) part leaves
 
 abbrev μ-loop : tie.MeasureT-loop
 μ-loop rows pieces t part₀ leaves₀ part leaves = partRank (part₀ .curve) part
@@ -38,7 +39,7 @@ meets-requires c κs =
 met : (c : tie.After-meets Inv-loop μ-loop)
     → let l = c .before .before .before in
     let a = l .before .args in
-    c .meets .result ≡ nodeMeets (lists (a .pieces .m)) (stored w64 (a .t)) (a .curve) (l .loop .part .node)
+    c .meets .result ≡ nodeMeets (settingOf (a .pieces)) (stored w64 (a .t)) (a .curve) (l .loop .part .node)
 met c =
     let l = c .before .before .before in
     part-meets (l .loop .inv .walk .of) _ (stored w64 (l .before .args .t)) (c .before .depth .ensures) (c .meets .ensures)

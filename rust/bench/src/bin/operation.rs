@@ -3,7 +3,8 @@
 //!
 //! `operation ENGINE OPERATION INPUT TIMES`. ENGINE is plain, proved or sampled. OPERATION and INPUT are
 //! band with an outline, a number of curves or a depth where it has one, a tolerance and m, as in
-//! nominal:16:3, cubics-64:16:8 and arches-3:44:3; judge with the place of the points and m, as in near:3, and
+//! nominal:16:3, cubics-64:16:8 and arches-3:44:3, spline:16:3 a B-spline and splined:16:3 its curves as an
+//! outline; judge with the place of the points and m, as in near:3, and
 //! with a number of curves where each is to have 256 leaves, as in near-4096:3; points, which judges TIMES points in
 //! one call, with the same, and with -scattered behind the place or the number where the records are to stand in no
 //! order, as in near-4096-scattered:3; with the place none it makes TIMES calls without a point; draw with the shape
@@ -42,6 +43,9 @@ fn with_pieces(input: &str) -> Option<(&str, u32)> {
     Some((rest, m.parse().ok().filter(|m| (1..=8).contains(m))?))
 }
 
+type PlainBand = fn(&[i32], i32, u32, &mut [i32]) -> Result<plain::Report, plain::Refusal>;
+type ProvedBand = fn(&[i32], i32, u32, &mut [i32]) -> Result<contour_band::Report, Refusal>;
+
 fn band(engine: &str, input: &str, times: usize) -> Option<()> {
     let (rest, m) = with_pieces(input)?;
     let (name, tolerance) = rest.split_once(':')?;
@@ -51,15 +55,21 @@ fn band(engine: &str, input: &str, times: usize) -> Option<()> {
         None if name == "nominal" => outlines::nominal(),
         None if name == "quartics" => outlines::quartics(),
         None if name == "quintics" => outlines::quintics(),
+        None if name == "spline" => outlines::spline(),
+        None if name == "splined" => outlines::splined(),
         _ => return None,
+    };
+    let (plain_band, proved_band): (PlainBand, ProvedBand) = match name {
+        "spline" => (plain::spline_band, contour_band::spline_band),
+        _ => (plain::band, contour_band::band),
     };
     let tolerance = tolerance.parse().ok()?;
     // An empty list asks how many leaves there are.
-    let Err(Refusal::TooFewRecords { leaves }) = contour_band::band(&outline, tolerance, m, &mut []) else {
+    let Err(Refusal::TooFewRecords { leaves }) = proved_band(&outline, tolerance, m, &mut []) else {
         return None;
     };
     let mut records = vec![0; leaves * record_length(m)];
-    let report = contour_band::band(&outline, tolerance, m, &mut records).ok()?;
+    let report = proved_band(&outline, tolerance, m, &mut records).ok()?;
     let mut leaves = vec![0; report.curves as usize];
     for record in records.chunks_exact(record_length(m)) {
         leaves[record[0] as usize] += 1;
@@ -67,8 +77,8 @@ fn band(engine: &str, input: &str, times: usize) -> Option<()> {
     for _ in 0..times {
         let (outline, records) = (black_box(&outline[..]), black_box(&mut records[..]));
         match engine {
-            "plain" => plain::band(outline, tolerance, m, records).map(|_| ()).ok()?,
-            "proved" => contour_band::band(outline, tolerance, m, records).map(|_| ()).ok()?,
+            "plain" => plain_band(outline, tolerance, m, records).map(|_| ()).ok()?,
+            "proved" => proved_band(outline, tolerance, m, records).map(|_| ()).ok()?,
             "sampled" if m == M => sampled::band(outline, &leaves, Packing::TowardsZero, records),
             _ => return None,
         }

@@ -9,4 +9,5 @@ mod meeting;
 mod most_curves;
 mod random;
 mod short_lists;
+mod splines;
 mod station;

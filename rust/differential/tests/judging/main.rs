@@ -11,4 +11,5 @@ mod most_records;
 mod pieces;
 mod random;
 mod small;
+mod splines;
 mod together;

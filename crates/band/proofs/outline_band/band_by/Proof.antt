@@ -5,12 +5,11 @@ use native.Mathlib.Omega.{arith}
 use lib.ListN.{length}
 use borrow.Author.Needs.{needs}
 use mir.Facts.{toZ-ofZ}
-use Rattle.setting.specs.Setting.{limited, lists, recordLength}
+use Rattle.setting.specs.Setting.{relimited, recordLength}
+use Rattle.bound_pieces.specs.Inside.{settingOf}
 use Rattle.setting.proofs.Pieces.{record-length-is}
 use Rattle.band_passes.specs.declared.passes.Counted.the-variants.{Total}
-use Rattle.band_passes.specs.Leaves.{curvesOf}
-use Rattle.band_passes.specs.Inside.{countedOf}
-use Rattle.outline.specs.Checks.{outlineFrom}
+use Rattle.band_passes.specs.Inside.{curvesIn, countedOf}
 use Rattle.band.proofs.Answers.{answer-too-wide, answer-few, answer-nodes, answer-too-many, answer-too-few, answer-list, numbers-few}
 use Rattle.band.proofs.Answers.{read-count, fillable, report-done}
 use Rattle.band.proofs.outline_band.band_by.Statement.{statement}
@@ -20,7 +19,7 @@ use Rattle.band.proofs.outline_band.band_by.Tie as tie
 counted : (c : tie.After-known-told2) →
     let s = c .before .before .before .before in
     Total (c .before .leaves .given .0 .0)
-    ≡ countedOf (lists (s .args .pieces .m)) (s .args .t) (curvesOf (outlineFrom (s .args .curves) (s .args .pieces .m) (s .args .ns .now) 0))
+    ≡ countedOf (settingOf (s .args .pieces)) (s .args .t) (curvesIn (s .args .form) (s .args .ns .now) (s .args .curves))
 counted c =
     let s = c .before .before .before .before in
     rw (toZ-ofZ (s .fits .t)) at (sym (c .before .leaves .given .1) ∙ c .before .before .before .count .ensures)
@@ -30,7 +29,7 @@ returns c =
     let k = c .before in
     let s = k .before .before .before .before in
     let a = s .args in (
-      answer-too-many (limited (a .curves) (a .most) (a .pieces .m)) (a .t) (curvesOf (outlineFrom (a .curves) (a .pieces .m) (a .ns .now) 0)) (counted k) _
+      answer-too-many (relimited (settingOf (a .pieces)) (a .curves) (a .most)) (a .t) (curvesIn (a .form) (a .ns .now) (a .curves)) (counted k) _
           (c .if1 .taken),
       search needs,
     )
@@ -50,8 +49,8 @@ mul-if2 c =
     let k = c .before in
     let s = k .before .before .before .before in
     let r = s .pre .1 in
-    let cs = curvesOf (outlineFrom (s .args .curves) (s .args .pieces .m) (s .args .ns .now) 0) in
-    let few = answer-few (lists (s .args .pieces .m)) (s .args .t) cs (counted k) (omega (arith, read-count (lists (s .args .pieces .m)) r, r .few)) in
+    let cs = curvesIn (s .args .form) (s .args .ns .now) (s .args .curves) in
+    let few = answer-few (settingOf (s .args .pieces)) (s .args .t) cs (counted k) (omega (arith, read-count (settingOf (s .args .pieces)) r, r .few)) in
     omega (arith, numbers-few (s .pre .0 .has .most) few)
 
 -- the test of the room, in the numbers of a record
@@ -61,13 +60,13 @@ returns-2 c =
     let s = k .before .before .before .before in
     let a = s .args in
     let m = a .pieces .m in (
-      answer-too-few (limited (a .curves) (a .most) m) (a .t) (curvesOf (outlineFrom (a .curves) (a .pieces .m) (a .ns .now) 0)) (counted k) (taken (c .before))
+      answer-too-few (relimited (settingOf (a .pieces)) (a .curves) (a .most)) (a .t) (curvesIn (a .form) (a .ns .now) (a .curves)) (counted k) (taken (c .before))
           (rw (record-length-is m) at (c .if2 .taken)),
       search needs,
     )
 
 enough : (c : tie.Else2) → let k = c .before .before in
-    recordLength (lists (k .before .before .before .before .args .pieces .m)) * k .before .leaves .given .0 .0
+    recordLength (settingOf (k .before .before .before .before .args .pieces)) * k .before .leaves .given .0 .0
     ≤ length (k .before .before .before .before .args .records .now)
 enough c = rw (record-length-is (c .before .before .before .before .before .before .args .pieces .m)) at (c .if2 .left)
 
@@ -76,21 +75,21 @@ write-all-requires c κs =
     let k = c .before .before .before in
     let s = k .before .before .before .before in (
       s .pre .0,
-      rw (toZ-ofZ (s .fits .t)) (fillable (lists (s .args .pieces .m)) (s .pre .1) (s .args .t) (counted k) (enough (c .before))),
+      rw (toZ-ofZ (s .fits .t)) (fillable (settingOf (s .args .pieces)) (s .pre .1) (s .args .t) (counted k) (enough (c .before))),
     )
 
 sub-nodes : tie.Need-sub-nodes
 sub-nodes c =
     let k = c .before .before .before .before .before in
     let s = k .before .before .before .before in
-    let cs = curvesOf (outlineFrom (s .args .curves) (s .args .pieces .m) (s .args .ns .now) 0) in
-    omega (arith, answer-nodes (lists (s .args .pieces .m)) (s .args .t) cs (counted k), read-count (lists (s .args .pieces .m)) (s .pre .1))
+    let cs = curvesIn (s .args .form) (s .args .ns .now) (s .args .curves) in
+    omega (arith, answer-nodes (settingOf (s .args .pieces)) (s .args .t) cs (counted k), read-count (settingOf (s .args .pieces)) (s .pre .1))
 
 returns-3 : tie.Need-returns-3
 returns-3 c =
     let s = c .before .before .before .before in
     let a = s .args in (
-      answer-too-wide (limited (a .curves) (a .most) (a .pieces .m)) (a .t) (curvesOf (outlineFrom (a .curves) (a .pieces .m) (a .ns .now) 0)) _
+      answer-too-wide (relimited (settingOf (a .pieces)) (a .curves) (a .most)) (a .t) (curvesIn (a .form) (a .ns .now) (a .curves)) _
           (rw (toZ-ofZ (s .fits .t)) at (sym (c .before .refusal .given .1) ∙ c .before .before .before .count .ensures)),
       search needs,
     )
@@ -103,9 +102,9 @@ returns-4 c =
     let m = a .pieces .m in
     let e = counted k in
     let h = enough (c .before .before .before) in (
-      report-done (limited (a .curves) (a .most) m) (s .pre .1) (a .t) e (taken (c .before .before .before .before)) h,
+      report-done (settingOf (a .pieces)) (s .pre .1) (a .most) (a .t) e (taken (c .before .before .before .before)) h,
       (rw (toZ-ofZ (s .fits .t)) at (c .before .write-all .ensures))
-          ∙ answer-list (lists m) (a .t) (curvesOf (outlineFrom (a .curves) (a .pieces .m) (a .ns .now) 0)) e (a .records .now) h,
+          ∙ answer-list (settingOf (a .pieces)) (a .t) (curvesIn (a .form) (a .ns .now) (a .curves)) e (a .records .now) h,
     )
 
 pub band-by-spec : {M : Type 1} → statement M

@@ -1,4 +1,4 @@
--- `band_passes::leaf_count::count` meets its contract. The loop's invariant: with k curves done and so many leaves counted, the whole outline's
+-- `band_passes::leaf_count::count` meets its contract. The loop's invariant: with k curves done and so many leaves counted, the whole list's
 -- answer is what the rest of it gives, counted on. The measure is the number of curves left.
 use mathlib.Core.Path.{_≡_, sym, _∙_, ap}
 use Prim.Native.Nat.{_-_}
@@ -8,79 +8,70 @@ use mir.Syntax.{w64}
 use mir.Val.{toZ}
 use mir.Facts.{toZ-ofZ}
 use Rattle.integers.proofs.Ranges.{stored}
-use Rattle.setting.specs.Setting.{lists}
-use Rattle.outline.specs.Curves.{curveAt}
+use Rattle.bound_pieces.specs.Inside.{settingOf}
 use Rattle.walk_curve.specs.declared.Walked.the-variants.{Leaves}
 use Rattle.walk_curve.specs.Inside.{walkedOf}
-use Rattle.band_passes.proofs.Outlines.{rest-next}
+use Rattle.band_passes.specs.Inside.{readAt}
+use Rattle.band_passes.proofs.Reading.{rest-next}
 use Rattle.band_passes.proofs.CountPasses.{Passed, passed-start, passed-wide, passed-few, passed-more, passed-done}
 use Rattle.band_passes.proofs.leaf_count.count.Statement.{statement}
 use Rattle.band_passes.proofs.leaf_count.count.Tie as tie
 
 abbrev Inv-loop : tie.InvT-loop
-Inv-loop rows pieces ns t curves leaves₀ at₀ k₀ leaves at k = Passed (lists (pieces .m)) (toZ w64 t) ns curves k at leaves
+Inv-loop rows pieces form ns t curves leaves₀ at₀ k₀ leaves at k = Passed (settingOf pieces) (toZ w64 t) form ns curves k at leaves
 
 abbrev μ-loop : tie.MeasureT-loop
-μ-loop rows pieces ns t curves leaves₀ at₀ k₀ leaves at k = curves - k
+μ-loop rows pieces form ns t curves leaves₀ at₀ k₀ leaves at k = curves - k
 
 loop-holds : tie.Need-loop-holds Inv-loop μ-loop
 loop-holds c = passed-start (c .pre .1)
 
-curve-at-requires : tie.Need-curve-at-requires Inv-loop μ-loop
-curve-at-requires c κs =
-    let p = c .before .loop .inv in
-    let f = rest-next (p .rest) (p .ahead) (c .loop-test .taken) .no-fault in
-    (f .degree, f .ends)
+read-at-requires : tie.Need-read-at-requires Inv-loop μ-loop
+read-at-requires c κs = rest-next (c .before .loop .inv .ahead) (c .loop-test .taken) .here .stands
+
+next-of-requires : tie.Need-next-of-requires Inv-loop μ-loop
+next-of-requires c κs = rest-next (c .before .before .loop .inv .ahead) (c .before .loop-test .taken) .here .stands
 
 walk-requires : tie.Need-walk-requires Inv-loop μ-loop
 walk-requires c κs =
-    let p = c .before .before .loop .inv in
-    let x = rest-next (p .rest) (p .ahead) (c .before .loop-test .taken) in
-    rw (c .curve-at .ensures) (c .before .before .before .pre .0, x .sized, x .takes)
-
-cast-t14 : tie.Need-cast-t14 Inv-loop μ-loop
-cast-t14 c = omega (arith, c .before .before .before .before .before .before .before .pre .1 .few)
+    let l = c .before .before .before in
+    let x = rest-next (l .loop .inv .ahead) (c .before .before .loop-test .taken) .here in
+    rw (c .before .read-at .ensures) (l .before .pre .0, x .sized, x .suits)
 
 returns : tie.Need-returns Inv-loop μ-loop
 returns c =
     let t = c .before .before .before in
-    let s = t .before .before .before .before in
-    rw (toZ-ofZ (s .fits .t)) at
-    (passed-wide (t .before .before .before .loop .inv) (t .before .before .loop-test .taken) (c .before .node .given .0 .0)
-    (sym (c .before .node .given .1) ∙ t .walk .ensures ∙ ap (walkedOf _ _) (t .before .curve-at .ensures)))
+    let l = t .before .before .before .before in
+    rw (toZ-ofZ (l .before .fits .t)) at
+    (passed-wide (l .loop .inv) (t .before .before .before .loop-test .taken) (c .before .node .given .0 .0)
+    (sym (c .before .node .given .1) ∙ t .walk .ensures ∙ ap (walkedOf _ _) (t .before .before .read-at .ensures)))
 
 -- what the walk of the curve at hand gave
 leaves-walked : (c : tie.After-known-told2 Inv-loop μ-loop) →
-    let l = c .before .before .before .before .before .before in
+    let l = c .before .before .before .before .before .before .before in
     let a = l .before .args in
-    Leaves (c .before .n .given .0 .0) ≡ walkedOf (lists (a .pieces .m)) (stored w64 (a .t)) (curveAt (a .ns .now) (l .loop .at))
+    Leaves (c .before .n .given .0 .0) ≡ walkedOf (settingOf (a .pieces)) (stored w64 (a .t)) (readAt (a .form) (a .ns .now) (l .loop .at))
 leaves-walked c =
     let t = c .before .before .before in
-    sym (c .before .n .given .1) ∙ t .walk .ensures ∙ ap (walkedOf _ _) (t .before .curve-at .ensures)
+    sym (c .before .n .given .1) ∙ t .walk .ensures ∙ ap (walkedOf _ _) (t .before .before .read-at .ensures)
 
 add-leaves : tie.Need-add-leaves Inv-loop μ-loop
 add-leaves c =
-    let l = c .before .before .before .before .before .before in
+    let t = c .before .before .before .before .before .before in
     omega (
       arith,
-      passed-few (l .loop .inv) (c .before .before .before .before .before .loop-test .taken) (c .before .n .given .0 .0) (leaves-walked c),
-      l .before .pre .1 .few,
+      passed-few (t .before .loop .inv) (t .loop-test .taken) (c .before .n .given .0 .0) (leaves-walked c),
+      t .before .before .pre .1 .few,
     )
-
-next-at-requires : tie.Need-next-at-requires Inv-loop μ-loop
-next-at-requires c κs =
-    let l = c .before .before .before .before .before .before in
-    rest-next (l .loop .inv .rest) (l .loop .inv .ahead) (c .before .before .before .before .before .loop-test .taken) .no-fault .degree
 
 add-k : tie.Need-add-k Inv-loop μ-loop
 add-k c = omega (arith, c .before .before .before .before .before .before .before .before .pre .1 .few)
 
 loop-again : tie.Need-loop-again Inv-loop μ-loop
 loop-again c =
-    let l = c .before .before .before .before .before .before .before in
-    rw (c .next-at .ensures)
-    (passed-more (l .loop .inv) (c .before .before .before .before .before .before .loop-test .taken) (c .before .before .n .given .0 .0)
-    (leaves-walked (c .before)))
+    let t = c .before .before .before .before .before .before in
+    rw (c .before .before .before .before .next-of .ensures)
+    (passed-more (t .before .loop .inv) (t .loop-test .taken) (c .before .n .given .0 .0) (leaves-walked c))
 
 returns-2 : tie.Need-returns-2 Inv-loop μ-loop
 returns-2 c = rw (toZ-ofZ (c .before .before .fits .t)) at (passed-done (c .before .loop .inv) (c .loop-test .left))
@@ -88,5 +79,5 @@ returns-2 c = rw (toZ-ofZ (c .before .before .fits .t)) at (passed-done (c .befo
 pub count-spec : {M : Type 1} → statement M
 count-spec =
     tie.close
-    (tie.spec Inv-loop μ-loop loop-holds curve-at-requires walk-requires (λ c. search needs) cast-t14 returns
-    (λ c. search needs) add-leaves next-at-requires add-k (λ c. omega arith) loop-again returns-2)
+    (tie.spec Inv-loop μ-loop loop-holds read-at-requires next-of-requires walk-requires (λ c. search needs)
+    (λ c. omega (arith, c .before .before .before .before .before .before .before .before .pre .1 .few)) returns (λ c. search needs) add-leaves add-k (λ c. omega arith) loop-again returns-2)

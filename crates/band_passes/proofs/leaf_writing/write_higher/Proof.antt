@@ -10,7 +10,8 @@ use mir.Val.{toZ}
 use mir.Facts.{toZ-ofZ}
 use lib.ListN.{length}
 use Rattle.integers.proofs.Ranges.{stored}
-use Rattle.setting.specs.Setting.{lists, recordLength, deepest}
+use Rattle.setting.specs.Setting.{recordLength, deepest}
+use Rattle.bound_pieces.specs.Inside.{settingOf}
 use Rattle.setting.proofs.Depths.{deepest-high}
 use Rattle.setting.proofs.Pieces.{record-length-is, degree-takes}
 use Rattle.bound_node.specs.Boxes.{meets}
@@ -25,7 +26,7 @@ use Rattle.band_passes.proofs.leaf_writing.write_higher.Tie as tie
 
 abbrev Inv-loop : tie.InvT-loop
 Inv-loop records₀ at rows pieces number t m record-length part₀ place₀ records part place =
-    Recorded (lists (pieces .m)) (toZ w64 t) (part₀ .curve) number records₀ at part place records
+    Recorded (settingOf pieces) (toZ w64 t) (part₀ .curve) number records₀ at part place records
 
 abbrev μ-loop : tie.MeasureT-loop
 μ-loop records₀ at rows pieces number t m record-length part₀ place₀ records part place = partRank (part₀ .curve) part
@@ -37,16 +38,16 @@ add-record-length : tie.Need-add-record-length Inv-loop μ-loop
 add-record-length c = omega (arith, c .pre .0 .has .most)
 
 -- the contract's own, at the tolerance as it is stored, and that there are pieces enough
-ready : (c : tie.Start Inv-loop μ-loop) → EndsMeet (lists (c .args .pieces .m)) (stored w64 (c .args .t)) (c .args .curve)
+ready : (c : tie.Start Inv-loop μ-loop) → EndsMeet (settingOf (c .args .pieces)) (stored w64 (c .args .t)) (c .args .curve)
 ready c = rw (toZ-ofZ (c .fits .t)) (c .pre .1)
 
 enough : (c : tie.Start Inv-loop μ-loop) → 3 ≤ c .args .pieces .m
-enough c = degree-takes (c .args .curve .degree) (c .args .pieces .m) .0 (c .pre .1 .takes) (c .pre .4)
+enough c = degree-takes (c .args .curve .degree) (c .args .pieces .m) .0 (c .pre .1 .suits .takes) (c .pre .4)
 
 loop-holds : tie.Need-loop-holds Inv-loop μ-loop
 loop-holds c = recorded-start (ready c)
 
-room : (c : tie.At-loop Inv-loop μ-loop) → c .loop .place + recordLength (lists (c .before .args .pieces .m)) ≤ length (c .loop .records)
+room : (c : tie.At-loop Inv-loop μ-loop) → c .loop .place + recordLength (settingOf (c .before .args .pieces)) ≤ length (c .loop .records)
 room c = recorded-room (c .loop .inv) (rw (toZ-ofZ (c .before .fits .t)) (c .before .pre .3))
 
 -- ---- the test of the node
@@ -58,7 +59,7 @@ verdict-of-requires c κs =
     let l = c .before .before .before in
     let h = l .before .pre in
     let p = part-high (l .loop .inv .walk .of) (h .4) in
-    rw (c .before .depth .ensures) (h .0 .has, h .0 .is, enough (l .before), p .0, p .1, p .2)
+    rw (c .before .depth .ensures) (h .0 .has, h .0 .is, enough (l .before), p .0, p .1, p .2, h .1 .suits .units (h .4))
 
 same-requires : tie.Need-same-requires Inv-loop μ-loop
 same-requires c κs = part-halvable (c .before .before .before .before .before .before .loop .inv .walk .of)
@@ -72,12 +73,12 @@ boxes-meet-requires c κs =
     let h = l .before .pre in
     let p = part-high (l .loop .inv .walk .of) (h .4) in
     rw (d .depth .ensures, c .same .ensures)
-    (h .0, enough (l .before), p .0, p .1, p .2, rw (e .enum-told3 .given .1) at (v .verdict-of .ensures))
+    (h .0, enough (l .before), p .0, p .1, p .2, rw (e .enum-told3 .given .1) at (v .verdict-of .ensures), h .1 .suits .units (h .4))
 
 met : (c : tie.Joined1 Inv-loop μ-loop)
     → let l = c .before .before .before in
     let a = l .before .args in
-    c .if1 .met ≡ nodeMeets (lists (a .pieces .m)) (stored w64 (a .t)) (a .curve) (l .loop .part .node)
+    c .if1 .met ≡ nodeMeets (settingOf (a .pieces)) (stored w64 (a .t)) (a .curve) (l .loop .part .node)
 met c =
     let l = c .before .before .before in
     let a = l .before .args in
@@ -89,7 +90,7 @@ met c =
     (λ w. part-narrow p _ (stored w64 (a .t)) e (w .1 .ensures) (w .3 .given .1) (w .4))
     (⊎-elim
     (λ w. part-wide p _ (stored w64 (a .t)) e (w .1 .ensures) (w .3 .given .1) (w .4))
-    (λ w. part-meets p (lists (a .pieces .m)) (stored w64 (a .t)) e (w .6 ∙ w .5 .ensures ∙ ap (meets _ _ _) (w .4 .ensures)))))
+    (λ w. part-meets p (settingOf (a .pieces)) (stored w64 (a .t)) e (w .6 ∙ w .5 .ensures ∙ ap (meets _ _ _) (w .4 .ensures)))))
     (c .if1 .came)
 
 -- ---- a leaf
@@ -99,7 +100,7 @@ put-record-higher-requires c κs =
     let p = l .loop .inv .walk .of in
     let h = l .before .pre in
     let q = part-high p (h .4) in
-    (room l, h .2, rw (deepest-high _ (h .4)) at (p .deep), p .some, h .0, enough (l .before), q .0, q .1)
+    (room l, h .2, rw (deepest-high _ (h .4)) at (p .deep), p .some, h .0, enough (l .before), q .0, q .1, h .1 .suits .units (h .4))
 
 add-place : tie.Need-add-place Inv-loop μ-loop
 add-place c = let l = c .before .before .before .before .before .before .before in omega (arith, room l, recorded-length (l .loop .inv))

@@ -8,7 +8,8 @@ use mir.Val.{toZ}
 use mir.Facts.{toZ-ofZ}
 use lib.ListN.{length}
 use Rattle.integers.proofs.Ranges.{stored}
-use Rattle.setting.specs.Setting.{lists, recordLength, deepest}
+use Rattle.setting.specs.Setting.{recordLength, deepest}
+use Rattle.bound_pieces.specs.Inside.{settingOf}
 use Rattle.setting.proofs.Pieces.{record-length-is}
 use Rattle.walk_curve.specs.Walked.{nodeMeets}
 use Rattle.walk_curve.proofs.Parts.{part-node, part-degree, part-low, part-meets}
@@ -21,7 +22,7 @@ use Rattle.band_passes.proofs.leaf_writing.write_low.Tie as tie
 
 abbrev Inv-loop : tie.InvT-loop
 Inv-loop records₀ at rows pieces number t m record-length part₀ place₀ records part place =
-    Recorded (lists (pieces .m)) (toZ w64 t) (part₀ .curve) number records₀ at part place records
+    Recorded (settingOf pieces) (toZ w64 t) (part₀ .curve) number records₀ at part place records
 
 abbrev μ-loop : tie.MeasureT-loop
 μ-loop records₀ at rows pieces number t m record-length part₀ place₀ records part place = partRank (part₀ .curve) part
@@ -33,13 +34,13 @@ add-record-length : tie.Need-add-record-length Inv-loop μ-loop
 add-record-length c = omega (arith, c .pre .0 .has .most)
 
 -- the contract's own, at the tolerance as it is stored
-ready : (c : tie.Start Inv-loop μ-loop) → EndsMeet (lists (c .args .pieces .m)) (stored w64 (c .args .t)) (c .args .curve)
+ready : (c : tie.Start Inv-loop μ-loop) → EndsMeet (settingOf (c .args .pieces)) (stored w64 (c .args .t)) (c .args .curve)
 ready c = rw (toZ-ofZ (c .fits .t)) (c .pre .1)
 
 loop-holds : tie.Need-loop-holds Inv-loop μ-loop
 loop-holds c = recorded-start (ready c)
 
-room : (c : tie.At-loop Inv-loop μ-loop) → c .loop .place + recordLength (lists (c .before .args .pieces .m)) ≤ length (c .loop .records)
+room : (c : tie.At-loop Inv-loop μ-loop) → c .loop .place + recordLength (settingOf (c .before .args .pieces)) ≤ length (c .loop .records)
 room c = recorded-room (c .loop .inv) (rw (toZ-ofZ (c .before .fits .t)) (c .before .pre .3))
 
 -- ---- the test of the node
@@ -55,7 +56,7 @@ meets-requires c κs =
 met : (c : tie.After-meets Inv-loop μ-loop)
     → let l = c .before .before .before in
     let a = l .before .args in
-    c .meets .result ≡ nodeMeets (lists (a .pieces .m)) (stored w64 (a .t)) (a .curve) (l .loop .part .node)
+    c .meets .result ≡ nodeMeets (settingOf (a .pieces)) (stored w64 (a .t)) (a .curve) (l .loop .part .node)
 met c =
     let l = c .before .before .before in
     part-meets (l .loop .inv .walk .of) _ (stored w64 (l .before .args .t)) (c .before .depth .ensures) (c .meets .ensures)
@@ -67,7 +68,7 @@ put-record-requires c κs =
     let p = l .loop .inv .walk .of in
     let h = l .before .pre in
     let q = part-low p (h .4) in
-    (room l, h .2, part-node p, p .some, h .0 .has, h .0 .copied, q .0, q .1)
+    (room l, h .2, part-node p, p .some, h .0, q .0, q .1)
 
 add-place : tie.Need-add-place Inv-loop μ-loop
 add-place c = let l = c .before .before .before .before .before .before .before in omega (arith, room l, recorded-length (l .loop .inv))

@@ -1,4 +1,5 @@
 -- The boxes at the break points of a curve of degree 4 or 5: the pairs of one coordinate, then those of the other between them.
+use mathlib.Core.Path.{refl}
 use Prim.Native.Nat.{_*_, _≤_}
 use native.Mathlib.Nat.{mul-le-mul}
 use native.Mathlib.Omega.{arith}
@@ -52,7 +53,7 @@ returns c =
     let s = x .before .before .before .before .before in
     let a = s .args in
     let p = s .pre in
-    both-written (lists (a .m)) (p .1) (a .depth) (a .curve) (p .3) (p .2) (p .4) (p .5) (x .before .higher-of .ensures) (y .before .higher-of2 .ensures)
+    both-written (lists (a .m)) (p .1) (a .depth) (a .curve) (p .3) (p .2) (p .4) refl (p .5) (x .before .higher-of .ensures) (y .before .higher-of2 .ensures)
     (a .records .now) (a .at) (x .put-coordinate .ensures) (y .put-coordinate2 .ensures)
 
 pub put-boxes-spec : {M : Type 1} → statement M

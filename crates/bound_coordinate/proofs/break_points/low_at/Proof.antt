@@ -10,17 +10,16 @@ use Rattle.bound_coordinate.proofs.break_points.low_at.Tie as tie
 numerator-requires : tie.Need-numerator-requires
 numerator-requires c κs =
     let s = c .before .before in
-    let h = s .pre .0 in
-    (record { m = s .args .m; s = s .args .shift; c = s .args .scale; computable = h; point = s .pre .1 }, omega arith, omega arith)
+    (record { q = s .args .divisor; s = s .args .shift; c = s .args .scale; at = s .pre }, omega arith, omega arith)
 
 rounded-down-requires : tie.Need-rounded-down-requires
 rounded-down-requires c κs =
     let s = c .before .before .before in
-    let h = s .pre .0 in
+    let h = s .pre .computable in
     let a = s .args in
     let t = a .t in
-    let d = dividend (a .rows .now) (t .row0 + (3 * a .i + 1)) (t .row1 + (3 * a .i + 1)) h (s .pre .1) (omega arith) (omega arith) in
-    (low-size d (c .numerator .ensures), h .shallow, h .scaled, h .most)
+    let d = dividend (a .rows .now) (t .row0 + (3 * a .i + 1)) (t .row1 + (3 * a .i + 1)) (s .pre) (omega arith) (omega arith) in
+    (low-size d (c .numerator .ensures), h .shallow, h .scaled, h .few)
 
 returns : tie.Need-returns
 unfolding lowBy
@@ -28,7 +27,7 @@ returns c =
     let s = c .before .before .before .before in
     let a = s .args in
     let t = a .t in
-    low-computed (dividend (a .rows .now) (t .row0 + (3 * a .i + 1)) (t .row1 + (3 * a .i + 1)) (s .pre .0) (s .pre .1) (omega arith) (omega arith))
+    low-computed (dividend (a .rows .now) (t .row0 + (3 * a .i + 1)) (t .row1 + (3 * a .i + 1)) (s .pre) (omega arith) (omega arith))
     (c .before .numerator .ensures) (c .rounded-down .ensures)
 
 pub low-at-spec : {M : Type 1} → statement M

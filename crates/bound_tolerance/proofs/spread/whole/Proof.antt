@@ -1,4 +1,4 @@
--- The fraction rounded up: raised by its denominator less one, then divided down by a shift and by 625.
+-- The fraction rounded up: raised by its denominator less one, then divided down by a shift and by 3750.
 use Prim.Native.Nat.{_+_, _^_}
 use native.Mathlib.Nat.{div-le-self}
 use native.Mathlib.Omega.{arith}
