@@ -1,4 +1,5 @@
-/* The C interface of the contour band engine: banding an outline or a B-spline, judging points, drawing the hull of two boxes.
+/* The C interface of the contour band engine: banding an outline or a B-spline, foretelling an outline's leaves, judging
+ * points, drawing the hull of two boxes.
  *
  * The library is made at the root of the repository, and a program is linked with it, by
  *
@@ -36,9 +37,9 @@
  * Pointers: each must be aligned for the numbers it points to and must not be NULL, also where a length is 0. Lists that one
  * call is lent must not overlap. Lengths count numbers, not bytes, and every length and all contents are taken.
  *
- * Threads: any number of calls may run at once as long as no list that one of them writes to (the records, the answers, the
- * vertices) is lent to another. Lists that are only read (the outline, a spline's points, the leaves, the points) may be
- * shared. */
+ * Threads: any number of calls may run at once as long as no list that one of them writes to (the records, the depths, the
+ * answers, the vertices) is lent to another. Lists that are only read (the outline, a spline's points, the leaves, the
+ * points) may be shared. */
 #ifndef CONTOUR_BAND_H
 #define CONTOUR_BAND_H
 
@@ -92,9 +93,9 @@ extern "C" {
 
 /* The refusals, each with its condition and its spot. They stand in the order in which an operation tries them: banding 18, 1
  * to 8, 17 and 20 (5, 2, 20, 3, 4 and 17 curve by curve), and 19 for the bench station alone; banding a B-spline 18, 1, 24,
- * 25, 7 and 8; judging 18 and 9 to 11, a list of points 18, 9, 10, 101 and then 8, and 11 is the answer to a point; banding and
- * judging together those of banding and then 11, drawing 12 and 13. A refusal leaves every lent list as it was. Numbers from
- * 101 on stand in no document: they are the engine's own. */
+ * 25, 7 and 8; foretelling those of banding but for 7 and 19; judging 18 and 9 to 11, a list of points 18, 9, 10, 101 and then
+ * 8, and 11 is the answer to a point; banding and judging together those of banding and then 11, drawing 12 and 13. A refusal
+ * leaves every lent list as it was. Numbers from 101 on stand in no document: they are the engine's own. */
 enum contour_band_refusal {
     CONTOUR_BAND_ACCEPTED = 0,         /* nothing is refused; 0 */
     CONTOUR_BAND_PIECES = 18,          /* m is not 1 to 8; 0 */
@@ -112,7 +113,8 @@ enum contour_band_refusal {
                                         * tolerance; 512 * curve + node, for the first */
     CONTOUR_BAND_TOO_MANY_LEAVES = 19, /* the bench station's outline has more than 128 leaves; the number of leaves */
     CONTOUR_BAND_TOO_FEW_RECORDS = 8,  /* records_length is less than (6 + 4 * m) * leaves; the number of leaves. Of points:
-                                        * answers_length is less than 3 * points; the number of points */
+                                        * answers_length is less than 3 * points; the number of points. Of foretelling:
+                                        * depths_length is less than the curves; the number of curves */
     CONTOUR_BAND_LEAVES_LENGTH = 9,    /* leaves_length is 0 or no multiple of 6 + 4 * m; leaves_length */
     CONTOUR_BAND_LEAVES_NUMBER = 10,   /* a number of the leaves is bad, see contour_judge; the index of the first such */
     CONTOUR_BAND_ODD_POINTS = 101,     /* points_length is odd; points_length */
@@ -179,6 +181,36 @@ struct contour_band_answer contour_station_band(const int32_t *outline, size_t o
  * Stack: CONTOUR_BAND_STATION_STACK bytes are enough, whatever is given. */
 struct contour_band_answer contour_spline_band(const int32_t *points, size_t points_length, int32_t tolerance, uint32_t m,
                                                int32_t *records, size_t records_length);
+
+/* What foretelling answers. */
+struct contour_band_foretold {
+    uint32_t refusal; /* 0 where nothing is refused, else the number of the refusal */
+    uint64_t spot;    /* the refusal's spot; 0 where nothing is refused */
+    uint64_t leaves;  /* the most leaves that banding can count; 0 where a curve has no depth or anything is refused */
+    uint64_t nodes;   /* the most nodes that banding can count; 0 where a curve has no depth or anything is refused */
+};
+
+/* Foretells how many leaves contour_band can count for an outline, without halving a curve: with room for so many records
+ * lent, and the same tolerance and m, it refuses neither with 7 nor with 8.
+ *
+ * outline, tolerance, m: as for contour_band.
+ * depths: where one number is written for each curve: its depth, or -1 where it has none. The depth is the least j, up to the
+ *     greatest depth of the curve, 8, or 4 for degrees 4 and 5, with
+ *
+ *         2 * (16 * G * M + 20000 * 4^j)^2 <= (10000 * tolerance * 4^j)^2
+ *
+ *     where M is the largest second difference of the curve's control points, in x or in y, and G goes by its degree and m
+ *     (docs/ROWS.md). No leaf of the curve is deeper.
+ *
+ * Accepted: the first numbers of the depths, one a curve, are written, and the numbers past them stay as they were. leaves is
+ * the sum of 2^j and nodes that of 2^(j + 1) - 1; where a curve has no depth both are 0, and nothing is foretold: contour_band
+ * may refuse with 7, or accept, as it does with small curves at a tolerance of 2, where no curve has a depth.
+ * Refused: every number of the depths stays as it was.
+ *
+ * A call takes far fewer instructions than banding, and foretells more leaves than there are as a rule. How many there are,
+ * contour_band says with a records_length of 0, by its refusal 8, at the cost of a walk. */
+struct contour_band_foretold contour_foretell(const int32_t *outline, size_t outline_length, int32_t tolerance, uint32_t m,
+                                              int32_t *depths, size_t depths_length);
 
 /* What judging answers. */
 struct contour_band_judgement {

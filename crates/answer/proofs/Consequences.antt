@@ -20,7 +20,7 @@ use Rattle.outline.specs.Checks.{curves, outlineFrom, outlined}
 use Rattle.outline.proofs.Accepted.{outlined-from, accepted-all}
 use Rattle.band.specs.declared.banding.Banded.the-variants.{Done}
 use Rattle.band.specs.Banding.{banded}
-use Rattle.band.specs.Outcomes.{Flat}
+use Rattle.walk_depths.specs.Premise.{Flat}
 use Rattle.band.proofs.Theorems.{done-exactly}
 use Rattle.judge.specs.declared.judging.Judgement.the-variants.{Off}
 use Rattle.judge.specs.Judging.{pointFault, FirstHolder, Verdict}

@@ -14,7 +14,7 @@ use Rattle.curve_nodes.specs.declared.Curve.{Curve}
 use Rattle.curve_nodes.specs.Points.{Equals}
 use Rattle.outline.specs.Checks.{curves, outlined}
 use Rattle.band.specs.Banding.{written}
-use Rattle.band.specs.Outcomes.{Flat}
+use Rattle.walk_depths.specs.Premise.{Flat}
 use Rattle.judge.specs.declared.judging.Judgement.the-variants.{Off}
 use Rattle.judge.specs.Judging.{pointFault, FirstHolder, Verdict}
 use Rattle.demand_3.specs.Demand3.{CurveOf, Somewhere, Shallow}

@@ -2,8 +2,6 @@
 pub mod Cases
 pub mod ByPieces
 pub mod Answers
-pub mod Depths
-pub mod Premise
 pub mod Computing
 pub mod Examples
 pub mod Sound

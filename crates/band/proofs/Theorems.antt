@@ -26,11 +26,12 @@ use Rattle.setting.proofs.Pieces.{fine-has-rows}
 use Rattle.band.specs.Banding.{bandCurves, bandGiven, writtenGiven, banded, written}
 use Rattle.band_records.specs.Ranges.{SoundList}
 use Rattle.band_passes.specs.Meeting.{AllMeet, FirstWide}
-use Rattle.band.specs.Outcomes.{Clear, Faultless, Many, Few, Report, Flat}
+use Rattle.band.specs.Outcomes.{Clear, Faultless, Many, Few, Report}
 use Rattle.walk_tree.proofs.Leaves.{all-leaves}
 use Rattle.walk_tree.proofs.Covering.{some-end-spans, ends-end-to-end, neighbours-meet, in-order}
 use Rattle.band_passes.proofs.Counting.{nodes-of-curves, few-leaves}
-use Rattle.band.proofs.Depths.{end-depth, none-too-wide}
+use Rattle.walk_depths.specs.Premise.{Flat}
+use Rattle.walk_depths.proofs.Depths.{end-depth, none-too-wide}
 use Rattle.walk_tree.proofs.Failing.{none-passing}
 use Rattle.band.proofs.Sound.{curves-leaves, curves-sound}
 use Rattle.band.proofs.Faults.{Early, banded-curves, faultless-or}

@@ -1,21 +1,17 @@
--- What the theorems of banding speak of: the faults and the report of an outline, and the premise of the depth claim.
--- No contract cites these; crates/band/proofs/Theorems.antt does.
+-- What the theorems of banding speak of: the faults and the report of an outline, and the refusals of a B-spline. No
+-- contract cites these; crates/band/proofs/Theorems.antt does, and SplineAnswers.antt beside it.
 use mathlib.Core.Path.{_≡_}
 use mathlib.Core.Bool.{true}
 use mathlib.Core.List.{List}
-use Prim.Native.Nat.{ℕ, _*_, _^_, _≤_, _<_}
+use Prim.Native.Nat.{ℕ, _*_, _≤_, _<_}
 use lib.ListN.{length}
-use lib.IntN.{ℤ, pos, _+ℤ_, _*ℤ_}
-use lib.Signed.{_≤ℤ_}
-use Rattle.integers.specs.Squares.{squared}
+use lib.IntN.{ℤ}
 use Rattle.refusals.specs.declared.Refusal.{Refusal}
 use Rattle.refusals.specs.declared.Refusal.the-variants.{Pieces, Tolerance, SplineLength, SplineCoordinate, TooWide}
 use Rattle.refusals.specs.declared.Refusal.the-variants.{TooFewRecords}
 use Rattle.curve_nodes.specs.declared.Curve.{Curve}
-use Rattle.curve_nodes.specs.Differences.{largest}
-use Rattle.bound_rows.specs.Rule.{gapOf}
 use Rattle.outline.specs.Checks.{toleranceFine, Outlined, curves, outlined}
-use Rattle.setting.specs.Setting.{Setting, scale, piecesFine, recordLength}
+use Rattle.setting.specs.Setting.{Setting, piecesFine, recordLength}
 use Rattle.band_passes.specs.Leaves.{leavesOf, nodesOf}
 use Rattle.band_passes.specs.Meeting.{AllMeet}
 
@@ -62,19 +58,3 @@ pub data SplineRefusal : Refusal → Type 0 where
   coordinate : (i : ℕ) → SplineRefusal (SplineCoordinate i)
   wide : (k n : ℕ) → SplineRefusal (TooWide k n)
   few : (l : ℕ) → SplineRefusal (TooFewRecords l)
-
--- ---- the premise of the depth claim: 2 × (16 × G × M + 20000 × 4^j)² ≤ (10000 × T × 4^j)², where G is that of the
--- curve's degree and the number of pieces (request 05). Where control values are sixths of a unit M counts sixths too,
--- and both sides are multiplied by 36 (request 13).
-abbrev pub Flat : Setting → ℤ → Curve → ℕ → Type 0
-Flat σ T c j =
-    (pos 2 *ℤ squared
-    (pos 16 *ℤ pos (gapOf (σ .pieces) (c .degree)) *ℤ pos (largest c) +ℤ pos 20000 *ℤ pos (scale σ * 4 ^ j)))
-    ≤ℤ squared (pos 10000 *ℤ T *ℤ pos (scale σ * 4 ^ j))
-
--- that of request 04, for three pieces: 2 × (178 × M + 250 × 4^j)² ≤ (125 × T × 4^j)². The two are the same at degree
--- 3, by `flat-thirds` of crates/band/proofs/Premise.antt.
-abbrev pub FlatThirds : ℤ → Curve → ℕ → Type 0
-FlatThirds T c j =
-    (pos 2 *ℤ squared (pos 178 *ℤ pos (largest c) +ℤ pos 250 *ℤ pos (4 ^ j)))
-    ≤ℤ squared (pos 125 *ℤ T *ℤ pos (4 ^ j))

@@ -16,7 +16,7 @@ pub mod banding;
 pub mod outline_band;
 
 // Check 18: whether there are rows for m pieces. Every number may be asked about.
-fn pieces_fine(m: u32) -> bool
+pub fn pieces_fine(m: u32) -> bool
     ensures { λ r. ⌜ r ≡ piecesFine m ⌝ }
 {
     if m < 1 {

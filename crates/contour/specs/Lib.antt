@@ -1,6 +1,7 @@
--- What a reader must believe of the C interface: the numbers of each answer (Numbers, Points, Drawings), and of what
--- outcome they are (Answers).
+-- What a reader must believe of the C interface: the numbers of each answer (Numbers, Foretellings, Points, Drawings),
+-- and of what outcome they are (Answers).
 pub mod Numbers
+pub mod Foretellings
 pub mod Points
 pub mod Drawings
 pub mod Answers

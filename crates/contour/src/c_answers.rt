@@ -1,9 +1,11 @@
 // Answers in numbers, as the C interface gives them: 0 and 0 and what was found, or a refusal's number and spot.
 ghost use mathlib.Core.Path.{_≡_};
 ghost use Rattle.contour.specs.Numbers.{bandAnswerOf, judgingAnswerOf};
+ghost use Rattle.contour.specs.Foretellings.{foretoldAnswerOf};
 ghost use Rattle.contour.specs.Points.{pointsAnswerOf};
 ghost use Rattle.contour.specs.Drawings.{drawingOf};
 use band::banding::Banded;
+use band_foretold::foretelling::Foretold;
 use draw::drawing::Drawn;
 use judge::judging::Judgement;
 use judge_points::answers::PointsJudged;
@@ -38,6 +40,36 @@ pub fn in_numbers(banded: Banded) -> Answer
             refusal: refusal.number(),
             spot: refusal.spot() as u64,
             curves: 0,
+            leaves: 0,
+            nodes: 0,
+        },
+    }
+}
+
+// What foretelling answers, in numbers: a refusal's number and spot, or 0 and 0 and the most leaves and nodes, 0 and 0
+// where a curve has no depth.
+#[repr(C)]
+pub struct ForetoldAnswer {
+    pub refusal: u32,
+    pub spot: u64,
+    pub leaves: u64,
+    pub nodes: u64,
+}
+
+// The numbers of what is foretold.
+pub fn foretold_in_numbers(foretold: Foretold) -> ForetoldAnswer
+    ensures { λ r. ⌜ r ≡ foretoldAnswerOf foretold ⌝ }
+{
+    match foretold {
+        Foretold::Done { leaves, nodes } => ForetoldAnswer {
+            refusal: 0,
+            spot: 0,
+            leaves: leaves as u64,
+            nodes: nodes as u64,
+        },
+        Foretold::Refused(refusal) => ForetoldAnswer {
+            refusal: refusal.number(),
+            spot: refusal.spot() as u64,
             leaves: 0,
             nodes: 0,
         },

@@ -3,18 +3,22 @@ ghost use mathlib.Core.Path.{_≡_};
 ghost use lib.ListN.{length};
 ghost use Rattle.setting.specs.Setting.{lists, station};
 ghost use Rattle.band.specs.Banding.{banded, written, bandedSpline, writtenSpline};
+ghost use Rattle.band_foretold.specs.Foretelling.{foretold, depthsWritten};
 ghost use Rattle.judge_points.specs.Points.{pointsJudged, judgedInto};
 ghost use Rattle.draw.specs.Drawing.{drawn, drawnInto};
 ghost use Rattle.contour.specs.Numbers.{bandAnswerOf};
+ghost use Rattle.contour.specs.Foretellings.{foretoldAnswerOf};
 ghost use Rattle.contour.specs.Points.{pointsAnswerOf};
 ghost use Rattle.contour.specs.Drawings.{drawingOf};
 ghost use Rattle.engine.specs.Outcomes.{writtenFor};
 ghost use Rattle.contour.specs.Answers.{outcomeAnswerOf, JudgedInNumbers, AnsweredInNumbers};
 use crate::c_answers::Answer;
 use crate::c_answers::Drawing;
+use crate::c_answers::ForetoldAnswer;
 use crate::c_answers::JudgingAnswer;
 use crate::c_answers::PointsAnswer;
 use crate::c_answers::drawing_in_numbers;
+use crate::c_answers::foretold_in_numbers;
 use crate::c_answers::in_numbers;
 use crate::c_answers::judgement_in_numbers;
 use crate::c_answers::points_in_numbers;
@@ -74,6 +78,24 @@ pub extern "C" fn contour_spline_band(
 {
     let banded = band::spline_band(points, tolerance, m, records);
     in_numbers(banded)
+}
+
+// Foretells the leaves of an outline at a tolerance in sixteenths, with m pieces a leaf, and writes the depths of its
+// curves to the front of the list.
+#[no_mangle]
+pub extern "C" fn contour_foretell(
+    outline: &[i32],
+    tolerance: i32,
+    m: u32,
+    depths: &mut [i32],
+) -> ForetoldAnswer
+    ensures { λ r. ⌜ r
+        ≡ foretoldAnswerOf (foretold (lists m) tolerance (now (outline .entry)) (length (now (depths .entry)))) ⌝ }
+    ensures { λ r. ⌜ now (depths .exit)
+        ≡ depthsWritten (lists m) tolerance (now (outline .entry)) (now (depths .entry)) ⌝ }
+{
+    let foretold = band_foretell::foretell(outline, tolerance, m, depths);
+    foretold_in_numbers(foretold)
 }
 
 // Judges the point (x, y), in sixteenths, against a list of leaf records of m pieces.

@@ -28,7 +28,7 @@ use Rattle.band.specs.Banding.{bandGiven, writtenGiven, banded, written, banded
 use Rattle.band_records.specs.Ranges.{SoundList}
 use Rattle.band_passes.specs.Leaves.{leavesOf}
 use Rattle.band_passes.specs.Meeting.{AllMeet}
-use Rattle.band.specs.Outcomes.{Flat}
+use Rattle.walk_depths.specs.Premise.{Flat}
 use Rattle.band_records.proofs.Sound.{record-curve, record-node}
 use Rattle.band_records.proofs.Standing.{Found, every-end-stands, every-record-stands}
 use Rattle.band.proofs.Theorems.{done-given, faultless-rows, records-given, leaves-exactly, every-parameter}
@@ -36,7 +36,7 @@ use Rattle.band.proofs.Given.{Taken, Given, outline-given, spline-given}
 use Rattle.band.proofs.ByPieces.{listed}
 use Rattle.band.proofs.Station.{done-listed, written-listed}
 use Rattle.band.proofs.Sound.{curves-leaves, curves-sound}
-use Rattle.band.proofs.Depths.{end-depth}
+use Rattle.walk_depths.proofs.Depths.{end-depth}
 use Rattle.judge_cover.specs.Covers.{Holds, CoverHolds}
 use Rattle.judge.specs.declared.judging.Judgement.{Judgement}
 use Rattle.judge.specs.declared.judging.Judgement.the-variants.{On, Off, Refused}

@@ -21,7 +21,7 @@ use Rattle.outline_splines.proofs.Basis.{curve-number, curve-value}
 use Rattle.outline_splines.proofs.Accepted.{Splines, accepted, splines-length, spline-degree}
 use Rattle.band.specs.declared.banding.Banded.the-variants.{Done}
 use Rattle.band.specs.Banding.{bandedSpline, writtenSpline}
-use Rattle.band.specs.Outcomes.{Flat}
+use Rattle.walk_depths.specs.Premise.{Flat}
 use Rattle.judge.specs.declared.judging.Judgement.{Judgement}
 use Rattle.judge.specs.Judging.{Judged as JudgedSo}
 use Rattle.demand_3.specs.Demand3.{CurveOf, IsOn, Somewhere, SplineDemand3}

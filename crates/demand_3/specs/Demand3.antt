@@ -12,7 +12,7 @@ use Rattle.curve_nodes.specs.Nodes.{depth}
 use Rattle.curve_nodes.specs.Points.{Equals, Within}
 use Rattle.outline.specs.Checks.{Outlined, curves, outlined}
 use Rattle.outline_splines.specs.Splines.{splined}
-use Rattle.band.specs.Outcomes.{Flat}
+use Rattle.walk_depths.specs.Premise.{Flat}
 use Rattle.judge.specs.declared.judging.Judgement.{Judgement}
 use Rattle.judge.specs.declared.judging.Judgement.the-variants.{On}
 

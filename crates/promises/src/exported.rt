@@ -3,9 +3,11 @@ ghost use mathlib.Core.Path.{_≡_};
 ghost use lib.ListN.{length};
 ghost use Rattle.setting.specs.Setting.{lists, station};
 ghost use Rattle.band.specs.Banding.{banded, written, bandedSpline, writtenSpline};
+ghost use Rattle.band_foretold.specs.Foretelling.{foretold, depthsWritten};
 ghost use Rattle.judge_points.specs.Points.{pointsJudged, judgedInto};
 ghost use Rattle.draw.specs.Drawing.{drawn, drawnInto};
 ghost use Rattle.contour.specs.Numbers.{bandAnswerOf};
+ghost use Rattle.contour.specs.Foretellings.{foretoldAnswerOf};
 ghost use Rattle.contour.specs.Points.{pointsAnswerOf};
 ghost use Rattle.contour.specs.Drawings.{drawingOf};
 ghost use Rattle.engine.specs.Outcomes.{writtenFor};
@@ -14,6 +16,7 @@ use boxes::Box;
 use contour::OutcomeAnswer;
 use contour::c_answers::Answer;
 use contour::c_answers::Drawing;
+use contour::c_answers::ForetoldAnswer;
 use contour::c_answers::JudgingAnswer;
 use contour::c_answers::PointsAnswer;
 
@@ -42,6 +45,20 @@ pub fn contour_spline_band(points: &[i32], tolerance: i32, m: u32, records: &mut
         ≡ writtenSpline m tolerance (now (points .entry)) (now (records .entry)) ⌝ }
 {
     contour::contour_spline_band(points, tolerance, m, records)
+}
+
+pub fn contour_foretell(
+    outline: &[i32],
+    tolerance: i32,
+    m: u32,
+    depths: &mut [i32],
+) -> ForetoldAnswer
+    ensures { λ r. ⌜ r
+        ≡ foretoldAnswerOf (foretold (lists m) tolerance (now (outline .entry)) (length (now (depths .entry)))) ⌝ }
+    ensures { λ r. ⌜ now (depths .exit)
+        ≡ depthsWritten (lists m) tolerance (now (outline .entry)) (now (depths .entry)) ⌝ }
+{
+    contour::contour_foretell(outline, tolerance, m, depths)
 }
 
 pub fn contour_judge(leaves: &[i32], m: u32, x: i32, y: i32) -> JudgingAnswer

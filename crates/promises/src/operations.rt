@@ -1,12 +1,14 @@
-// Callers of banding, judging and drawing.
+// Callers of banding, foretelling, judging and drawing.
 ghost use mathlib.Core.Path.{_≡_};
 ghost use lib.ListN.{length};
 ghost use Rattle.setting.specs.Setting.{lists, station};
 ghost use Rattle.band.specs.Banding.{banded, written, bandedSpline, writtenSpline};
+ghost use Rattle.band_foretold.specs.Foretelling.{foretold, depthsWritten};
 ghost use Rattle.judge.specs.Judging.{Judged};
 ghost use Rattle.judge_points.specs.Points.{pointsJudged, judgedInto};
 ghost use Rattle.draw.specs.Drawing.{drawn, drawnInto};
 use band::banding::Banded;
+use band_foretold::foretelling::Foretold;
 use boxes::Box;
 use draw::drawing::Drawn;
 use judge::judging::Judgement;
@@ -34,6 +36,14 @@ pub fn spline_band(points: &[i32], tolerance: i32, m: u32, records: &mut [i32]) 
         ≡ writtenSpline m tolerance (now (points .entry)) (now (records .entry)) ⌝ }
 {
     band::spline_band(points, tolerance, m, records)
+}
+
+pub fn foretell(outline: &[i32], tolerance: i32, m: u32, depths: &mut [i32]) -> Foretold
+    ensures { λ r. ⌜ r ≡ foretold (lists m) tolerance (now (outline .entry)) (length (now (depths .entry))) ⌝ }
+    ensures { λ r. ⌜ now (depths .exit)
+        ≡ depthsWritten (lists m) tolerance (now (outline .entry)) (now (depths .entry)) ⌝ }
+{
+    band_foretell::foretell(outline, tolerance, m, depths)
 }
 
 pub fn judge(leaves: &[i32], m: u32, x: i32, y: i32) -> Judgement

@@ -5,14 +5,16 @@
 
 mod banding;
 mod drawing;
+mod foretelling;
 mod growth;
 mod judging;
 mod samples;
 mod times;
 
 /// The tables, in order.
-const TABLES: [(&str, fn()); 5] = [
+const TABLES: [(&str, fn()); 6] = [
     ("banding", banding::run),
+    ("foretelling", foretelling::run),
     ("judging", judging::run),
     ("drawing", drawing::run),
     ("growth", growth::run),

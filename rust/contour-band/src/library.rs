@@ -14,6 +14,18 @@ pub struct Answer {
     pub nodes: u64,
 }
 
+/// `struct contour_band_foretold`.
+#[repr(C)]
+#[derive(Debug, Clone, Copy, PartialEq, Eq)]
+pub struct Foretold {
+    /// 0 where nothing is refused.
+    pub refusal: u32,
+    pub spot: u64,
+    /// 0 where a curve has no depth.
+    pub leaves: u64,
+    pub nodes: u64,
+}
+
 /// `struct contour_band_judgement`.
 #[repr(C)]
 #[derive(Debug, Clone, Copy, PartialEq, Eq)]
@@ -100,6 +112,15 @@ extern "C" {
         records_length: usize,
     ) -> Answer;
 
+    fn contour_foretell(
+        outline: *const i32,
+        outline_length: usize,
+        tolerance: i32,
+        m: u32,
+        depths: *mut i32,
+        depths_length: usize,
+    ) -> Foretold;
+
     fn contour_judge(leaves: *const i32, leaves_length: usize, m: u32, x: i32, y: i32) -> Judgement;
 
     fn contour_judge_points(
@@ -155,6 +176,14 @@ pub fn spline_band(points: &[i32], tolerance: i32, m: u32, records: &mut [i32]) 
     // Safety: as for `band`.
     unsafe {
         contour_spline_band(points.as_ptr(), points.len(), tolerance, m, records.as_mut_ptr(), records.len())
+    }
+}
+
+/// What is foretold of an outline. Writes to `depths` as the header says.
+pub fn foretell(outline: &[i32], tolerance: i32, m: u32, depths: &mut [i32]) -> Foretold {
+    // Safety: as for `band`.
+    unsafe {
+        contour_foretell(outline.as_ptr(), outline.len(), tolerance, m, depths.as_mut_ptr(), depths.len())
     }
 }
 
@@ -279,6 +308,23 @@ mod tests {
         assert_eq!(spline_band(&points, 9, 3, &mut records), expected);
         let leaf = [0, 1, 160, 160, 400, 407, 213, 214, 453, 461, 266, 267, 453, 461, 320, 320, 400, 407];
         assert_eq!(records, leaf);
+    }
+
+    #[test]
+    fn a_refusal_and_a_curve_without_a_depth_foretell_nothing() {
+        let told = |refusal, spot, leaves, nodes| Foretold { refusal, spot, leaves, nodes };
+        // Curve A, and its chord.
+        let outline = [3, 0, 0, 10, 30, 20, 30, 30, 0, 1, 30, 0, 0, 0];
+        let mut depths = [7; 3];
+        assert_eq!(foretell(&outline, 44, 3, &mut depths[..1]), told(8, 2, 0, 0));
+        assert_eq!(foretell(&outline[..13], 44, 3, &mut depths), told(3, 13, 0, 0));
+        assert_eq!(foretell(&outline, 1, 3, &mut depths), told(1, 0, 0, 0));
+        assert_eq!(foretell(&outline, 1, 9, &mut depths), told(18, 0, 0, 0));
+        assert_eq!(depths, [7; 3]);
+        assert_eq!(foretell(&outline, 44, 3, &mut depths), told(0, 0, 3, 4));
+        assert_eq!(depths, [1, 0, 7]);
+        assert_eq!(foretell(&outline, 2, 3, &mut depths), told(0, 0, 0, 0));
+        assert_eq!(depths, [-1, -1, 7]);
     }
 
     #[test]

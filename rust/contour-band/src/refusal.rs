@@ -60,10 +60,10 @@ pub enum Refusal {
         /// The first such node of the walk: 256 to 511, or 16 to 31 where the curve's degree is 4 or 5.
         node: u32,
     },
-    /// 8: the lent list has fewer numbers than the leaves need, or the answers to a list of points.
+    /// 8: the lent list has fewer numbers than the leaves, the points or the curves need.
     TooFewRecords {
         /// How many leaves the outline has; each needs [`record_length`](crate::record_length) numbers. Of a list of
-        /// points, how many points there are; each needs three.
+        /// points, how many there are; each needs three. In foretelling, how many curves the outline has; each needs one.
         leaves: usize,
     },
     /// 19: the outline has more leaves than the bench station takes, which is 128.
@@ -211,7 +211,7 @@ impl fmt::Display for Refusal {
                 write!(f, "node {node} of curve {curve} is too wide after its last halving")
             }
             Refusal::TooFewRecords { leaves } => {
-                write!(f, "the list has no room for {leaves} leaves or points")
+                write!(f, "the list has no room for {leaves} leaves, points or depths")
             }
             Refusal::TooManyLeaves { leaves } => {
                 write!(f, "the outline has {leaves} leaves, more than are taken")

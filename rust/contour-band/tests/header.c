@@ -1,5 +1,5 @@
-/* A C caller of the header: bands curve A and B-splines, judges points, one by one and as a list, draws two boxes, and prints the
- * answers, to be compared by header.rs. */
+/* A C caller of the header: bands curve A and B-splines, foretells leaves, judges points, one by one and as a list, draws two
+ * boxes, and prints the answers, to be compared by header.rs. */
 #include "contour_band.h"
 
 #include <stdio.h>
@@ -105,6 +105,16 @@ static void spline(int32_t *records) {
     print(contour_spline_band(many, CONTOUR_BAND_SPLINE_LENGTH_MAX + 2, 2, M, room, sizeof room / sizeof *room));
 }
 
+/* Curve A and its chord, with room for so many depths. */
+static void foretell(int32_t tolerance, size_t length) {
+    const int32_t bow[14] = {3, 0, 0, 10, 30, 20, 30, 30, 0, 1, 30, 0, 0, 0};
+    int32_t depths[3] = {7, 7, 7};
+    struct contour_band_foretold told = contour_foretell(bow, 14, tolerance, M, depths, length);
+    printf("%u %llu %llu %llu", (unsigned)told.refusal, (unsigned long long)told.spot, (unsigned long long)told.leaves,
+           (unsigned long long)told.nodes);
+    printf(" %d %d %d\n", (int)depths[0], (int)depths[1], (int)depths[2]);
+}
+
 static void draw(struct contour_band_box first, struct contour_band_box second, size_t length) {
     int32_t vertices[CONTOUR_BAND_VERTEX_ROOM] = {0};
     struct contour_band_drawing drawing = contour_draw(first, second, vertices, length);
@@ -166,6 +176,13 @@ int main(void) {
     print(contour_station_band(lines, 5 * CONTOUR_BAND_STATION_CURVES_MAX + 1, 2, M, records, 0));
 
     spline(records);
+
+    foretell(44, 3);
+    foretell(44, 2);
+    foretell(44, 1);
+    foretell(CONTOUR_BAND_TOLERANCE_MIN, 3);
+    foretell(CONTOUR_BAND_TOLERANCE_MAX, 3);
+    foretell(CONTOUR_BAND_TOLERANCE_MAX + 1, 3);
 
     const struct contour_band_box near = {0, 1, 0, 1}, far = {3, 4, 3, 4};
     const struct contour_band_box beyond = {0, 0, 0, CONTOUR_BAND_FARTHEST + 1};

@@ -2,11 +2,11 @@
 //! proved engine, and the two are compared with each other, number by number.
 //!
 //! [`band`] encloses an outline of Bézier curves in boxes, with m pieces to a leaf, and [`station_band`] a small
-//! one; [`spline_band`] encloses a B-spline. [`judge`] says whether a point lies on what they cover,
-//! [`band_and_judge`] does both, and [`draw`] draws the hull of two boxes.
+//! one; [`spline_band`] encloses a B-spline. [`foretell`] says beforehand how many leaves there can be. [`judge`] says
+//! whether a point lies on what they cover, [`band_and_judge`] does both, and [`draw`] draws the hull of two boxes.
 //! [`text::answer`] is the text program. The modules follow the documents: the checks of an outline, of a
-//! degree and of m, the curves of a B-spline, halving, the rows and the enclosure, the walk; the checks of a leaf
-//! list and a point, covers, judging; drawing; the lines of a text, its answer.
+//! degree and of m, the curves of a B-spline, halving, the rows and the enclosure, the walk; foretelling; the checks of
+//! a leaf list and a point, covers, judging; drawing; the lines of a text, its answer.
 
 #![forbid(unsafe_code)]
 
@@ -21,6 +21,7 @@ mod enclosure;
 mod exact;
 #[cfg(test)]
 mod examples;
+mod foretell;
 mod form;
 mod hull;
 mod judge;
@@ -33,6 +34,7 @@ mod spline;
 pub mod text;
 
 pub use band::{band, spline_band, station_band, Report};
+pub use foretell::{foretell, Foretold};
 pub use hull::draw;
 pub use judge::{band_and_judge, judge, judge_points, Judgement};
 pub use pieces::record_length;

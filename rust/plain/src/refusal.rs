@@ -36,9 +36,9 @@ pub enum Refusal {
         /// The first such node of the walk.
         node: usize,
     },
-    /// 8: the lent records have no room for the leaves.
+    /// 8: the lent list has no room for the leaves, or in foretelling for the depths.
     TooFewRecords {
-        /// How many leaves the outline has.
+        /// How many leaves the outline has; in foretelling how many curves.
         leaves: usize,
     },
     /// 9: the leaf list is empty, or its length is no multiple of a record's.

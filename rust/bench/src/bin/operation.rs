@@ -4,11 +4,12 @@
 //! `operation ENGINE OPERATION INPUT TIMES`. ENGINE is plain, proved or sampled. OPERATION and INPUT are
 //! band with an outline, a number of curves or a depth where it has one, a tolerance and m, as in
 //! nominal:16:3, cubics-64:16:8 and arches-3:44:3, spline:16:3 a B-spline and splined:16:3 its curves as an
-//! outline; judge with the place of the points and m, as in near:3, and
-//! with a number of curves where each is to have 256 leaves, as in near-4096:3; points, which judges TIMES points in
-//! one call, with the same, and with -scattered behind the place or the number where the records are to stand in no
-//! order, as in near-4096-scattered:3; with the place none it makes TIMES calls without a point; draw with the shape
-//! of the boxes. All but draw print the number of leaves.
+//! outline; foretell with an outline, at any tolerance; judge with the place of
+//! the points and m, as in near:3, and with a number of curves where each is to have 256 leaves, as in near-4096:3;
+//! points, which judges TIMES points in one call, with the same, and with -scattered behind the place or the number
+//! where the records are to stand in no order, as in near-4096-scattered:3; with the place none it makes TIMES calls
+//! without a point; draw with the shape of the boxes. All but draw print the number of leaves, foretelling the most
+//! that it foretells.
 
 use bench::points::{Leaves, Point, POINTS};
 use bench::sampled::{self, Packing, M};
@@ -23,6 +24,7 @@ fn main() -> ExitCode {
     let done = match arguments[..] {
         [engine, operation, input, times] => times.parse().ok().and_then(|times| match operation {
             "band" => band(engine, input, times),
+            "foretell" => foretell(engine, input, times),
             "judge" => judge(engine, input, times),
             "points" => judge_points(engine, input, times),
             "draw" => draw(engine, input, times),
@@ -31,7 +33,7 @@ fn main() -> ExitCode {
         _ => None,
     };
     if done.is_none() {
-        eprintln!("usage: operation plain|proved|sampled band|judge|points|draw INPUT TIMES");
+        eprintln!("usage: operation plain|proved|sampled band|foretell|judge|points|draw INPUT TIMES");
         return ExitCode::FAILURE;
     }
     ExitCode::SUCCESS
@@ -46,7 +48,8 @@ fn with_pieces(input: &str) -> Option<(&str, u32)> {
 type PlainBand = fn(&[i32], i32, u32, &mut [i32]) -> Result<plain::Report, plain::Refusal>;
 type ProvedBand = fn(&[i32], i32, u32, &mut [i32]) -> Result<contour_band::Report, Refusal>;
 
-fn band(engine: &str, input: &str, times: usize) -> Option<()> {
+/// An outline, a tolerance and m.
+fn with_tolerance(input: &str) -> Option<(Vec<i32>, i32, u32)> {
     let (rest, m) = with_pieces(input)?;
     let (name, tolerance) = rest.split_once(':')?;
     let outline = match name.split_once('-') {
@@ -59,11 +62,16 @@ fn band(engine: &str, input: &str, times: usize) -> Option<()> {
         None if name == "splined" => outlines::splined(),
         _ => return None,
     };
-    let (plain_band, proved_band): (PlainBand, ProvedBand) = match name {
-        "spline" => (plain::spline_band, contour_band::spline_band),
-        _ => (plain::band, contour_band::band),
+    Some((outline, tolerance.parse().ok()?, m))
+}
+
+fn band(engine: &str, input: &str, times: usize) -> Option<()> {
+    let (outline, tolerance, m) = with_tolerance(input)?;
+    let (plain_band, proved_band): (PlainBand, ProvedBand) = if input.starts_with("spline:") {
+        (plain::spline_band, contour_band::spline_band)
+    } else {
+        (plain::band, contour_band::band)
     };
-    let tolerance = tolerance.parse().ok()?;
     // An empty list asks how many leaves there are.
     let Err(Refusal::TooFewRecords { leaves }) = proved_band(&outline, tolerance, m, &mut []) else {
         return None;
@@ -84,6 +92,22 @@ fn band(engine: &str, input: &str, times: usize) -> Option<()> {
         }
     }
     println!("{}", report.leaves);
+    Some(())
+}
+
+fn foretell(engine: &str, input: &str, times: usize) -> Option<()> {
+    let (outline, tolerance, m) = with_tolerance(input)?;
+    let mut depths = vec![0; outline.len()];
+    let foretold = contour_band::foretell(&outline, tolerance, m, &mut depths).ok()?;
+    for _ in 0..times {
+        let (outline, depths) = (black_box(&outline[..]), black_box(&mut depths[..]));
+        match engine {
+            "plain" => plain::foretell(outline, tolerance, m, depths).map(|_| ()).ok()?,
+            "proved" => contour_band::foretell(outline, tolerance, m, depths).map(|_| ()).ok()?,
+            _ => return None,
+        }
+    }
+    println!("{}", foretold.map_or(0, |foretold| foretold.leaves));
     Some(())
 }
 

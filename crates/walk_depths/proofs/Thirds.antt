@@ -17,7 +17,7 @@ use Rattle.curve_nodes.specs.Differences.{largestOf, bend, largest}
 use Rattle.bound_rows.specs.Table.{table, rowsOf}
 use Rattle.bound_rows.specs.Rule.{gapOf}
 use Rattle.bound_rows.proofs.Rule.{gap-thirds}
-use Rattle.band.specs.Outcomes.{Flat, FlatThirds}
+use Rattle.walk_depths.specs.Premise.{Flat, FlatThirds}
 
 -- the premise with any G, where control values are units
 abbrev WithScale : Bool → ℕ → ℤ → Curve → ℕ → Type 0

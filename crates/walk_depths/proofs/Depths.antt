@@ -24,7 +24,7 @@ use Rattle.walk_tree.specs.Tree.{ends, firstFailing}
 use Rattle.walk_tree.specs.Leaves.{Leaf}
 use Rattle.walk_curve.specs.Walked.{nodeMeets, endsOf}
 use Rattle.walk_tree.specs.Passing.{AllPass}
-use Rattle.band.specs.Outcomes.{Flat}
+use Rattle.walk_depths.specs.Premise.{Flat}
 use Rattle.walk_tree.proofs.Halves.{left-half, right-half}
 use Rattle.walk_tree.proofs.Tree.{either, not-both, ends-induction}
 use Rattle.walk_tree.proofs.Leaves.{end-facts, all-leaves}

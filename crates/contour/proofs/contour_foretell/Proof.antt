@@ -1,0 +1,24 @@
+-- Foretelling for programs in other languages.
+use mathlib.Core.Path.{_∙_, ap}
+use borrow.Author.Needs.{needs}
+use mir.Facts.{toZ-ofZ}
+use Rattle.contour.specs.Foretellings.{foretoldAnswerOf}
+use Rattle.contour.proofs.contour_foretell.Statement.{statement}
+use Rattle.contour.proofs.contour_foretell.Tie as tie
+
+foretell-requires : tie.Need-foretell-requires
+foretell-requires c κs = search needs
+
+foretold-in-numbers-requires : tie.Need-foretold-in-numbers-requires
+foretold-in-numbers-requires c κs = search needs
+
+same-length : tie.Need-same-length
+same-length c = search needs
+
+returns : tie.Need-returns
+returns c =
+    let r = rw (toZ-ofZ (c .before .before .before .before .fits .tolerance)) at (c .before .before .foretell .ensures) in
+    (c .foretold-in-numbers .ensures ∙ ap foretoldAnswerOf (r .0), r .1)
+
+pub contour-foretell-spec : {M : Type 1} → statement M
+contour-foretell-spec = tie.close (tie.spec foretell-requires foretold-in-numbers-requires same-length returns)
