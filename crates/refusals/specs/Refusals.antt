@@ -1,5 +1,6 @@
 -- The number and the spot of each refusal (document 01, "Place of each check"; 17 is request 03's, 18 request 05's, 19
--- request 07's, 20 request 08's, 24 and 25 request 13's; 101 stands in no document, and is that of a list of points).
+-- request 07's, 20 request 08's, 21 request 10's, 22 and 23 request 12's, 24 and 25 request 13's, 26 request 11's; 101
+-- stands in no document, and is that of a list of points).
 use Prim.Native.Nat.{ℕ, _+_, _*_}
 use Rattle.refusals.specs.declared.Refusal.{Refusal}
 use Rattle.refusals.specs.declared.Refusal.the-variants.{
@@ -24,8 +25,12 @@ use Rattle.refusals.specs.declared.Refusal.the-variants.{
   Pieces,
   TooManyLeaves,
   DegreePieces,
+  NotWhole,
+  NoSuchCurve,
+  OtherRecords,
   SplineLength,
   SplineCoordinate,
+  TooManyRecords,
   OddPoints,
 }
 
@@ -51,8 +56,12 @@ numberOf (Gap index) = 17
 numberOf Pieces = 18
 numberOf (TooManyLeaves leaves) = 19
 numberOf (DegreePieces index) = 20
+numberOf (NotWhole index) = 21
+numberOf (NoSuchCurve number) = 22
+numberOf (OtherRecords index) = 23
 numberOf (SplineLength length) = 24
 numberOf (SplineCoordinate index) = 25
+numberOf (TooManyRecords length) = 26
 numberOf (OddPoints count) = 101
 
 -- a curve and a node of it as one number
@@ -81,6 +90,10 @@ spotOf (Gap index) = index
 spotOf Pieces = 0
 spotOf (TooManyLeaves leaves) = leaves
 spotOf (DegreePieces index) = index
+spotOf (NotWhole index) = index
+spotOf (NoSuchCurve number) = number
+spotOf (OtherRecords index) = index
 spotOf (SplineLength length) = length
 spotOf (SplineCoordinate index) = index
+spotOf (TooManyRecords length) = length
 spotOf (OddPoints count) = count

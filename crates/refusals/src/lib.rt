@@ -45,10 +45,19 @@ pub enum Refusal {
     TooManyLeaves(usize),
     // 20: a degree takes more pieces, at this index.
     DegreePieces(usize),
+    // 21: the first coordinate that is no whole number, at this index.
+    NotWhole(usize),
+    // 22: the outline has no curve of this number.
+    NoSuchCurve(usize),
+    // 23: the records given are not those of the outline; the first index that differs, or where none does, the least
+    // of their count, the list's length and the number that the outline's records have.
+    OtherRecords(usize),
     // 24: the list of a B-spline's points is odd, too short or too long; its length.
     SplineLength(usize),
     // 25: the first coordinate of a B-spline outside its range, at this index.
     SplineCoordinate(usize),
+    // 26: the leaf list has more records than a quote takes; its length.
+    TooManyRecords(usize),
     // 101: a list of points has an odd count of numbers, this one.
     OddPoints(usize),
 }
@@ -80,8 +89,12 @@ impl Refusal {
             Refusal::Pieces => 18,
             Refusal::TooManyLeaves(_) => 19,
             Refusal::DegreePieces(_) => 20,
+            Refusal::NotWhole(_) => 21,
+            Refusal::NoSuchCurve(_) => 22,
+            Refusal::OtherRecords(_) => 23,
             Refusal::SplineLength(_) => 24,
             Refusal::SplineCoordinate(_) => 25,
+            Refusal::TooManyRecords(_) => 26,
             Refusal::OddPoints(_) => 101,
         }
     }
@@ -112,8 +125,12 @@ impl Refusal {
             Refusal::Pieces => 0,
             Refusal::TooManyLeaves(leaves) => leaves,
             Refusal::DegreePieces(index) => index,
+            Refusal::NotWhole(index) => index,
+            Refusal::NoSuchCurve(number) => number,
+            Refusal::OtherRecords(index) => index,
             Refusal::SplineLength(length) => length,
             Refusal::SplineCoordinate(index) => index,
+            Refusal::TooManyRecords(length) => length,
             Refusal::OddPoints(count) => count,
         }
     }
