@@ -3,7 +3,7 @@ ghost use mathlib.Core.Path.{_≡_};
 ghost use Prim.Native.Nat.{_≤_};
 ghost use lib.ListN.{length};
 ghost use Rattle.text_lines.specs.Meaning.{meaning};
-ghost use Rattle.answer.specs.Bands.{bandOf, recordsAfter};
+ghost use Rattle.text_answers.specs.Bands.{bandOf, recordsAfter};
 use band::banding::Banded;
 use text_lines::text::TextCheck;
 

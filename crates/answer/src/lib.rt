@@ -5,7 +5,7 @@ ghost use Prim.Native.Nat.{_≤_};
 ghost use lib.ListN.{length, replicate};
 ghost use lib.IntN.{pos};
 ghost use Rattle.write_numbers.specs.Appends.{PutWithin};
-ghost use Rattle.answer.specs.Answers.{lent, answerOf};
+ghost use Rattle.text_answers.specs.Answers.{lent, answerOf};
 use crate::band_answers::band_text;
 use crate::point_answers::put_points;
 use band::banding::Banded;

@@ -5,8 +5,8 @@ ghost use Rattle.setting.specs.Setting.{standard};
 ghost use Rattle.write_numbers.specs.Appends.{PutWithin};
 ghost use Rattle.judge.specs.Judging.{Passed};
 ghost use Rattle.text_lines.specs.Lines.{linesOf, gather};
-ghost use Rattle.answer.specs.Points.{pointAnswer};
-ghost use Rattle.answer.specs.Inside.{LeavesFine, lineAnswer};
+ghost use Rattle.text_answers.specs.Points.{pointAnswer};
+ghost use Rattle.text_answers.specs.Inside.{LeavesFine, lineAnswer};
 use judge::judging::Judgement;
 use text_forms::forms::Form;
 

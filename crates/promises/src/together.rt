@@ -3,7 +3,7 @@ ghost use mathlib.Core.Path.{_≡_};
 ghost use Rattle.setting.specs.Setting.{lists};
 ghost use Rattle.write_numbers.specs.Appends.{PutWithin};
 ghost use Rattle.engine.specs.Outcomes.{writtenFor, Answered};
-ghost use Rattle.answer.specs.Answers.{answerOf};
+ghost use Rattle.text_answers.specs.Answers.{answerOf};
 use engine::Outcome;
 
 pub fn band_and_judge(

@@ -2,7 +2,7 @@
 use mathlib.Core.Path.{sym}
 use lib.Seq.{length-take-le}
 use borrow.Author.Needs.{needs}
-use Rattle.answer.proofs.Answers.{answer-refused, done-fits, done-inside, lines-room, points-room, done-fine, answer-done}
+use Rattle.text_answers.proofs.Answers.{answer-refused, done-fits, done-inside, lines-room, points-room, done-fine, answer-done}
 use Rattle.answer.proofs.answer_in.Statement.{statement}
 use Rattle.answer.proofs.answer_in.Tie as tie
 

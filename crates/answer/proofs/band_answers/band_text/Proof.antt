@@ -1,6 +1,6 @@
 -- `answer::band_answers::band_text` meets its contract. What was kept of the outline is what banding is lent, and it answers as for the whole.
 use borrow.Author.Needs.{needs}
-use Rattle.answer.proofs.Bands.{kept-inside, kept-length, refused-band, refused-records, text-band, text-records}
+use Rattle.text_answers.proofs.Bands.{kept-inside, kept-length, refused-band, refused-records, text-band, text-records}
 use Rattle.answer.proofs.band_answers.band_text.Statement.{statement}
 use Rattle.answer.proofs.band_answers.band_text.Tie as tie
 

@@ -1,6 +1,6 @@
 -- `answer::point_answers::put_point` meets its contract: one law a return.
 use borrow.Author.Needs.{needs}
-use Rattle.answer.proofs.Judging.{line-on, line-off, line-refused}
+use Rattle.text_answers.proofs.Judging.{line-on, line-off, line-refused}
 use Rattle.answer.proofs.point_answers.put_point.Statement.{statement}
 use Rattle.answer.proofs.point_answers.put_point.Tie as tie
 

@@ -3,7 +3,7 @@ use Prim.Native.Nat.{_-_}
 use borrow.Author.Needs.{needs}
 use lib.ListN.{length}
 use Rattle.text_lines.proofs.Lines.{line-less}
-use Rattle.answer.proofs.Judging.{Putting, putting-start, put-room, put-point-line, put-past, put-stops}
+use Rattle.text_answers.proofs.Judging.{Putting, putting-start, put-room, put-point-line, put-past, put-stops}
 use Rattle.answer.proofs.point_answers.put_points.Statement.{statement}
 use Rattle.answer.proofs.point_answers.put_points.Tie as tie
 

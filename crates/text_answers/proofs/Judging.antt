@@ -39,8 +39,8 @@ use Rattle.judge.specs.Judging.{Passed}
 use Rattle.judge.proofs.Judgements.{is-judged, judged-is, judged-on, judged-fault}
 use Rattle.write_leaves.specs.Leaves.{lineEnd}
 use Rattle.write_lines.specs.Answers.{twoNumbers, refusedLine, onWord, onLine, offLine}
-use Rattle.answer.specs.Points.{lineOf, pointAnswer, pointAnswers}
-use Rattle.answer.specs.Inside.{LeavesFine, lineAnswer}
+use Rattle.text_answers.specs.Points.{lineOf, pointAnswer, pointAnswers}
+use Rattle.text_answers.specs.Inside.{LeavesFine, lineAnswer}
 
 -- ---- the line of a point says what judging answers
 pub line-said : (ns : List ℤ) (x y : ℤ) (j : Judgement) → Judged standard ns x y j → lineOf j ≡ pointAnswer ns x y

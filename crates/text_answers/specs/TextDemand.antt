@@ -1,6 +1,6 @@
 -- Demand 3 for the text program, as one claim from the bytes of a text to the bytes of its answer. The text s means a
 -- tolerance T, an outline and points (`meaning`), and banding accepts the outline at T with what is lent (`banded`) and
--- reports a curves, b leaves and c nodes. `text-demand-3` of crates/answer/proofs/TextDemand.antt proves it.
+-- reports a curves, b leaves and c nodes. `text-demand-3` of crates/text_answers/proofs/TextDemand.antt proves it.
 use mathlib.Core.Path.{_≡_}
 use mathlib.Core.Logic.{_↔_}
 use mathlib.Core.List.{List, _∷_, _++_}
@@ -20,8 +20,8 @@ use Rattle.judge.specs.Judging.{pointFault, FirstHolder, Verdict}
 use Rattle.demand_3.specs.Demand3.{CurveOf, Somewhere, Shallow}
 use Rattle.write_lines.specs.Answers.{onLine, offLine}
 use Rattle.write_lines.specs.BandLines.{bandLines}
-use Rattle.answer.specs.Points.{pointAnswers}
-use Rattle.answer.specs.Answers.{lent, answerOf}
+use Rattle.text_answers.specs.Points.{pointAnswers}
+use Rattle.text_answers.specs.Answers.{lent, answerOf}
 
 -- the line of a point says that it is on, with a record and a cover
 pub record SaysOn (line : List ℕ) : Type 0 where

@@ -31,10 +31,10 @@ use Rattle.demand_3.proofs.Consequences.{Reach, somewhere-in-reach, shallow-dep
 use Rattle.text_lines.specs.Meaning.{means, meaning}
 use Rattle.write_lines.specs.Answers.{onLine, offLine}
 use Rattle.write_lines.specs.BandLines.{bandLines}
-use Rattle.answer.specs.Points.{pointAnswers}
-use Rattle.answer.specs.Answers.{lent, answerOf}
-use Rattle.answer.specs.TextDemand.{textRecords, textLeaves, PointAnswered, TextDemand3}
-use Rattle.answer.proofs.TextDemand.{text-demand-3}
+use Rattle.text_answers.specs.Points.{pointAnswers}
+use Rattle.text_answers.specs.Answers.{lent, answerOf}
+use Rattle.text_answers.specs.TextDemand.{textRecords, textLeaves, PointAnswered, TextDemand3}
+use Rattle.text_answers.proofs.TextDemand.{text-demand-3}
 
 -- ---- a text that is banded, and the point (x, y) of it, behind others and before others
 module _ (s : List ℕ) (T : ℤ) (outline : List ℤ) (before : List (ℤ × ℤ)) (x y : ℤ) (after : List (ℤ × ℤ))

@@ -7,7 +7,7 @@ use Rattle.text_forms.specs.declared.forms.Form.{Form}
 use Rattle.text_forms.specs.declared.forms.Form.the-variants.{Tolerance, Curve, Point, NoForm}
 use Rattle.setting.specs.Setting.{standard}
 use Rattle.judge.specs.Judging.{Passed}
-use Rattle.answer.specs.Points.{pointAnswer}
+use Rattle.text_answers.specs.Points.{pointAnswer}
 
 -- what a line of the text adds to the answer
 abbrev pub lineAnswer : List ℤ → Form → List ℕ

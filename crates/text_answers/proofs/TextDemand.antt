@@ -27,11 +27,11 @@ use Rattle.demand_3.proofs.Meeting.{same-curves}
 use Rattle.text_lines.specs.Meaning.{means, meaning}
 use Rattle.write_lines.specs.Answers.{refusedLine, onLine, offLine}
 use Rattle.write_lines.specs.BandLines.{bandLines}
-use Rattle.answer.specs.Points.{lineOf, pointAnswer, pointAnswers}
-use Rattle.answer.proofs.Judging.{line-said, fault-fine}
-use Rattle.answer.specs.Answers.{lent, lines, answerTo, answerOf}
-use Rattle.answer.proofs.Answers.{leaves-fine}
-use Rattle.answer.specs.TextDemand.{SaysOn, textRecords, textLeaves, PointAnswered, TextDemand3}
+use Rattle.text_answers.specs.Points.{lineOf, pointAnswer, pointAnswers}
+use Rattle.text_answers.proofs.Judging.{line-said, fault-fine}
+use Rattle.text_answers.specs.Answers.{lent, lines, answerTo, answerOf}
+use Rattle.text_answers.proofs.Answers.{leaves-fine}
+use Rattle.text_answers.specs.TextDemand.{SaysOn, textRecords, textLeaves, PointAnswered, TextDemand3}
 
 -- ---- the line of one point among those of all
 points-split : (leaves : List ℤ) (before : List (ℤ × ℤ)) (x y : ℤ) (after : List (ℤ × ℤ))

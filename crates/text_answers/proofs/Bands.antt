@@ -28,7 +28,7 @@ use Rattle.text_lines.specs.Meaning.{Meaning, refused, means, meaning}
 use Rattle.text_lines.specs.Inside.{textCheckOf}
 use Rattle.text_outline.specs.Outlines.{kept}
 use Rattle.text_outline.proofs.Kept.{outline-kept, kept-few}
-use Rattle.answer.specs.Bands.{bandOf, recordsAfter}
+use Rattle.text_answers.specs.Bands.{bandOf, recordsAfter}
 
 -- ---- `band_text`: banding looks at an outline through its checks alone
 banded-same : (σ : Setting) (T : ℤ) (ns ms : List ℤ) (room : ℕ) → outlined (σ .most) (σ .pieces) ns ≡ outlined (σ .most) (σ .pieces) ms

@@ -30,13 +30,13 @@ use Rattle.text_forms.specs.declared.forms.Form.the-variants.{Tolerance, Curve,
 use Rattle.text_lines.specs.Lines.{linesOf, gather}
 use Rattle.text_lines.specs.Meaning.{Meaning, refused, means, meaning, meaningOf, mostBytes, faultOr, faultFrom, curveNumbers, pointOf}
 use Rattle.write_lines.specs.Answers.{refusedLine}
-use Rattle.answer.specs.Bands.{bandOf, recordsAfter}
+use Rattle.text_answers.specs.Bands.{bandOf, recordsAfter}
 use Rattle.write_lines.specs.BandLines.{bandLines}
 use Rattle.write_lines.specs.Inside.{RoomFor}
-use Rattle.answer.specs.Points.{pointAnswers}
-use Rattle.answer.specs.Inside.{LeavesFine, lineAnswer}
-use Rattle.answer.proofs.Judging.{points-gathered}
-use Rattle.answer.specs.Answers.{lent, pointsOf, lines, answerTo, answerOf}
+use Rattle.text_answers.specs.Points.{pointAnswers}
+use Rattle.text_answers.specs.Inside.{LeavesFine, lineAnswer}
+use Rattle.text_answers.proofs.Judging.{points-gathered}
+use Rattle.text_answers.specs.Answers.{lent, pointsOf, lines, answerTo, answerOf}
 
 -- ---- where a band is done
 module _ (m : Meaning) (old : List ℤ) (c l n : ℕ) (e : bandOf m (length old) ≡ Done c l n) where

@@ -10,9 +10,9 @@ use Rattle.band.specs.declared.banding.Banded.{Banded}
 use Rattle.band.specs.declared.banding.Banded.the-variants.{Done, Refused}
 use Rattle.text_lines.specs.Meaning.{Meaning, refused, means, meaning}
 use Rattle.write_lines.specs.Answers.{refusedLine}
-use Rattle.answer.specs.Bands.{bandOf, recordsAfter}
+use Rattle.text_answers.specs.Bands.{bandOf, recordsAfter}
 use Rattle.write_lines.specs.BandLines.{bandLines}
-use Rattle.answer.specs.Points.{pointAnswers}
+use Rattle.text_answers.specs.Points.{pointAnswers}
 
 -- how many numbers are lent for records
 abbrev pub lent : ℕ

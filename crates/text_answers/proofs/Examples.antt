@@ -35,8 +35,8 @@ use Rattle.judge_cover.specs.Deciding.{held}
 use Rattle.judge.specs.Judging.{judgingFault}
 use Rattle.judge.specs.Judgements.{firstHeld, judgement}
 use Rattle.write_lines.specs.BandLines.{bandLines}
-use Rattle.answer.specs.Points.{pointAnswer, pointAnswers}
-use Rattle.answer.specs.Answers.{answerTo, answerOf}
+use Rattle.text_answers.specs.Points.{pointAnswer, pointAnswers}
+use Rattle.text_answers.specs.Answers.{answerTo, answerOf}
 
 -- what the examples compute through
 computing : List ℕ → List ℕ
