@@ -1,5 +1,5 @@
 /* The C interface of the contour band engine: banding an outline or a B-spline, foretelling an outline's leaves, judging
- * points, drawing the hull of two boxes.
+ * points, quoting leaves, drawing the hull of two boxes.
  *
  * The library is made at the root of the repository, and a program is linked with it, by
  *
@@ -85,6 +85,11 @@ extern "C" {
 #define CONTOUR_BAND_ANSWER 3
 #define CONTOUR_BAND_POINTS_STACK 34816
 
+/* How many records a quote takes; and how many bytes of stack it takes at most, whatever it is given, which
+ * rust/contour-band/tests/stack.c measures. */
+#define CONTOUR_BAND_QUOTE_RECORDS_MAX 1048576
+#define CONTOUR_BAND_QUOTE_STACK 17408
+
 /* The largest number of a box and of a point, in sixteenths of a stage unit; its negative is the least. */
 #define CONTOUR_BAND_FARTHEST 536870912
 
@@ -94,8 +99,9 @@ extern "C" {
 /* The refusals, each with its condition and its spot. They stand in the order in which an operation tries them: banding 18, 1
  * to 8, 17 and 20 (5, 2, 20, 3, 4 and 17 curve by curve), and 19 for the bench station alone; banding a B-spline 18, 1, 24,
  * 25, 7 and 8; foretelling those of banding but for 7 and 19; judging 18 and 9 to 11, a list of points 18, 9, 10, 101 and then
- * 8, and 11 is the answer to a point; banding and judging together those of banding and then 11, drawing 12 and 13. A refusal
- * leaves every lent list as it was. Numbers from 101 on stand in no document: they are the engine's own. */
+ * 8, and 11 is the answer to a point; a quote 18, 9, 26 and 10; banding and judging together those of banding and then 11,
+ * drawing 12 and 13. A refusal leaves every lent list as it was. Numbers from 101 on stand in no document: they are the engine's
+ * own. */
 enum contour_band_refusal {
     CONTOUR_BAND_ACCEPTED = 0,         /* nothing is refused; 0 */
     CONTOUR_BAND_PIECES = 18,          /* m is not 1 to 8; 0 */
@@ -116,6 +122,7 @@ enum contour_band_refusal {
                                         * answers_length is less than 3 * points; the number of points. Of foretelling:
                                         * depths_length is less than the curves; the number of curves */
     CONTOUR_BAND_LEAVES_LENGTH = 9,    /* leaves_length is 0 or no multiple of 6 + 4 * m; leaves_length */
+    CONTOUR_BAND_TOO_MANY_RECORDS = 26, /* a quote's leaves are more than 1,048,576 records; leaves_length */
     CONTOUR_BAND_LEAVES_NUMBER = 10,   /* a number of the leaves is bad, see contour_judge; the index of the first such */
     CONTOUR_BAND_ODD_POINTS = 101,     /* points_length is odd; points_length */
     CONTOUR_BAND_POINT = 11,           /* a coordinate of the point is beyond the farthest; 0 for x, else 1 */
@@ -256,6 +263,22 @@ struct contour_band_points {
 struct contour_band_points contour_judge_points(const int32_t *leaves, size_t leaves_length, uint32_t m,
                                                 const int32_t *points, size_t points_length, int64_t *answers,
                                                 size_t answers_length);
+
+/* What a quote answers. */
+struct contour_band_quote {
+    uint32_t refusal; /* 0 where the list is accepted, else the number of the refusal: 18, 9, 26 or 10 */
+    uint64_t spot;    /* the refusal's spot; 0 where the list is accepted */
+    uint64_t cents;   /* the total in cents; 0 where the list is refused */
+};
+
+/* Quotes a list of leaf records, as banding writes them.
+ *
+ * leaves, m: as for contour_judge, with at most CONTOUR_BAND_QUOTE_RECORDS_MAX records.
+ *
+ * Each curve number that has records costs 140 cents, with two of them included, and each further record of it 35. One eighth
+ * of the sum is added, and the total is rounded to the cent, half a cent upwards. The records of a number are counted over the
+ * whole list, wherever they stand, and a number without records costs nothing. */
+struct contour_band_quote contour_quote(const int32_t *leaves, size_t leaves_length, uint32_t m);
 
 /* What banding and judging answer together. */
 struct contour_band_outcome {

@@ -3,12 +3,14 @@ ghost use mathlib.Core.Path.{_≡_};
 ghost use Rattle.contour.specs.Numbers.{bandAnswerOf, judgingAnswerOf};
 ghost use Rattle.contour.specs.Foretellings.{foretoldAnswerOf};
 ghost use Rattle.contour.specs.Points.{pointsAnswerOf};
+ghost use Rattle.contour.specs.Quotes.{quoteAnswerOf};
 ghost use Rattle.contour.specs.Drawings.{drawingOf};
 use band::banding::Banded;
 use band_foretold::foretelling::Foretold;
 use draw::drawing::Drawn;
 use judge::judging::Judgement;
 use judge_points::answers::PointsJudged;
+use quote_price::quoting::Quoted;
 
 // What banding answers, in numbers: a refusal's number and spot, or 0 and 0 and the report.
 #[repr(C)]
@@ -164,6 +166,32 @@ pub fn points_in_numbers(answered: PointsJudged) -> PointsAnswer
             refusal: refusal.number(),
             spot: refusal.spot() as u64,
             points: 0,
+        },
+    }
+}
+
+// What a quote answers, in numbers: a refusal's number and spot, or 0 and 0 and the total in cents.
+#[repr(C)]
+pub struct QuoteAnswer {
+    pub refusal: u32,
+    pub spot: u64,
+    pub cents: u64,
+}
+
+// The numbers of a quote.
+pub fn quote_in_numbers(quoted: Quoted) -> QuoteAnswer
+    ensures { λ r. ⌜ r ≡ quoteAnswerOf quoted ⌝ }
+{
+    match quoted {
+        Quoted::Cents(cents) => QuoteAnswer {
+            refusal: 0,
+            spot: 0,
+            cents,
+        },
+        Quoted::Refused(refusal) => QuoteAnswer {
+            refusal: refusal.number(),
+            spot: refusal.spot() as u64,
+            cents: 0,
         },
     }
 }

@@ -5,10 +5,12 @@ ghost use Rattle.setting.specs.Setting.{lists, station};
 ghost use Rattle.band.specs.Banding.{banded, written, bandedSpline, writtenSpline};
 ghost use Rattle.band_foretold.specs.Foretelling.{foretold, depthsWritten};
 ghost use Rattle.judge_points.specs.Points.{pointsJudged, judgedInto};
+ghost use Rattle.quote_price.specs.Quote.{quoted};
 ghost use Rattle.draw.specs.Drawing.{drawn, drawnInto};
 ghost use Rattle.contour.specs.Numbers.{bandAnswerOf};
 ghost use Rattle.contour.specs.Foretellings.{foretoldAnswerOf};
 ghost use Rattle.contour.specs.Points.{pointsAnswerOf};
+ghost use Rattle.contour.specs.Quotes.{quoteAnswerOf};
 ghost use Rattle.contour.specs.Drawings.{drawingOf};
 ghost use Rattle.engine.specs.Outcomes.{writtenFor};
 ghost use Rattle.contour.specs.Answers.{outcomeAnswerOf, JudgedInNumbers, AnsweredInNumbers};
@@ -17,11 +19,13 @@ use crate::c_answers::Drawing;
 use crate::c_answers::ForetoldAnswer;
 use crate::c_answers::JudgingAnswer;
 use crate::c_answers::PointsAnswer;
+use crate::c_answers::QuoteAnswer;
 use crate::c_answers::drawing_in_numbers;
 use crate::c_answers::foretold_in_numbers;
 use crate::c_answers::in_numbers;
 use crate::c_answers::judgement_in_numbers;
 use crate::c_answers::points_in_numbers;
+use crate::c_answers::quote_in_numbers;
 use boxes::Box;
 use engine::Outcome;
 use engine::band_and_judge;
@@ -123,6 +127,15 @@ pub extern "C" fn contour_judge_points(
 {
     let answered = judge_points::judge_points(leaves, m, points, answers);
     points_in_numbers(answered)
+}
+
+// Quotes a list of leaf records of m pieces, in cents.
+#[no_mangle]
+pub extern "C" fn contour_quote(leaves: &[i32], m: u32) -> QuoteAnswer
+    ensures { λ r. ⌜ r ≡ quoteAnswerOf (quoted (lists m) (now (leaves .entry))) ⌝ }
+{
+    let quoted = quote::quote(leaves, m);
+    quote_in_numbers(quoted)
 }
 
 // What banding and judging together answer, in numbers: a refusal's number and spot, or 0 and 0, banding's report and

@@ -5,10 +5,12 @@ ghost use Rattle.setting.specs.Setting.{lists, station};
 ghost use Rattle.band.specs.Banding.{banded, written, bandedSpline, writtenSpline};
 ghost use Rattle.band_foretold.specs.Foretelling.{foretold, depthsWritten};
 ghost use Rattle.judge_points.specs.Points.{pointsJudged, judgedInto};
+ghost use Rattle.quote_price.specs.Quote.{quoted};
 ghost use Rattle.draw.specs.Drawing.{drawn, drawnInto};
 ghost use Rattle.contour.specs.Numbers.{bandAnswerOf};
 ghost use Rattle.contour.specs.Foretellings.{foretoldAnswerOf};
 ghost use Rattle.contour.specs.Points.{pointsAnswerOf};
+ghost use Rattle.contour.specs.Quotes.{quoteAnswerOf};
 ghost use Rattle.contour.specs.Drawings.{drawingOf};
 ghost use Rattle.engine.specs.Outcomes.{writtenFor};
 ghost use Rattle.contour.specs.Answers.{JudgedInNumbers, AnsweredInNumbers};
@@ -19,6 +21,7 @@ use contour::c_answers::Drawing;
 use contour::c_answers::ForetoldAnswer;
 use contour::c_answers::JudgingAnswer;
 use contour::c_answers::PointsAnswer;
+use contour::c_answers::QuoteAnswer;
 
 pub fn contour_band(outline: &[i32], tolerance: i32, m: u32, records: &mut [i32]) -> Answer
     ensures { λ r. ⌜ r
@@ -94,6 +97,12 @@ pub fn contour_judge_points(
         (now (answers .entry)) ⌝ }
 {
     contour::contour_judge_points(leaves, m, points, answers)
+}
+
+pub fn contour_quote(leaves: &[i32], m: u32) -> QuoteAnswer
+    ensures { λ r. ⌜ r ≡ quoteAnswerOf (quoted (lists m) (now (leaves .entry))) ⌝ }
+{
+    contour::contour_quote(leaves, m)
 }
 
 pub fn contour_draw(first: Box, second: Box, vertices: &mut [i32]) -> Drawing

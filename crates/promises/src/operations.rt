@@ -6,6 +6,7 @@ ghost use Rattle.band.specs.Banding.{banded, written, bandedSpline, writtenSpli
 ghost use Rattle.band_foretold.specs.Foretelling.{foretold, depthsWritten};
 ghost use Rattle.judge.specs.Judging.{Judged};
 ghost use Rattle.judge_points.specs.Points.{pointsJudged, judgedInto};
+ghost use Rattle.quote_price.specs.Quote.{quoted};
 ghost use Rattle.draw.specs.Drawing.{drawn, drawnInto};
 use band::banding::Banded;
 use band_foretold::foretelling::Foretold;
@@ -13,6 +14,7 @@ use boxes::Box;
 use draw::drawing::Drawn;
 use judge::judging::Judgement;
 use judge_points::answers::PointsJudged;
+use quote_price::quoting::Quoted;
 
 pub fn band(outline: &[i32], tolerance: i32, m: u32, records: &mut [i32]) -> Banded
     ensures { λ r. ⌜ r ≡ banded (lists m) tolerance (now (outline .entry)) (length (now (records .entry))) ⌝ }
@@ -59,6 +61,12 @@ pub fn judge_points(leaves: &[i32], m: u32, points: &[i32], answers: &mut [i64])
         (now (answers .entry)) ⌝ }
 {
     judge_points::judge_points(leaves, m, points, answers)
+}
+
+pub fn quote(leaves: &[i32], m: u32) -> Quoted
+    ensures { λ r. ⌜ r ≡ quoted (lists m) (now (leaves .entry)) ⌝ }
+{
+    quote::quote(leaves, m)
 }
 
 pub fn draw(first: Box, second: Box, vertices: &mut [i32]) -> Drawn

@@ -8,14 +8,16 @@ mod drawing;
 mod foretelling;
 mod growth;
 mod judging;
+mod quoting;
 mod samples;
 mod times;
 
 /// The tables, in order.
-const TABLES: [(&str, fn()); 6] = [
+const TABLES: [(&str, fn()); 7] = [
     ("banding", banding::run),
     ("foretelling", foretelling::run),
     ("judging", judging::run),
+    ("quoting", quoting::run),
     ("drawing", drawing::run),
     ("growth", growth::run),
     ("samples", samples::run),

@@ -68,6 +68,15 @@ pub fn many(arches_in_all: usize) -> Leaves {
     Leaves { records, m: M }
 }
 
+/// So many flat records of m pieces, 256 for each curve number in turn.
+pub fn flat(count: usize, m: u32) -> Leaves {
+    let mut records = vec![0; record_length(m) * count];
+    for (i, record) in records.chunks_exact_mut(record_length(m)).enumerate() {
+        record[..2].copy_from_slice(&[i as i32 / 256, 256 + i as i32 % 256]);
+    }
+    Leaves { records, m }
+}
+
 /// A mixture of two boxes of a leaf. Leaves, covers and fractions change with `i` in great steps.
 fn mixture(leaves: &Leaves, i: usize) -> [i32; 4] {
     let length = record_length(leaves.m);

@@ -8,8 +8,8 @@
 //! [`spline_band`] for a uniform cubic B-spline, given by its points. [`foretell`] says beforehand how many leaves
 //! an outline can have.
 //! [`leaves`] reads the records. [`judge`] says of a measured point whether it lies on what the boxes cover,
-//! [`judge_points`] of many at once, and [`band_and_judge`] bands and judges a point. [`draw`] draws the convex
-//! hull of two boxes.
+//! [`judge_points`] of many at once, and [`band_and_judge`] bands and judges a point. [`quote`] says what the leaves
+//! cost. [`draw`] draws the convex hull of two boxes.
 //!
 //! Two lines at the root of the repository build the archive that is linked, and run a program with it:
 //!
@@ -54,6 +54,7 @@ mod foretell;
 mod judge;
 mod leaf;
 mod library;
+mod quote;
 mod refusal;
 
 pub use band::{band, spline_band, station_band, Report, STATION_CURVES, STATION_LEAVES};
@@ -61,4 +62,5 @@ pub use cover::{draw, VERTEX_ROOM};
 pub use foretell::{foretell, Foretold};
 pub use judge::{band_and_judge, judge, judge_points, Judgement, Outcome, FARTHEST};
 pub use leaf::{leaves, record_length, Bounds, BoxBounds, Leaf};
+pub use quote::{quote, Cents};
 pub use refusal::Refusal;

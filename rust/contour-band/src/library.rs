@@ -49,6 +49,16 @@ pub struct Points {
     pub points: u64,
 }
 
+/// `struct contour_band_quote`.
+#[repr(C)]
+#[derive(Debug, Clone, Copy, PartialEq, Eq)]
+pub struct Quote {
+    /// 0 where nothing is refused.
+    pub refusal: u32,
+    pub spot: u64,
+    pub cents: u64,
+}
+
 /// `struct contour_band_outcome`.
 #[repr(C)]
 #[derive(Debug, Clone, Copy, PartialEq, Eq)]
@@ -133,6 +143,8 @@ extern "C" {
         answers_length: usize,
     ) -> Points;
 
+    fn contour_quote(leaves: *const i32, leaves_length: usize, m: u32) -> Quote;
+
     fn contour_band_and_judge(
         outline: *const i32,
         outline_length: usize,
@@ -208,6 +220,12 @@ pub fn judge_points(leaves: &[i32], m: u32, points: &[i32], answers: &mut [i64])
             answers.len(),
         )
     }
+}
+
+/// The quote for a leaf list.
+pub fn quote(leaves: &[i32], m: u32) -> Quote {
+    // Safety: as for `band`.
+    unsafe { contour_quote(leaves.as_ptr(), leaves.len(), m) }
 }
 
 /// The outcome for an outline and a point. Writes to `records` as the header says.

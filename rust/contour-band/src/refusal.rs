@@ -76,6 +76,11 @@ pub enum Refusal {
         /// The leaf list's length.
         length: usize,
     },
+    /// 26: the leaf list of a quote has more than 1,048,576 records.
+    TooManyRecords {
+        /// The leaf list's length.
+        length: usize,
+    },
     /// 10: a number of the leaf list is bad: a curve is not 0 to 4,095, a node is not 1 to 511, a
     /// box number is beyond ±[`FARTHEST`](crate::FARTHEST), or a low is above its high.
     LeafListNumber {
@@ -127,6 +132,7 @@ impl Refusal {
             Refusal::TooFewPieces { .. } => 20,
             Refusal::SplineLength { .. } => 24,
             Refusal::SplineCoordinate { .. } => 25,
+            Refusal::TooManyRecords { .. } => 26,
             Refusal::OddPoints { .. } => 101,
         }
     }
@@ -146,6 +152,7 @@ impl Refusal {
             Refusal::CutShort { length }
             | Refusal::LeafListLength { length }
             | Refusal::SplineLength { length }
+            | Refusal::TooManyRecords { length }
             | Refusal::OddPoints { length } => length as u64,
             Refusal::TooWide { curve, node } => 512 * curve as u64 + u64::from(node),
             Refusal::TooFewRecords { leaves } | Refusal::TooManyLeaves { leaves } => leaves as u64,
@@ -182,6 +189,7 @@ impl Refusal {
             20 => Refusal::TooFewPieces { index: place },
             24 => Refusal::SplineLength { length: place },
             25 => Refusal::SplineCoordinate { index: place },
+            26 => Refusal::TooManyRecords { length: place },
             101 => Refusal::OddPoints { length: place },
             _ => panic!("the library answered refusal {number} at {spot}, which does not exist"),
         }
@@ -217,6 +225,7 @@ impl fmt::Display for Refusal {
                 write!(f, "the outline has {leaves} leaves, more than are taken")
             }
             Refusal::LeafListLength { .. } => write!(f, "the leaf list is empty or ends inside a record"),
+            Refusal::TooManyRecords { .. } => write!(f, "the leaf list has more records than a quote takes"),
             Refusal::LeafListNumber { .. } => {
                 write!(f, "a number of the leaf list is outside its range, or a low is above its high")
             }
@@ -242,7 +251,7 @@ mod tests {
     #[test]
     fn number_and_spot_are_what_the_library_answered() {
         let places = [0, 1, 17, 575, 32_767];
-        for number in (2..=10).chain(12..=13).chain([17, 19, 20, 24, 25, 101]) {
+        for number in (2..=10).chain(12..=13).chain([17, 19, 20, 24, 25, 26, 101]) {
             for place in places {
                 // 6 has the spot 0 only.
                 let spot = if number == 6 { 0 } else { place };

@@ -1,5 +1,5 @@
-/* A C caller of the header: bands curve A and B-splines, foretells leaves, judges points, one by one and as a list, draws two
- * boxes, and prints the answers, to be compared by header.rs. */
+/* A C caller of the header: bands curve A and B-splines, foretells leaves, judges points, one by one and as a list, quotes
+ * leaves, draws two boxes, and prints the answers, to be compared by header.rs. */
 #include "contour_band.h"
 
 #include <stdio.h>
@@ -115,6 +115,28 @@ static void foretell(int32_t tolerance, size_t length) {
     printf(" %d %d %d\n", (int)depths[0], (int)depths[1], (int)depths[2]);
 }
 
+/* Quotes so many numbers of a list, as records of m pieces. */
+static void quote(const int32_t *leaves, size_t leaves_length, uint32_t m) {
+    struct contour_band_quote quote = contour_quote(leaves, leaves_length, m);
+    printf("%u %llu %llu\n", (unsigned)quote.refusal, (unsigned long long)quote.spot, (unsigned long long)quote.cents);
+}
+
+/* Curve A and its chord, at two tolerances; the refusals, of which 26 looks at no number. */
+static void quotes(void) {
+    const int32_t bow[14] = {3, 0, 0, 10, 30, 20, 30, 30, 0, 1, 30, 0, 0, 0};
+    int32_t leaves[5 * CONTOUR_BAND_RECORD(M)];
+    contour_band(bow, 14, 44, M, leaves, 2 * CONTOUR_BAND_RECORD(M));
+    quote(leaves, CONTOUR_BAND_RECORD(M), M);
+    quote(leaves, 2 * CONTOUR_BAND_RECORD(M), M);
+    contour_band(bow, 14, 8, M, leaves, 5 * CONTOUR_BAND_RECORD(M));
+    quote(leaves, 5 * CONTOUR_BAND_RECORD(M), M);
+    quote(leaves, 0, CONTOUR_BAND_PIECES_MAX + 1);
+    quote(leaves, 0, M);
+    static int32_t many[CONTOUR_BAND_RECORD(1) * (CONTOUR_BAND_QUOTE_RECORDS_MAX + 1)];
+    quote(many, CONTOUR_BAND_RECORD(1) * CONTOUR_BAND_QUOTE_RECORDS_MAX, 1);
+    quote(many, CONTOUR_BAND_RECORD(1) * (CONTOUR_BAND_QUOTE_RECORDS_MAX + 1), 1);
+}
+
 static void draw(struct contour_band_box first, struct contour_band_box second, size_t length) {
     int32_t vertices[CONTOUR_BAND_VERTEX_ROOM] = {0};
     struct contour_band_drawing drawing = contour_draw(first, second, vertices, length);
@@ -183,6 +205,8 @@ int main(void) {
     foretell(CONTOUR_BAND_TOLERANCE_MIN, 3);
     foretell(CONTOUR_BAND_TOLERANCE_MAX, 3);
     foretell(CONTOUR_BAND_TOLERANCE_MAX + 1, 3);
+
+    quotes();
 
     const struct contour_band_box near = {0, 1, 0, 1}, far = {3, 4, 3, 4};
     const struct contour_band_box beyond = {0, 0, 0, CONTOUR_BAND_FARTHEST + 1};

@@ -90,6 +90,13 @@ const EXPECTED: &str = "\
 0 0 0 0 -1 -1 7
 0 0 2 2 0 0 7
 1 0 0 0 7 7 7
+0 0 158
+0 0 315
+0 0 394
+18 0 0
+9 0 0
+10 1 0
+26 10485770 0
 0 0 6 0 0 1 0 4 3 4 4 3 4 0 1 0 0 0 0
 13 15 0 0 0 0 0 0 0 0 0 0 0 0 0 0 0 0 0
 12 7 0 0 0 0 0 0 0 0 0 0 0 0 0 0 0 0 0
@@ -108,17 +115,17 @@ fn a_c_program_gets_the_same_answers() {
 }
 
 /// What the header says of the stack of a call: of the station's, for curves of each degree, and of a B-spline's, refused
-/// or banded, with the most leaves or few; and of judging a list of points.
+/// or banded, with the most leaves or few; of judging a list of points; and of a quote.
 #[test]
 fn calls_take_little_stack() {
     let printed = printed(&c::root().join("rust/contour-band/tests/stack.c"), "stack");
     let mut most = [0; 5];
-    let (mut splines, mut points) = (0, 0);
+    let (mut splines, mut points, mut quotes) = (0, 0, 0);
     for line in printed.lines() {
         let (call, numbers) = line.split_once(' ').expect("a word and numbers are printed");
         let numbers: Vec<i32> = numbers.split(' ').map(|n| n.parse().expect("a number is printed")).collect();
         match (call, &numbers[..]) {
-            ("promised", &[station, judging]) => assert_eq!((station, judging), (6_144, 34_816)),
+            ("promised", promised) => assert_eq!(promised, [6_144, 34_816, 17_408]),
             ("station", &[degree, bytes]) => {
                 assert!(bytes <= 6_144, "{bytes} bytes of stack at degree {degree}");
                 let at = usize::try_from(degree).expect("a degree is printed") - 1;
@@ -132,14 +139,20 @@ fn calls_take_little_stack() {
                 assert!(bytes <= 34_816, "{bytes} bytes of stack");
                 points = bytes.max(points);
             }
+            ("quote", &[bytes]) => {
+                assert!(bytes <= 17_408, "{bytes} bytes of stack");
+                quotes = bytes.max(quotes);
+            }
             _ => panic!("{line}"),
         }
     }
-    println!("the most bytes of stack: the station's by degree {most:?}, a B-spline's {splines}, judging points {points}");
+    println!(
+        "the most bytes of stack: the station's by degree {most:?}, a B-spline's {splines}, judging points {points}, a quote {quotes}"
+    );
     // Some outline of each degree is walked: a refusal before the walk takes less than 300 bytes.
     assert!(
-        most.iter().chain([&splines, &points]).all(|bytes| *bytes > 1_024),
-        "{most:?} {splines} {points}"
+        most.iter().chain([&splines, &points, &quotes]).all(|bytes| *bytes > 1_024),
+        "{most:?} {splines} {points} {quotes}"
     );
 }
 

@@ -1,5 +1,5 @@
-/* How much stack contour_station_band, contour_spline_band and contour_judge_points take: each call runs on a stack of its own,
- * filled with one byte beforehand, and what it did not touch is counted from the far end. Prints the bytes that the header
+/* How much stack contour_station_band, contour_spline_band, contour_judge_points and contour_quote take: each call runs on a stack
+ * of its own, filled with one byte beforehand, and what it did not touch is counted from the far end. Prints the bytes that the header
  * promises, then a line for each call, the station's with its degree, to be compared by header.rs. */
 #define _XOPEN_SOURCE 700
 #include "contour_band.h"
@@ -36,6 +36,8 @@ static void spline(void) { contour_spline_band(outline, outline_length, toleranc
 static void judge_points(void) {
     contour_judge_points(leaves, leaves_length, m, points, points_length, answers, sizeof answers / sizeof *answers);
 }
+
+static void quote(void) { contour_quote(leaves, leaves_length, m); }
 
 /* The bytes of the stack that are touched by a call. */
 static int touched(void (*run)(void)) {
@@ -132,8 +134,19 @@ static void measure_points(void) {
     }
 }
 
+/* Lists that are refused, and accepted ones of few records and many. */
+static void measure_quotes(void) {
+    const int counts[] = {0, 1, 2, 3, 2049};
+    for (m = CONTOUR_BAND_PIECES_MIN; m <= CONTOUR_BAND_PIECES_MAX; m++) {
+        for (int i = 0; i < 5; i++) {
+            squares(counts[i]);
+            printf("quote %d\n", touched(quote) - touched(nothing));
+        }
+    }
+}
+
 int main(void) {
-    printf("promised %d %d\n", CONTOUR_BAND_STATION_STACK, CONTOUR_BAND_POINTS_STACK);
+    printf("promised %d %d %d\n", CONTOUR_BAND_STATION_STACK, CONTOUR_BAND_POINTS_STACK, CONTOUR_BAND_QUOTE_STACK);
     /* A program's first call of a function may be the loader's too. */
     m = 1;
     tolerance = 100;
@@ -141,8 +154,10 @@ int main(void) {
     touched(station);
     touched(spline);
     touched(judge_points);
+    touched(quote);
     measure_station();
     measure_splines();
     measure_points();
+    measure_quotes();
     return 0;
 }

@@ -107,6 +107,11 @@ pub enum Refusal {
         /// Where the first such coordinate stands in the list.
         index: usize,
     },
+    /// 26: the leaf list of a quote has too many records.
+    TooManyRecords {
+        /// The length of the list.
+        length: usize,
+    },
     /// 101: the list of points has an odd count of numbers.
     OddPoints {
         /// The length of the list.
@@ -140,6 +145,7 @@ impl Refusal {
             Refusal::TooFewPieces { .. } => 20,
             Refusal::SplineLength { .. } => 24,
             Refusal::SplineCoordinate { .. } => 25,
+            Refusal::TooManyRecords { .. } => 26,
             Refusal::OddPoints { .. } => 101,
         }
     }
@@ -159,6 +165,7 @@ impl Refusal {
             Refusal::CutShort { length }
             | Refusal::LeafListLength { length }
             | Refusal::SplineLength { length }
+            | Refusal::TooManyRecords { length }
             | Refusal::OddPoints { length } => length,
             Refusal::TooWide { curve, node } => 512 * curve + node,
             Refusal::TooFewRecords { leaves } | Refusal::TooManyLeaves { leaves } => leaves,

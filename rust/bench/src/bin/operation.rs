@@ -8,13 +8,14 @@
 //! the points and m, as in near:3, and with a number of curves where each is to have 256 leaves, as in near-4096:3;
 //! points, which judges TIMES points in one call, with the same, and with -scattered behind the place or the number
 //! where the records are to stand in no order, as in near-4096-scattered:3; with the place none it makes TIMES calls
-//! without a point; draw with the shape of the boxes. All but draw print the number of leaves, foretelling the most
-//! that it foretells.
+//! without a point; quote with a number of records, at most 256 of a curve, and m, as in 1048576:3, and with -scattered
+//! behind the number; its engine may be check, the proved engine's check of the list alone; draw with the shape of the
+//! boxes. All but draw print the number of leaves, foretelling the most that it foretells.
 
 use bench::points::{Leaves, Point, POINTS};
 use bench::sampled::{self, Packing, M};
 use bench::{outlines, pairs, points};
-use contour_band::{record_length, Refusal};
+use contour_band::{record_length, Refusal, FARTHEST};
 use std::hint::black_box;
 use std::process::ExitCode;
 
@@ -27,13 +28,16 @@ fn main() -> ExitCode {
             "foretell" => foretell(engine, input, times),
             "judge" => judge(engine, input, times),
             "points" => judge_points(engine, input, times),
+            "quote" => quote(engine, input, times),
             "draw" => draw(engine, input, times),
             _ => None,
         }),
         _ => None,
     };
     if done.is_none() {
-        eprintln!("usage: operation plain|proved|sampled band|foretell|judge|points|draw INPUT TIMES");
+        eprintln!(
+            "usage: operation plain|proved|sampled|check band|foretell|judge|points|quote|draw INPUT TIMES"
+        );
         return ExitCode::FAILURE;
     }
     ExitCode::SUCCESS
@@ -167,6 +171,28 @@ fn judge_points(engine: &str, input: &str, times: usize) -> Option<()> {
         };
         assert_eq!(judged, numbers.len() / 2);
         black_box(&mut answers);
+    }
+    println!("{}", leaves.records.len() / record_length(m));
+    Some(())
+}
+
+/// Quotes one list, or only checks it: judging a point that is out of range checks the list and does nothing more.
+fn quote(engine: &str, input: &str, times: usize) -> Option<()> {
+    let (name, m) = with_pieces(input)?;
+    let (count, scattered) = name.strip_suffix("-scattered").map_or((name, false), |name| (name, true));
+    let mut leaves = points::flat(count.parse().ok()?, m);
+    if scattered {
+        leaves.scatter();
+    }
+    for _ in 0..times {
+        let leaves = black_box(&leaves.records[..]);
+        let answered = match engine {
+            "plain" => plain::quote(leaves, m).is_ok(),
+            "proved" => contour_band::quote(leaves, m).is_ok(),
+            "check" => contour_band::judge(leaves, m, FARTHEST + 1, 0) == Err(Refusal::PointX),
+            _ => return None,
+        };
+        assert!(answered);
     }
     println!("{}", leaves.records.len() / record_length(m));
     Some(())

@@ -1,0 +1,4 @@
+-- Laws of a quote. Each file opens with what it holds.
+pub mod Counts
+pub mod Prices
+pub mod Faults
