@@ -1,5 +1,5 @@
-/* The C interface of the contour band engine: banding an outline or a B-spline, foretelling an outline's leaves, judging
- * points, quoting leaves, drawing the hull of two boxes.
+/* The C interface of the contour band engine: banding an outline or a B-spline, foretelling an outline's leaves, finding the
+ * tightest band that fits, judging points, quoting leaves, drawing the hull of two boxes.
  *
  * The library is made at the root of the repository, and a program is linked with it, by
  *
@@ -98,10 +98,10 @@ extern "C" {
 
 /* The refusals, each with its condition and its spot. They stand in the order in which an operation tries them: banding 18, 1
  * to 8, 17 and 20 (5, 2, 20, 3, 4 and 17 curve by curve), and 19 for the bench station alone; banding a B-spline 18, 1, 24,
- * 25, 7 and 8; foretelling those of banding but for 7 and 19; judging 18 and 9 to 11, a list of points 18, 9, 10, 101 and then
- * 8, and 11 is the answer to a point; a quote 18, 9, 26 and 10; banding and judging together those of banding and then 11,
- * drawing 12 and 13. A refusal leaves every lent list as it was. Numbers from 101 on stand in no document: they are the engine's
- * own. */
+ * 25, 7 and 8; foretelling those of banding but for 7 and 19; the tightest band those of banding but for 1, 7, 8 and 19;
+ * judging 18 and 9 to 11, a list of points 18, 9, 10, 101 and then 8, and 11 is the answer to a point; a quote 18, 9, 26 and
+ * 10; banding and judging together those of banding and then 11, drawing 12 and 13. A refusal leaves every lent list as it
+ * was. Numbers from 101 on stand in no document: they are the engine's own. */
 enum contour_band_refusal {
     CONTOUR_BAND_ACCEPTED = 0,         /* nothing is refused; 0 */
     CONTOUR_BAND_PIECES = 18,          /* m is not 1 to 8; 0 */
@@ -218,6 +218,27 @@ struct contour_band_foretold {
  * contour_band says with a records_length of 0, by its refusal 8, at the cost of a walk. */
 struct contour_band_foretold contour_foretell(const int32_t *outline, size_t outline_length, int32_t tolerance, uint32_t m,
                                               int32_t *depths, size_t depths_length);
+
+/* What is answered of the tightest band. */
+struct contour_band_tightest {
+    uint32_t refusal;   /* 0 where nothing is refused, else the number of the refusal */
+    uint64_t spot;      /* the refusal's spot; 0 where nothing is refused */
+    uint32_t tolerance; /* the least tolerance that fits, 2 to 1,048,576; 0 where none does or anything is refused */
+};
+
+/* Finds the least tolerance at which contour_band meets no refusal 7 and needs at most so many leaves.
+ *
+ * outline, m: as for contour_band.
+ * leaves: how many leaves are taken, any number. CONTOUR_BAND_STATION_LEAVES_MAX is what the bench station takes.
+ *
+ * Accepted: with room for so many records lent, contour_band accepts at this tolerance and at every larger one, up to
+ * CONTOUR_BAND_TOLERANCE_MAX, with no more leaves, and at none below. Where the tolerance is 0 it accepts at none: at
+ * CONTOUR_BAND_TOLERANCE_MAX no outline meets 7, so there are more leaves there, and at every other tolerance.
+ * Refused: 18, 6, 5, 2, 20, 3, 4 and 17, as in contour_band.
+ *
+ * The call walks the outline's curves at most 21 times, as contour_band does with a records_length of 0.
+ * Stack: CONTOUR_BAND_STATION_STACK bytes are enough, whatever is given. */
+struct contour_band_tightest contour_tightest(const int32_t *outline, size_t outline_length, uint32_t m, size_t leaves);
 
 /* What judging answers. */
 struct contour_band_judgement {

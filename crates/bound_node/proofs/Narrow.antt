@@ -13,8 +13,8 @@ use Rattle.setting.specs.Setting.{Setting, HasRows, scale, breakPoints, listsOf
 use Rattle.setting.proofs.Scales.{scaled-some}
 use Rattle.integers.specs.Squares.{squared}
 use Rattle.integers.proofs.Ring.{sides}
-use Rattle.integers.proofs.Order.{NonNeg, natural, nonneg, gap, le-by, lt-le, pos-lt, times-positive, *ℤ-cancel, _+₀_, _×₀_}
-use Rattle.integers.proofs.Squares.{root-mono, left-square, right-square}
+use Rattle.integers.proofs.Order.{NonNeg, natural, nonneg, gap, le-by, lt-le, pos-lt, times-positive, *ℤ-cancel, ≤ℤ-trans, _+₀_, _×₀_}
+use Rattle.integers.proofs.Squares.{square-mono, root-mono, left-square, right-square}
 use Rattle.integers.proofs.Table.{and-left, and-right, both-pass}
 use Rattle.integers.proofs.Ranges.{T-true, lt-yes, lt-no, yes-le, no-le}
 use Rattle.curve_nodes.specs.declared.Curve.{Curve}
@@ -92,6 +92,11 @@ module _ (σ : Setting) (tolerance : ℤ) (depth : ℕ) (c : Curve) where
 
     pub narrow-y : (highOf σ (c .degree) depth (c .y) i -ℤ lowOf σ (c .degree) depth (c .y) i) ≤ℤ tolerance
     narrow-y = root-mono some (right-square w h (n .each i hi))
+
+-- a node that meets T meets every larger one
+pub meets-looser : (σ : Setting) {T U : ℤ} → NonNeg T → T ≤ℤ U → (depth : ℕ) (c : Curve) → meets σ T depth c ≡ true → meets σ U depth c ≡ true
+meets-looser σ {T} {U} some h depth c e =
+    narrow-meets σ U depth c (record { each = λ i l. ≤ℤ-trans (meets-narrow σ T depth c e .each i l) (square-mono some h) })
 
 -- only the number of pieces and the scale count
 pub meets-pieces : (σ τ : Setting) → σ .pieces ≡ τ .pieces → σ .sixths ≡ τ .sixths → (tolerance : ℤ) (depth : ℕ) (c : Curve)

@@ -2,11 +2,13 @@
 ghost use mathlib.Core.Path.{_≡_};
 ghost use Rattle.contour.specs.Numbers.{bandAnswerOf, judgingAnswerOf};
 ghost use Rattle.contour.specs.Foretellings.{foretoldAnswerOf};
+ghost use Rattle.contour.specs.Tightest.{tightestAnswerOf};
 ghost use Rattle.contour.specs.Points.{pointsAnswerOf};
 ghost use Rattle.contour.specs.Quotes.{quoteAnswerOf};
 ghost use Rattle.contour.specs.Drawings.{drawingOf};
 use band::banding::Banded;
 use band_foretold::foretelling::Foretold;
+use band_tightest::tolerances::Tightest;
 use draw::drawing::Drawn;
 use judge::judging::Judgement;
 use judge_points::answers::PointsJudged;
@@ -74,6 +76,38 @@ pub fn foretold_in_numbers(foretold: Foretold) -> ForetoldAnswer
             spot: refusal.spot() as u64,
             leaves: 0,
             nodes: 0,
+        },
+    }
+}
+
+// What the question for the tightest band is answered by, in numbers: a refusal's number and spot, or 0 and 0 and the
+// least tolerance that fits, 0 where none does.
+#[repr(C)]
+pub struct TightestAnswer {
+    pub refusal: u32,
+    pub spot: u64,
+    pub tolerance: u32,
+}
+
+// The numbers of the answer for the tightest band.
+pub fn tightest_in_numbers(tightest: Tightest) -> TightestAnswer
+    ensures { λ r. ⌜ r ≡ tightestAnswerOf tightest ⌝ }
+{
+    match tightest {
+        Tightest::Least(tolerance) => TightestAnswer {
+            refusal: 0,
+            spot: 0,
+            tolerance,
+        },
+        Tightest::Nothing => TightestAnswer {
+            refusal: 0,
+            spot: 0,
+            tolerance: 0,
+        },
+        Tightest::Refused(refusal) => TightestAnswer {
+            refusal: refusal.number(),
+            spot: refusal.spot() as u64,
+            tolerance: 0,
         },
     }
 }

@@ -4,11 +4,13 @@ ghost use lib.ListN.{length};
 ghost use Rattle.setting.specs.Setting.{lists, station};
 ghost use Rattle.band.specs.Banding.{banded, written, bandedSpline, writtenSpline};
 ghost use Rattle.band_foretold.specs.Foretelling.{foretold, depthsWritten};
+ghost use Rattle.band_tightest.specs.Tightest.{tightest};
 ghost use Rattle.judge_points.specs.Points.{pointsJudged, judgedInto};
 ghost use Rattle.quote_price.specs.Quote.{quoted};
 ghost use Rattle.draw.specs.Drawing.{drawn, drawnInto};
 ghost use Rattle.contour.specs.Numbers.{bandAnswerOf};
 ghost use Rattle.contour.specs.Foretellings.{foretoldAnswerOf};
+ghost use Rattle.contour.specs.Tightest.{tightestAnswerOf};
 ghost use Rattle.contour.specs.Points.{pointsAnswerOf};
 ghost use Rattle.contour.specs.Quotes.{quoteAnswerOf};
 ghost use Rattle.contour.specs.Drawings.{drawingOf};
@@ -20,12 +22,14 @@ use crate::c_answers::ForetoldAnswer;
 use crate::c_answers::JudgingAnswer;
 use crate::c_answers::PointsAnswer;
 use crate::c_answers::QuoteAnswer;
+use crate::c_answers::TightestAnswer;
 use crate::c_answers::drawing_in_numbers;
 use crate::c_answers::foretold_in_numbers;
 use crate::c_answers::in_numbers;
 use crate::c_answers::judgement_in_numbers;
 use crate::c_answers::points_in_numbers;
 use crate::c_answers::quote_in_numbers;
+use crate::c_answers::tightest_in_numbers;
 use boxes::Box;
 use engine::Outcome;
 use engine::band_and_judge;
@@ -100,6 +104,15 @@ pub extern "C" fn contour_foretell(
 {
     let foretold = band_foretell::foretell(outline, tolerance, m, depths);
     foretold_in_numbers(foretold)
+}
+
+// The least tolerance, in sixteenths, at which an outline has a band of at most so many leaves, with m pieces a leaf.
+#[no_mangle]
+pub extern "C" fn contour_tightest(outline: &[i32], m: u32, leaves: usize) -> TightestAnswer
+    ensures { λ r. ⌜ r ≡ tightestAnswerOf (tightest (lists m) (now (outline .entry)) leaves) ⌝ }
+{
+    let tightest = band_tighten::tightest_band(outline, m, leaves);
+    tightest_in_numbers(tightest)
 }
 
 // Judges the point (x, y), in sixteenths, against a list of leaf records of m pieces.

@@ -17,9 +17,12 @@ use Rattle.integers.proofs.Order.{lt-or-ge}
 use Rattle.curve_bernstein.proofs.Stretch.{half-part, part-difference, part-size}
 use Rattle.curve_nodes.specs.declared.Curve.{Curve}
 use Rattle.curve_halves.specs.Halves.{padded}
+use Rattle.curve_halves.specs.Sizes.{Each}
 use Rattle.curve_nodes.specs.Nodes.{depth, halfOf, nodeCurve}
+use Rattle.curve_nodes.specs.Bounds.{Sized}
 use Rattle.curve_nodes.specs.Differences.{difference, largestOf, bend, largest}
 use Rattle.curve_nodes.proofs.Nodes.{node-induction}
+use Rattle.curve_nodes.proofs.Sizes.{difference-under}
 use Rattle.curve_halves.proofs.Values.{padded-entry, half, half-entry}
 use Rattle.curve_nodes.proofs.Values.{curve-half}
 use Rattle.curve_nodes.proofs.Coordinates.{node-degree}
@@ -56,6 +59,14 @@ module _ (c : Curve) (k : ℕ) (h : k < c .degree - 1) where
   pub largest-y : natAbs (difference (c .y) k) ≤ largest c
   unfolding largest
   largest-y = le-trans (bend-at (c .degree) (c .y) k h) (le-max-right (bend (c .degree) (c .x)) (bend (c .degree) (c .y)))
+
+-- a curve of control values within 2^20
+pub largest-under : {c : Curve} → Sized 0 c → largest c ≤ 2 ^ 22
+unfolding largest
+largest-under {c} s = max-le (bend-least (c .degree) (c .x) (λ k h. under (s .x) k)) (bend-least (c .degree) (c .y) (λ k h. under (s .y) k))
+  where
+    under : {cs : List ℤ} → Each (2 ^ 20 * 2 ^ (c .degree * 0)) cs → (k : ℕ) → natAbs (difference cs k) ≤ 2 ^ 22
+    under each k = let d = difference-under each k in omega (arith, rw mul-zero at d)
 
 -- ---- the second differences of a half
 -- they are those of any list with the same entries at k, k + 1 and k + 2

@@ -6,4 +6,3 @@ pub mod Writing
 pub mod Faults
 pub mod Answers
 pub mod Theorems
-pub mod Mixtures

@@ -1,5 +1,5 @@
 -- The search for the first bad place, up to an end: one place at a time, in two parts, and what it says where it finds none.
-use mathlib.Core.Path.{_≡_, refl, subst}
+use mathlib.Core.Path.{_≡_, refl, _∙_, ap, subst}
 use mathlib.Core.Logic.{⊎-elim}
 use mathlib.Core.Bool.{Bool, true, false}
 use mathlib.Core.Option.{Option, none, some}
@@ -120,3 +120,24 @@ bad-first fine (suc n) i j e k l h = go (fine i) refl (firstBad fine n (i + 1)) 
         → _≡_ {A = Option ℕ} (elim t [ true ↦ o | false ↦ some i ]) (some j) → fine k ≡ true
     go true g o again f = ⊎-elim (λ m. subst (λ q. fine q ≡ true) m g) (λ m. again f (omega arith)) (eq-or-lt-of-le {n = i} {m = k} l)
     go false g o again f = let m : i ≡ j = cc in absurd (omega arith)
+
+-- ---- and it does not lie before them
+pub bad-from : (fine : ℕ → Bool) (n i j : ℕ) → firstBad fine n i ≡ some j → i ≤ j
+unfolding firstBad
+bad-from fine zero i j e = clash (cc)
+bad-from fine (suc n) i j e = go (fine i) (firstBad fine n (i + 1)) (bad-from fine n (i + 1) j) e
+  where
+    go : (t : Bool) (o : Option ℕ) → (o ≡ some j → i + 1 ≤ j) → _≡_ {A = Option ℕ} (elim t [ true ↦ o | false ↦ some i ]) (some j) → i ≤ j
+    go true o h f = let l = h f in omega arith
+    go false o h f = let l : i ≡ j = cc in omega arith
+
+-- ---- a bad place with none before it is the one that is found
+pub bad-at : (fine : ℕ → Bool) (n i j : ℕ) → i ≤ j → j < i + n → fine j ≡ false → ((k : ℕ) → i ≤ k → k < j → fine k ≡ true)
+    → firstBad fine n i ≡ some j
+bad-at fine n i j least most bad before =
+    let parts : n ≡ (j - i) + (i + n - j) = omega arith in
+    let at : i + (j - i) ≡ j = omega arith in
+    ap (λ (k : ℕ). firstBad fine k i) parts ∙ bad-parts fine (j - i) (i + n - j) i
+    ∙ ap (λ (o : Option ℕ). orElse o (firstBad fine (i + n - j) (i + (j - i))))
+    (bad-none fine (j - i) i (λ k h. before (i + k) (omega arith) (omega arith)))
+    ∙ ap (λ (k : ℕ). firstBad fine (i + n - j) k) at ∙ bad-here fine (i + n) j most bad

@@ -4,11 +4,13 @@ ghost use lib.ListN.{length};
 ghost use Rattle.setting.specs.Setting.{lists, station};
 ghost use Rattle.band.specs.Banding.{banded, written, bandedSpline, writtenSpline};
 ghost use Rattle.band_foretold.specs.Foretelling.{foretold, depthsWritten};
+ghost use Rattle.band_tightest.specs.Tightest.{tightest};
 ghost use Rattle.judge_points.specs.Points.{pointsJudged, judgedInto};
 ghost use Rattle.quote_price.specs.Quote.{quoted};
 ghost use Rattle.draw.specs.Drawing.{drawn, drawnInto};
 ghost use Rattle.contour.specs.Numbers.{bandAnswerOf};
 ghost use Rattle.contour.specs.Foretellings.{foretoldAnswerOf};
+ghost use Rattle.contour.specs.Tightest.{tightestAnswerOf};
 ghost use Rattle.contour.specs.Points.{pointsAnswerOf};
 ghost use Rattle.contour.specs.Quotes.{quoteAnswerOf};
 ghost use Rattle.contour.specs.Drawings.{drawingOf};
@@ -22,6 +24,7 @@ use contour::c_answers::ForetoldAnswer;
 use contour::c_answers::JudgingAnswer;
 use contour::c_answers::PointsAnswer;
 use contour::c_answers::QuoteAnswer;
+use contour::c_answers::TightestAnswer;
 
 pub fn contour_band(outline: &[i32], tolerance: i32, m: u32, records: &mut [i32]) -> Answer
     ensures { λ r. ⌜ r
@@ -62,6 +65,12 @@ pub fn contour_foretell(
         ≡ depthsWritten (lists m) tolerance (now (outline .entry)) (now (depths .entry)) ⌝ }
 {
     contour::contour_foretell(outline, tolerance, m, depths)
+}
+
+pub fn contour_tightest(outline: &[i32], m: u32, leaves: usize) -> TightestAnswer
+    ensures { λ r. ⌜ r ≡ tightestAnswerOf (tightest (lists m) (now (outline .entry)) leaves) ⌝ }
+{
+    contour::contour_tightest(outline, m, leaves)
 }
 
 pub fn contour_judge(leaves: &[i32], m: u32, x: i32, y: i32) -> JudgingAnswer

@@ -1,15 +1,17 @@
-// Callers of banding, foretelling, judging and drawing.
+// Callers of banding, foretelling, the question for the tightest band, judging and drawing.
 ghost use mathlib.Core.Path.{_≡_};
 ghost use lib.ListN.{length};
 ghost use Rattle.setting.specs.Setting.{lists, station};
 ghost use Rattle.band.specs.Banding.{banded, written, bandedSpline, writtenSpline};
 ghost use Rattle.band_foretold.specs.Foretelling.{foretold, depthsWritten};
+ghost use Rattle.band_tightest.specs.Tightest.{tightest};
 ghost use Rattle.judge.specs.Judging.{Judged};
 ghost use Rattle.judge_points.specs.Points.{pointsJudged, judgedInto};
 ghost use Rattle.quote_price.specs.Quote.{quoted};
 ghost use Rattle.draw.specs.Drawing.{drawn, drawnInto};
 use band::banding::Banded;
 use band_foretold::foretelling::Foretold;
+use band_tightest::tolerances::Tightest;
 use boxes::Box;
 use draw::drawing::Drawn;
 use judge::judging::Judgement;
@@ -46,6 +48,12 @@ pub fn foretell(outline: &[i32], tolerance: i32, m: u32, depths: &mut [i32]) -> 
         ≡ depthsWritten (lists m) tolerance (now (outline .entry)) (now (depths .entry)) ⌝ }
 {
     band_foretell::foretell(outline, tolerance, m, depths)
+}
+
+pub fn tightest_band(outline: &[i32], m: u32, leaves: usize) -> Tightest
+    ensures { λ r. ⌜ r ≡ tightest (lists m) (now (outline .entry)) leaves ⌝ }
+{
+    band_tighten::tightest_band(outline, m, leaves)
 }
 
 pub fn judge(leaves: &[i32], m: u32, x: i32, y: i32) -> Judgement

@@ -3,4 +3,5 @@ pub mod Depths
 pub mod Few
 pub mod Thirds
 pub mod Least
+pub mod Widest
 mod Examples

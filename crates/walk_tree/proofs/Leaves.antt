@@ -17,7 +17,7 @@ use Rattle.walk_tree.specs.Leaves.{Ancestor, Leaf}
 use Rattle.walk_tree.specs.Passing.{AllPass, First}
 use Rattle.walk_tree.proofs.Tree.{not-both, ends-leaf, ends-halved, ends-induction}
 
-above : (n j : ℕ) → n / 2 ^ suc j ≡ n / 2 ^ j / 2
+pub above : (n j : ℕ) → n / 2 ^ suc j ≡ n / 2 ^ j / 2
 above n j = ap (λ (x : ℕ). n / x) (pow-suc 2 j) ∙ sym (div-div-eq-div-mul n (2 ^ j) 2)
 
 -- n is reached from m by j halvings, of k at hand, all of nodes that do not pass; if n does not pass either, none is left
@@ -64,6 +64,10 @@ module _ (test : ℕ → Bool) where
       (λ i. (suc (l i .0), reached-half (omega arith) e (l i .1)))
       (λ i. (suc (r i .0), reached-half (omega arith) e (r i .1)))
       (List·Memᴰ·append-cases ls i))
+
+  -- an end is its node, or lies below it
+  pub end-below : (n k m : ℕ) → List·Memᴰ n (ends test k m) → (j : ℕ) × (n / 2 ^ j ≡ m)
+  end-below n k m i = let r = reached n k m i in (r .0, r .1 .from)
 
   -- and what is reached and passes is an end
   is-end : (n k m j : ℕ) → test n ≡ true → Reached test k m n j → List·Memᴰ n (ends test k m)

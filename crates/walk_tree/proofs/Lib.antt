@@ -7,3 +7,4 @@ pub mod Counting
 pub mod Failing
 pub mod Walking
 pub mod Rank
+pub mod Looser

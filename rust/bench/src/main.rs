@@ -10,12 +10,14 @@ mod growth;
 mod judging;
 mod quoting;
 mod samples;
+mod tightest;
 mod times;
 
 /// The tables, in order.
 const TABLES: [(&str, fn()); 7] = [
     ("banding", banding::run),
     ("foretelling", foretelling::run),
+    ("tightest", tightest::run),
     ("judging", judging::run),
     ("quoting", quoting::run),
     ("drawing", drawing::run),

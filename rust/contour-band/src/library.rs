@@ -26,6 +26,17 @@ pub struct Foretold {
     pub nodes: u64,
 }
 
+/// `struct contour_band_tightest`.
+#[repr(C)]
+#[derive(Debug, Clone, Copy, PartialEq, Eq)]
+pub struct Tightest {
+    /// 0 where nothing is refused.
+    pub refusal: u32,
+    pub spot: u64,
+    /// 0 where no tolerance fits.
+    pub tolerance: u32,
+}
+
 /// `struct contour_band_judgement`.
 #[repr(C)]
 #[derive(Debug, Clone, Copy, PartialEq, Eq)]
@@ -131,6 +142,8 @@ extern "C" {
         depths_length: usize,
     ) -> Foretold;
 
+    fn contour_tightest(outline: *const i32, outline_length: usize, m: u32, leaves: usize) -> Tightest;
+
     fn contour_judge(leaves: *const i32, leaves_length: usize, m: u32, x: i32, y: i32) -> Judgement;
 
     fn contour_judge_points(
@@ -197,6 +210,13 @@ pub fn foretell(outline: &[i32], tolerance: i32, m: u32, depths: &mut [i32]) -> 
     unsafe {
         contour_foretell(outline.as_ptr(), outline.len(), tolerance, m, depths.as_mut_ptr(), depths.len())
     }
+}
+
+/// The tightest band of an outline that has so many leaves at most.
+pub fn tightest(outline: &[i32], m: u32, leaves: usize) -> Tightest {
+    // Safety: the slice gives a valid, aligned part of memory, and the function is proved to stay
+    // inside it for all contents and lengths.
+    unsafe { contour_tightest(outline.as_ptr(), outline.len(), m, leaves) }
 }
 
 /// The judgement of a point against a list of leaf records.
@@ -343,6 +363,20 @@ mod tests {
         assert_eq!(depths, [1, 0, 7]);
         assert_eq!(foretell(&outline, 2, 3, &mut depths), told(0, 0, 0, 0));
         assert_eq!(depths, [-1, -1, 7]);
+    }
+
+    #[test]
+    fn a_refusal_and_an_outline_that_nothing_fits_have_no_tolerance() {
+        let answer = |refusal, spot, tolerance| Tightest { refusal, spot, tolerance };
+        // Curve A, and its chord.
+        let outline = [3, 0, 0, 10, 30, 20, 30, 30, 0, 1, 30, 0, 0, 0];
+        assert_eq!(tightest(&outline, 3, 2), answer(0, 0, 44));
+        assert_eq!(tightest(&outline, 3, 3), answer(0, 0, 12));
+        assert_eq!(tightest(&outline, 3, 1), answer(0, 0, 0));
+        assert_eq!(tightest(&outline, 3, usize::MAX).refusal, 0);
+        assert_eq!(tightest(&outline[..13], 3, 2), answer(3, 13, 0));
+        assert_eq!(tightest(&[], 3, 2), answer(6, 0, 0));
+        assert_eq!(tightest(&[], 9, 2), answer(18, 0, 0));
     }
 
     #[test]

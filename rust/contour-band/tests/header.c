@@ -1,5 +1,5 @@
-/* A C caller of the header: bands curve A and B-splines, foretells leaves, judges points, one by one and as a list, quotes
- * leaves, draws two boxes, and prints the answers, to be compared by header.rs. */
+/* A C caller of the header: bands curve A and B-splines, foretells leaves, finds tightest bands, judges points, one by one and
+ * as a list, quotes leaves, draws two boxes, and prints the answers, to be compared by header.rs. */
 #include "contour_band.h"
 
 #include <stdio.h>
@@ -115,6 +115,13 @@ static void foretell(int32_t tolerance, size_t length) {
     printf(" %d %d %d\n", (int)depths[0], (int)depths[1], (int)depths[2]);
 }
 
+/* Curve A and its chord, or so many numbers of them. */
+static void tightest(size_t length, uint32_t m, size_t leaves) {
+    const int32_t bow[14] = {3, 0, 0, 10, 30, 20, 30, 30, 0, 1, 30, 0, 0, 0};
+    struct contour_band_tightest found = contour_tightest(bow, length, m, leaves);
+    printf("%u %llu %u\n", (unsigned)found.refusal, (unsigned long long)found.spot, (unsigned)found.tolerance);
+}
+
 /* Quotes so many numbers of a list, as records of m pieces. */
 static void quote(const int32_t *leaves, size_t leaves_length, uint32_t m) {
     struct contour_band_quote quote = contour_quote(leaves, leaves_length, m);
@@ -206,6 +213,15 @@ int main(void) {
     foretell(CONTOUR_BAND_TOLERANCE_MAX, 3);
     foretell(CONTOUR_BAND_TOLERANCE_MAX + 1, 3);
 
+    tightest(14, M, 0);
+    tightest(14, M, 1);
+    tightest(14, M, 2);
+    tightest(14, M, 3);
+    tightest(14, M, CONTOUR_BAND_STATION_LEAVES_MAX);
+    tightest(14, M, SIZE_MAX);
+    tightest(13, M, 2);
+    tightest(0, M, 2);
+    tightest(0, CONTOUR_BAND_PIECES_MAX + 1, 2);
     quotes();
 
     const struct contour_band_box near = {0, 1, 0, 1}, far = {3, 4, 3, 4};

@@ -90,6 +90,15 @@ const EXPECTED: &str = "\
 0 0 0 0 -1 -1 7
 0 0 2 2 0 0 7
 1 0 0 0 7 7 7
+0 0 0
+0 0 0
+0 0 44
+0 0 12
+0 0 2
+0 0 2
+3 13 0
+6 0 0
+18 0 0
 0 0 158
 0 0 315
 0 0 394
@@ -114,13 +123,13 @@ fn a_c_program_gets_the_same_answers() {
     assert_eq!(printed(&c::root().join("rust/contour-band/tests/header.c"), "header"), EXPECTED);
 }
 
-/// What the header says of the stack of a call: of the station's, for curves of each degree, and of a B-spline's, refused
-/// or banded, with the most leaves or few; of judging a list of points; and of a quote.
+/// What the header says of the stack of a call: of the station's, for curves of each degree, of a B-spline's, refused or
+/// banded, with the most leaves or few, and of the tightest band's; of judging a list of points; and of a quote.
 #[test]
 fn calls_take_little_stack() {
     let printed = printed(&c::root().join("rust/contour-band/tests/stack.c"), "stack");
     let mut most = [0; 5];
-    let (mut splines, mut points, mut quotes) = (0, 0, 0);
+    let (mut splines, mut tightest, mut points, mut quotes) = (0, 0, 0, 0);
     for line in printed.lines() {
         let (call, numbers) = line.split_once(' ').expect("a word and numbers are printed");
         let numbers: Vec<i32> = numbers.split(' ').map(|n| n.parse().expect("a number is printed")).collect();
@@ -135,6 +144,10 @@ fn calls_take_little_stack() {
                 assert!(bytes <= 6_144, "{bytes} bytes of stack");
                 splines = bytes.max(splines);
             }
+            ("tightest", &[bytes]) => {
+                assert!(bytes <= 6_144, "{bytes} bytes of stack");
+                tightest = bytes.max(tightest);
+            }
             ("points", &[bytes]) => {
                 assert!(bytes <= 34_816, "{bytes} bytes of stack");
                 points = bytes.max(points);
@@ -147,12 +160,13 @@ fn calls_take_little_stack() {
         }
     }
     println!(
-        "the most bytes of stack: the station's by degree {most:?}, a B-spline's {splines}, judging points {points}, a quote {quotes}"
+        "the most bytes of stack: the station's by degree {most:?}, a B-spline's {splines}, the tightest band's \
+        {tightest}, judging points {points}, a quote {quotes}"
     );
     // Some outline of each degree is walked: a refusal before the walk takes less than 300 bytes.
     assert!(
-        most.iter().chain([&splines, &points, &quotes]).all(|bytes| *bytes > 1_024),
-        "{most:?} {splines} {points} {quotes}"
+        most.iter().chain([&splines, &tightest, &points, &quotes]).all(|bytes| *bytes > 1_024),
+        "{most:?} {splines} {tightest} {points} {quotes}"
     );
 }
 

@@ -1,6 +1,6 @@
-/* How much stack contour_station_band, contour_spline_band, contour_judge_points and contour_quote take: each call runs on a stack
- * of its own, filled with one byte beforehand, and what it did not touch is counted from the far end. Prints the bytes that the header
- * promises, then a line for each call, the station's with its degree, to be compared by header.rs. */
+/* How much stack contour_station_band, contour_spline_band, contour_tightest, contour_judge_points and contour_quote take: each call
+ * runs on a stack of its own, filled with one byte beforehand, and what it did not touch is counted from the far end. Prints the bytes
+ * that the header promises, then a line for each call, the station's with its degree, to be compared by header.rs. */
 #define _XOPEN_SOURCE 700
 #include "contour_band.h"
 
@@ -32,6 +32,9 @@ static void nothing(void) {}
 static void station(void) { contour_station_band(outline, outline_length, tolerance, m, records, records_length); }
 
 static void spline(void) { contour_spline_band(outline, outline_length, tolerance, m, records, records_length); }
+
+/* With as many leaves as there are numbers to lend. */
+static void tightest(void) { contour_tightest(outline, outline_length, m, records_length); }
 
 static void judge_points(void) {
     contour_judge_points(leaves, leaves_length, m, points, points_length, answers, sizeof answers / sizeof *answers);
@@ -101,6 +104,9 @@ static void measure_station(void) {
                     tolerance = tolerances[i % 10 / 2];
                     records_length = i % 2 ? sizeof records / sizeof *records : 0;
                     printf("station %d %d\n", degree, touched(station) - touched(nothing));
+                    if (i % 10 < 2) {
+                        printf("tightest %d\n", touched(tightest) - touched(nothing));
+                    }
                 }
             }
         }
@@ -153,6 +159,7 @@ int main(void) {
     curves(1, 3, 800);
     touched(station);
     touched(spline);
+    touched(tightest);
     touched(judge_points);
     touched(quote);
     measure_station();

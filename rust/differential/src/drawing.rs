@@ -42,6 +42,11 @@ impl Comparison {
     ///
     /// Where an answer or a number differs, or a number that was not to be written has changed.
     pub fn draw(&mut self, first: Numbers, second: Numbers, length: usize) -> Answer {
+        self.draw_into(first, second, length).0
+    }
+
+    /// Draws as [`Comparison::draw`] does. Returns the answer and the lent list afterwards.
+    pub fn draw_into(&mut self, first: Numbers, second: Numbers, length: usize) -> (Answer, Vec<i32>) {
         let before: Vec<i32> = (0..length + 2 * MARGIN).map(|_| self.random.bits() as i32).collect();
         let (mut by_proved, mut by_plain) = (before.clone(), before.clone());
         let lent = MARGIN..MARGIN + length;
@@ -67,7 +72,7 @@ impl Comparison {
             Err((12, spot)) => self.refused[spot as usize] += 1,
             Err(_) => self.refused[8] += 1,
         }
-        plain
+        (plain, by_proved[MARGIN..MARGIN + length].to_vec())
     }
 
     /// Prints what was compared, also where the test runner keeps a test's output to itself.

@@ -95,10 +95,7 @@ fn band_curves<const B: usize, const U: i64>(
     tolerance: i32,
     records: &mut [i32],
 ) -> Result<Report, Refusal> {
-    let mut walk = Walk::<B, U> { tolerance: tolerance.into(), nodes: 0, leaves: Vec::new() };
-    for (number, curve) in curves.iter().enumerate() {
-        walk.visit(number, curve, 1, 0)?;
-    }
+    let walk = walked::<B, U>(curves, tolerance)?;
     let leaves = walk.leaves.len();
     if leaves > most {
         return Err(Refusal::TooManyLeaves { leaves });
@@ -109,6 +106,20 @@ fn band_curves<const B: usize, const U: i64>(
         leaf.write(record);
     }
     Ok(Report { curves: curves.len() as u64, leaves: leaves as u64, nodes: walk.nodes })
+}
+
+/// How many leaves curves have whose control values are stage units, with B break points to a leaf. Check 7.
+pub fn leaves<const B: usize>(curves: &[Curve], tolerance: i32) -> Result<usize, Refusal> {
+    walked::<B, 1>(curves, tolerance).map(|walk| walk.leaves.len())
+}
+
+/// The walk of curves. Check 7.
+fn walked<const B: usize, const U: i64>(curves: &[Curve], tolerance: i32) -> Result<Walk<B, U>, Refusal> {
+    let mut walk = Walk { tolerance: tolerance.into(), nodes: 0, leaves: Vec::new() };
+    for (number, curve) in curves.iter().enumerate() {
+        walk.visit(number, curve, 1, 0)?;
+    }
+    Ok(walk)
 }
 
 /// A walk so far.

@@ -2,11 +2,12 @@
 //! proved engine, and the two are compared with each other, number by number.
 //!
 //! [`band`] encloses an outline of Bézier curves in boxes, with m pieces to a leaf, and [`station_band`] a small
-//! one; [`spline_band`] encloses a B-spline. [`foretell`] says beforehand how many leaves there can be. [`judge`] says
-//! whether a point lies on what they cover, [`band_and_judge`] does both, and [`draw`] draws the hull of two boxes.
-//! [`text::answer`] is the text program. The modules follow the documents: the checks of an outline, of a
-//! degree and of m, the curves of a B-spline, halving, the rows and the enclosure, the walk; foretelling; the checks of
-//! a leaf list and a point, covers, judging; drawing; the lines of a text, its answer.
+//! one; [`spline_band`] encloses a B-spline. [`foretell`] says beforehand how many leaves there can be, and [`tightest`]
+//! at which tolerance there are first no more than so many. [`judge`] says whether a point lies on what they cover,
+//! [`band_and_judge`] does both, and [`draw`] draws the hull of two boxes. [`text::answer`] is the text program. The
+//! modules follow the documents: the checks of an outline, of a degree and of m, the curves of a B-spline, halving, the
+//! rows and the enclosure, the walk; foretelling; the tightest band; the checks of a leaf list and a point, covers,
+//! judging; drawing; the lines of a text, its answer.
 
 #![forbid(unsafe_code)]
 
@@ -33,6 +34,7 @@ mod refusal;
 mod rows;
 mod spline;
 pub mod text;
+mod tightest;
 
 pub use band::{band, spline_band, station_band, Report};
 pub use foretell::{foretell, Foretold};
@@ -41,3 +43,4 @@ pub use judge::{band_and_judge, judge, judge_points, Judgement};
 pub use pieces::record_length;
 pub use quote::quote;
 pub use refusal::Refusal;
+pub use tightest::{tightest, tightest_by_trial};

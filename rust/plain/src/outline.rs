@@ -6,7 +6,7 @@ use crate::refusal::Refusal;
 use std::ops::RangeInclusive;
 
 /// Tolerances that are taken, in sixteenths of a stage unit.
-const TOLERANCES: RangeInclusive<i32> = 2..=1_048_576;
+pub const TOLERANCES: RangeInclusive<i32> = 2..=1_048_576;
 
 /// Coordinates that are taken, in stage units.
 const COORDINATES: RangeInclusive<i32> = -1_048_576..=1_048_576;

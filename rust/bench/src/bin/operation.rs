@@ -4,13 +4,15 @@
 //! `operation ENGINE OPERATION INPUT TIMES`. ENGINE is plain, proved or sampled. OPERATION and INPUT are
 //! band with an outline, a number of curves or a depth where it has one, a tolerance and m, as in
 //! nominal:16:3, cubics-64:16:8 and arches-3:44:3, spline:16:3 a B-spline and splined:16:3 its curves as an
-//! outline; foretell with an outline, at any tolerance; judge with the place of
+//! outline; count with an outline, into an empty list; foretell with an outline, at any tolerance; tightest with an outline,
+//! a number of leaves and m, as in cubics-64:128:3; judge with the place of
 //! the points and m, as in near:3, and with a number of curves where each is to have 256 leaves, as in near-4096:3;
 //! points, which judges TIMES points in one call, with the same, and with -scattered behind the place or the number
 //! where the records are to stand in no order, as in near-4096-scattered:3; with the place none it makes TIMES calls
 //! without a point; quote with a number of records, at most 256 of a curve, and m, as in 1048576:3, and with -scattered
 //! behind the number; its engine may be check, the proved engine's check of the list alone; draw with the shape of the
-//! boxes. All but draw print the number of leaves, foretelling the most that it foretells.
+//! boxes. All but draw print the number of leaves, foretelling the most that it foretells, and tightest the tolerance
+//! that it finds, or the largest where there is none.
 
 use bench::points::{Leaves, Point, POINTS};
 use bench::sampled::{self, Packing, M};
@@ -25,7 +27,9 @@ fn main() -> ExitCode {
     let done = match arguments[..] {
         [engine, operation, input, times] => times.parse().ok().and_then(|times| match operation {
             "band" => band(engine, input, times),
+            "count" => count(engine, input, times),
             "foretell" => foretell(engine, input, times),
+            "tightest" => tightest(engine, input, times),
             "judge" => judge(engine, input, times),
             "points" => judge_points(engine, input, times),
             "quote" => quote(engine, input, times),
@@ -36,7 +40,7 @@ fn main() -> ExitCode {
     };
     if done.is_none() {
         eprintln!(
-            "usage: operation plain|proved|sampled|check band|foretell|judge|points|quote|draw INPUT TIMES"
+            "usage: operation plain|proved|sampled|check band|count|foretell|tightest|judge|points|quote|draw INPUT TIMES"
         );
         return ExitCode::FAILURE;
     }
@@ -52,7 +56,7 @@ fn with_pieces(input: &str) -> Option<(&str, u32)> {
 type PlainBand = fn(&[i32], i32, u32, &mut [i32]) -> Result<plain::Report, plain::Refusal>;
 type ProvedBand = fn(&[i32], i32, u32, &mut [i32]) -> Result<contour_band::Report, Refusal>;
 
-/// An outline, a tolerance and m.
+/// An outline, a tolerance or a number of leaves, and m.
 fn with_tolerance(input: &str) -> Option<(Vec<i32>, i32, u32)> {
     let (rest, m) = with_pieces(input)?;
     let (name, tolerance) = rest.split_once(':')?;
@@ -96,6 +100,41 @@ fn band(engine: &str, input: &str, times: usize) -> Option<()> {
         }
     }
     println!("{}", report.leaves);
+    Some(())
+}
+
+/// Counts the leaves, as banding into an empty list does.
+fn count(engine: &str, input: &str, times: usize) -> Option<()> {
+    let (outline, tolerance, m) = with_tolerance(input)?;
+    let Err(Refusal::TooFewRecords { leaves }) = contour_band::band(&outline, tolerance, m, &mut []) else {
+        return None;
+    };
+    for _ in 0..times {
+        let outline = black_box(&outline[..]);
+        match engine {
+            "plain" => black_box(plain::band(outline, tolerance, m, &mut []).is_err()),
+            "proved" => black_box(contour_band::band(outline, tolerance, m, &mut []).is_err()),
+            _ => return None,
+        };
+    }
+    println!("{leaves}");
+    Some(())
+}
+
+fn tightest(engine: &str, input: &str, times: usize) -> Option<()> {
+    let (outline, leaves, m) = with_tolerance(input)?;
+    let leaves = usize::try_from(leaves).ok()?;
+    let found = contour_band::tightest(&outline, m, leaves).ok()?;
+    for _ in 0..times {
+        let outline = black_box(&outline[..]);
+        let again = match engine {
+            "plain" => plain::tightest(outline, m, leaves).ok()?,
+            "proved" => contour_band::tightest(outline, m, leaves).ok()?,
+            _ => return None,
+        };
+        assert_eq!(again, found);
+    }
+    println!("{}", found.unwrap_or(1_048_576));
     Some(())
 }
 

@@ -9,6 +9,7 @@ mod largest;
 mod many;
 mod most_records;
 mod pieces;
+mod polygons;
 mod quotes;
 mod random;
 mod small;

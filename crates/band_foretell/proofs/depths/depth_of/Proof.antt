@@ -4,7 +4,7 @@ use borrow.Author.Needs.{needs}
 use Rattle.setting.proofs.Depths.{deepest-most}
 use Rattle.bound_rows.proofs.Rule.{gap-most}
 use Rattle.band_foretell.specs.Inside.{leastDepth, depthFound}
-use Rattle.band_foretell.proofs.BendingLaws.{largest-under}
+use Rattle.curve_nodes.proofs.Quarter.{largest-under}
 use Rattle.band_foretell.proofs.PremiseLaws.{depth-is}
 use Rattle.band_foretell.proofs.depths.depth_of.Statement.{statement}
 use Rattle.band_foretell.proofs.depths.depth_of.Tie as tie
