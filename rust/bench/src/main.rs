@@ -14,7 +14,7 @@ mod tightest;
 mod times;
 
 /// The tables, in order.
-const TABLES: [(&str, fn()); 7] = [
+const TABLES: [(&str, fn()); 8] = [
     ("banding", banding::run),
     ("foretelling", foretelling::run),
     ("tightest", tightest::run),
