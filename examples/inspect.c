@@ -1,17 +1,25 @@
 /* Reads an outline and measured points from two text files, bands the outline, judges every point and prints the leaves, the
- * judgements and a summary. inspect.rs is the same program in Rust. Build and run it at the root of the repository by
+ * judgements and a summary, as the command `contour inspect OUTLINE POINTS` does. Build and run it at the root of the
+ * repository by
  *
  *     rt staticlib contour
  *     cc -std=c99 -Iinclude examples/inspect.c target/staticlib/libcontour.a -o target/inspect
  *     target/inspect examples/outline.txt examples/points.txt
  *
- * The outline file has a line (tolerance 44), then for each curve a line with its 2 to 4 control points in stage units, as in
- * (curve (0 0) (10 30) (20 30) (30 0)). The points file has a line (point (240 363)) for each point. Tolerance and points are
- * in sixteenths of a stage unit. These are the forms of document 01's text program, read less strictly: leading zeros pass, and
- * a last line without end. */
+ * The outline file has a line (tolerance 44), then a line for each curve with its 2 to 6 control points in stage units, as in
+ * (curve (0 0) (10 30) (20 30) (30 0)), or one line (spline (0 0) (10 30) (20 30) (30 0)) with the points of a uniform cubic
+ * B-spline. The points file has a line (point (240 363)) for each point. Tolerance and points are in sixteenths of a stage
+ * unit. Spaces are single; numbers are decimal, of 32 bits, with no leading zero and no plus. A line ends in a line feed, or in
+ * a carriage return and a line feed; the last needs no end.
+ *
+ * Both files are read before anything is printed. The exit status is 0 where every point is on, 1 where one is off, and 2 where
+ * something is refused or fails. */
 #include "contour_band.h"
 
 #include <errno.h>
+#include <inttypes.h>
+#include <signal.h>
+#include <stdarg.h>
 #include <stdio.h>
 #include <stdlib.h>
 #include <string.h>
@@ -19,194 +27,312 @@
 /* How many straight pieces a leaf has, 1 to 8. */
 #define M 3
 
-/* A curve takes at most 9 numbers. There is room for one curve more than the engine takes, so that it can refuse it. */
-static int32_t outline[9 * (CONTOUR_BAND_CURVES_MAX + 1)];
-static size_t outline_length, curves;
+/* The most bytes that a file may have. */
+#define MOST_BYTES ((size_t)1 << 28)
 
-/* Prints what is wrong with a line of a file, and ends. */
-static void stop(const char *file, int line, const char *what) {
-    fprintf(stderr, "%s, line %d: %s\n", file, line, what);
-    exit(EXIT_FAILURE);
+/* A list of numbers that grows. */
+struct list {
+    int32_t *numbers;
+    size_t length, room;
+};
+
+/* A part of a text, which may have any bytes. */
+struct text {
+    const char *at, *end;
+};
+
+/* All bytes of a file. */
+struct bytes {
+    char *first;
+    size_t length, room;
+};
+
+/* What an outline file has. */
+struct drawing {
+    int32_t tolerance;
+    int spline;          /* whether the numbers are a spline's points, and not curves */
+    struct list numbers; /* as the engine takes them */
+};
+
+/* Says what is wrong, and ends. */
+static void fail(const char *format, ...) {
+    va_list arguments;
+    va_start(arguments, format);
+    vfprintf(stderr, format, arguments);
+    va_end(arguments);
+    fputc('\n', stderr);
+    exit(2);
 }
 
-static FILE *opened(const char *file) {
-    FILE *stream = fopen(file, "r");
-    if (stream == NULL) {
-        fprintf(stderr, "%s: %s\n", file, strerror(errno));
-        exit(EXIT_FAILURE);
-    }
-    return stream;
-}
-
-/* Where the text goes on after a prefix; NULL where it does not begin with it, or is NULL. */
-static const char *after(const char *text, const char *prefix) {
-    size_t length = strlen(prefix);
-    return text != NULL && strncmp(text, prefix, length) == 0 ? text + length : NULL;
-}
-
-/* Reads a 32-bit number. Where the text goes on after it; NULL where there is none, or the text is NULL. */
-static const char *number(const char *text, int32_t *value) {
-    char *end;
-    long long read;
-    if (text == NULL || strchr("-0123456789", *text) == NULL) {
-        return NULL;
-    }
-    errno = 0;
-    read = strtoll(text, &end, 10);
-    if (end == text || errno != 0 || read < INT32_MIN || read > INT32_MAX) {
-        return NULL;
-    }
-    *value = (int32_t)read;
-    return end;
-}
-
-/* Reads " (x y)". Where the text goes on after it; NULL where there is none. */
-static const char *point(const char *text, int32_t *x, int32_t *y) {
-    return after(number(after(number(after(text, " ("), x), " "), y), ")");
-}
-
-/* Whether the text is what may stand after a form: the end of the line, or of the file. */
-static int ends(const char *text) { return text != NULL && (strcmp(text, "\n") == 0 || *text == '\0'); }
-
-/* Adds the curve of a line to the outline. Whether the line is one. */
-static int add_curve(const char *line) {
-    int32_t points[8];
-    int count = 0;
-    const char *text = after(line, "(curve");
-    for (const char *next = text; count < 4 && (next = point(text, &points[2 * count], &points[2 * count + 1])) != NULL; count++) {
-        text = next;
-    }
-    if (count < 2 || !ends(after(text, ")"))) {
-        return 0;
-    }
-    outline[outline_length++] = count - 1;
-    memcpy(outline + outline_length, points, 2 * (size_t)count * sizeof *points);
-    outline_length += 2 * (size_t)count;
-    curves++;
-    return 1;
-}
-
-/* Room for the records of every leaf of the outline. No curve has more than 256. */
-static int32_t *room(size_t *length) {
-    *length = 256 * CONTOUR_BAND_RECORD(M) * (curves + 1);
-    int32_t *records = malloc(*length * sizeof *records);
-    if (records == NULL) {
-        fprintf(stderr, "there is no memory for the records\n");
-        exit(EXIT_FAILURE);
-    }
-    return records;
-}
-
-/* Reads the outline file to the outline. Its tolerance. */
-static int32_t read_outline(const char *file) {
-    char line[200];
-    int32_t tolerance = 0;
-    FILE *stream = opened(file);
-    if (fgets(line, sizeof line, stream) == NULL || !ends(after(number(after(line, "(tolerance "), &tolerance), ")"))) {
-        stop(file, 1, "(tolerance T) is expected");
-    }
-    for (int count = 2; fgets(line, sizeof line, stream) != NULL; count++) {
-        if (outline_length + 9 > sizeof outline / sizeof *outline) {
-            stop(file, count, "too many curves");
-        }
-        if (!add_curve(line)) {
-            stop(file, count, "(curve (x y) (x y) ..) of 2 to 4 points is expected");
-        }
-    }
-    fclose(stream);
-    return tolerance;
-}
-
-/* Prints a record: curve, node and M + 1 boxes. */
-static void print_leaf(const int32_t *record) {
-    printf("curve %d node %d", (int)record[0], (int)record[1]);
-    for (const int32_t *box = record + 2; box < record + CONTOUR_BAND_RECORD(M); box += 4) {
-        printf(" (%d %d %d %d)", (int)box[0], (int)box[1], (int)box[2], (int)box[3]);
-    }
-    printf("\n");
-}
-
-/* Room for so many things of a size, with what stands in the room there was. */
-static void *larger(void *old, size_t count, size_t size) {
-    void *room = realloc(old, count * size);
+/* Room for so many bytes, with what stands in the room there was. */
+static void *larger(void *old, size_t bytes) {
+    void *room = realloc(old, bytes);
     if (room == NULL) {
-        fprintf(stderr, "there is no memory for the points\n");
-        exit(EXIT_FAILURE);
+        fail("there is no memory for %zu bytes", bytes);
     }
     return room;
 }
 
-/* Reads the points file: x and y of each point, and how many points there are. */
-static int32_t *read_points(const char *file, size_t *count) {
-    char line[100];
-    size_t room = 1024;
-    int32_t *points = larger(NULL, 2 * room, sizeof *points);
-    FILE *stream = opened(file);
-    for (*count = 0; fgets(line, sizeof line, stream) != NULL; (*count)++) {
-        if (*count == room) {
-            room *= 2;
-            points = larger(points, 2 * room, sizeof *points);
-        }
-        if (!ends(after(point(after(line, "(point"), &points[2 * *count], &points[2 * *count + 1]), ")"))) {
-            stop(file, (int)*count + 1, "(point (x y)) is expected");
-        }
+static void push(struct list *list, int32_t number) {
+    if (list->length == list->room) {
+        list->room = 2 * list->room + 64;
+        list->numbers = larger(list->numbers, list->room * sizeof *list->numbers);
     }
-    fclose(stream);
-    return points;
+    list->numbers[list->length++] = number;
 }
 
-/* Judges every point of a file against the records, and prints the judgements and their counts. */
-static void judge_points(const char *file, const int32_t *records, size_t records_length) {
-    size_t count;
-    int on = 0, off = 0, refused = 0;
-    int32_t *points = read_points(file, &count);
-    const size_t length = CONTOUR_BAND_ANSWER * count;
-    int64_t *answers = larger(NULL, length + 1, sizeof *answers);
-    const struct contour_band_points judged =
-        contour_judge_points(records, records_length, M, points, 2 * count, answers, length);
-    if (judged.refusal != CONTOUR_BAND_ACCEPTED) {
-        fprintf(stderr, "%s: refused %u %llu\n", file, (unsigned)judged.refusal, (unsigned long long)judged.spot);
-        exit(EXIT_FAILURE);
+static struct bytes read_file(const char *file) {
+    struct bytes bytes = {NULL, 0, 0};
+    size_t got;
+    FILE *stream = fopen(file, "rb");
+    if (stream == NULL) {
+        fail("%s: %s", file, strerror(errno));
     }
-    for (size_t i = 0; i < count; i++) {
-        const int64_t *answer = answers + CONTOUR_BAND_ANSWER * i;
-        printf("(%d %d) ", (int)points[2 * i], (int)points[2 * i + 1]);
-        if (answer[0] == 1) {
+    do {
+        bytes.room = 2 * bytes.room + 65536;
+        bytes.first = larger(bytes.first, bytes.room);
+        got = fread(bytes.first + bytes.length, 1, bytes.room - bytes.length, stream);
+        bytes.length += got;
+    } while (got > 0 && bytes.length <= MOST_BYTES);
+    if (ferror(stream)) {
+        fail("%s: %s", file, strerror(errno));
+    }
+    if (bytes.length > MOST_BYTES) {
+        fail("%s: it has more than %zu bytes", file, MOST_BYTES);
+    }
+    fclose(stream);
+    return bytes;
+}
+
+/* Takes the next line off a text, without its end. Whether there is one. */
+static int next_line(struct text *text, struct text *line) {
+    if (text->at == text->end) {
+        return 0;
+    }
+    const char *feed = memchr(text->at, '\n', (size_t)(text->end - text->at));
+    *line = (struct text){text->at, feed == NULL ? text->end : feed};
+    text->at = feed == NULL ? text->end : feed + 1;
+    if (feed != NULL && line->end > line->at && line->end[-1] == '\r') {
+        line->end--;
+    }
+    return 1;
+}
+
+/* Takes a word off the front of a line. Whether it stood there. */
+static int word(struct text *line, const char *word) {
+    const size_t length = strlen(word);
+    if ((size_t)(line->end - line->at) < length || memcmp(line->at, word, length) != 0) {
+        return 0;
+    }
+    line->at += length;
+    return 1;
+}
+
+/* Takes a 32-bit number off the front of a line. Whether one stood there: with no plus, no leading zero, and not -0. */
+static int number(struct text *line, int32_t *value) {
+    const int negative = word(line, "-");
+    const char *digits = line->at;
+    const int64_t most = (int64_t)INT32_MAX + negative;
+    int64_t size = 0;
+    for (; line->at < line->end && *line->at >= '0' && *line->at <= '9'; line->at++) {
+        size = size > most ? size : 10 * size + (*line->at - '0');
+    }
+    if (line->at == digits || size > most || (*digits == '0' && (negative || line->at - digits > 1))) {
+        return 0;
+    }
+    *value = (int32_t)(negative ? -size : size);
+    return 1;
+}
+
+/* Takes " (x y)" off the front of a line. Whether it stood there. */
+static int point(struct text *line, int32_t *x, int32_t *y) {
+    return word(line, " (") && number(line, x) && word(line, " ") && number(line, y) && word(line, ")");
+}
+
+/* Whether what is left of a line is its last bracket. */
+static int closes(struct text line) { return line.end - line.at == 1 && *line.at == ')'; }
+
+/* Adds the points of a line "(form (x y) (x y) ..)" to a list. How many there are; 0 where the line is another. */
+static size_t points(struct text line, const char *form, struct list *list) {
+    const size_t length = list->length;
+    int32_t x, y;
+    if (!word(&line, "(") || !word(&line, form)) {
+        return 0;
+    }
+    while (!closes(line)) {
+        if (!point(&line, &x, &y)) {
+            list->length = length;
+            return 0;
+        }
+        push(list, x);
+        push(list, y);
+    }
+    return (list->length - length) / 2;
+}
+
+/* Adds the curve of a line to a list: its degree, then its points. Whether the line is a curve of 2 to 6 points. */
+static int curve(struct text line, struct list *list) {
+    const size_t degree = list->length;
+    push(list, 0);
+    const size_t count = points(line, "curve", list);
+    list->numbers[degree] = (int32_t)count - 1;
+    return 2 <= count && count <= 6;
+}
+
+static struct drawing read_outline(const char *file) {
+    struct drawing drawing = {0, 0, {NULL, 0, 0}};
+    const struct bytes bytes = read_file(file);
+    struct text text = {bytes.first, bytes.first + bytes.length}, line;
+    if (!next_line(&text, &line) || !word(&line, "(tolerance ") || !number(&line, &drawing.tolerance) || !closes(line)) {
+        fail("%s, line 1: (tolerance T) is expected", file);
+    }
+    for (size_t count = 2; next_line(&text, &line); count++) {
+        if (drawing.spline) {
+            fail("%s, line %zu: a spline stands alone", file, count);
+        }
+        drawing.spline = count == 2 && points(line, "spline", &drawing.numbers) > 0;
+        if (!drawing.spline && !curve(line, &drawing.numbers)) {
+            fail("%s, line %zu: (curve (x y) (x y) ..) of 2 to 6 points%s is expected", file, count,
+                 count == 2 ? " or (spline (x y) ..)" : "");
+        }
+    }
+    free(bytes.first);
+    return drawing;
+}
+
+static struct list read_points(const char *file) {
+    struct list list = {NULL, 0, 0};
+    const struct bytes bytes = read_file(file);
+    struct text text = {bytes.first, bytes.first + bytes.length}, line;
+    for (size_t count = 1; next_line(&text, &line); count++) {
+        if (points(line, "point", &list) != 1) {
+            fail("%s, line %zu: (point (x y)) is expected", file, count);
+        }
+    }
+    free(bytes.first);
+    return list;
+}
+
+/* Bands what is drawn, with so many numbers lent. */
+static struct contour_band_answer band(const struct drawing *drawing, int32_t *records, size_t length) {
+    const struct list *list = &drawing->numbers;
+    return drawing->spline ? contour_spline_band(list->numbers, list->length, drawing->tolerance, M, records, length)
+                           : contour_band(list->numbers, list->length, drawing->tolerance, M, records, length);
+}
+
+/* The line of the file that a refusal of banding is about. */
+static size_t line_of(const struct drawing *drawing, uint32_t refusal, uint64_t spot) {
+    size_t line = 1;
+    if (refusal == CONTOUR_BAND_TOLERANCE) {
+        return 1;
+    }
+    if (drawing->spline) {
+        return 2;
+    }
+    if (refusal == CONTOUR_BAND_TOO_WIDE) {
+        return 2 + (size_t)spot / 512;
+    }
+    for (size_t at = 0; at <= spot; at += 3 + 2 * (size_t)drawing->numbers.numbers[at]) {
+        line++;
+    }
+    return line;
+}
+
+/* Says why banding refuses a file, and ends. */
+static void refused(const char *file, const struct drawing *drawing, struct contour_band_answer answer) {
+    const char *text = contour_refusal_text(answer.refusal);
+    if (answer.refusal == CONTOUR_BAND_EMPTY_OUTLINE) {
+        fail("%s: refused %" PRIu32 " %" PRIu64 ": %s", file, answer.refusal, answer.spot, text);
+    }
+    fail("%s, line %zu: refused %" PRIu32 " %" PRIu64 ": %s", file, line_of(drawing, answer.refusal, answer.spot),
+         answer.refusal, answer.spot, text);
+}
+
+/* Bands an outline file: a list of no numbers asks how many leaves there are, and then there is room for just so many. */
+static int32_t *banded(const char *file, const struct drawing *drawing, struct contour_band_answer *answer) {
+    *answer = band(drawing, NULL, 0);
+    if (answer->refusal != CONTOUR_BAND_TOO_FEW_RECORDS) {
+        refused(file, drawing, *answer);
+    }
+    const size_t length = CONTOUR_BAND_RECORD(M) * (size_t)answer->spot;
+    int32_t *records = larger(NULL, length * sizeof *records);
+    *answer = band(drawing, records, length);
+    return records;
+}
+
+static void print_band(int32_t tolerance, struct contour_band_answer answer, const int32_t *records) {
+    printf("tolerance %" PRId32 ": curves %" PRIu64 ", leaves %" PRIu64 ", nodes %" PRIu64 "\n", tolerance, answer.curves,
+           answer.leaves, answer.nodes);
+    for (const int32_t *record = records; record < records + CONTOUR_BAND_RECORD(M) * answer.leaves;
+         record += CONTOUR_BAND_RECORD(M)) {
+        printf("curve %" PRId32 " node %" PRId32, record[0], record[1]);
+        for (const int32_t *box = record + 2; box < record + CONTOUR_BAND_RECORD(M); box += 4) {
+            printf(" (%" PRId32 " %" PRId32 " %" PRId32 " %" PRId32 ")", box[0], box[1], box[2], box[3]);
+        }
+        printf("\n");
+    }
+}
+
+/* Prints the judgements, three numbers each, and their counts. The exit status that they make. */
+static int print_points(const struct list *points, const int64_t *answers) {
+    size_t on = 0, off = 0, refused = 0;
+    for (const int32_t *xy = points->numbers; xy < points->numbers + points->length; xy += 2, answers += CONTOUR_BAND_ANSWER) {
+        printf("(%" PRId32 " %" PRId32 ") ", xy[0], xy[1]);
+        if (answers[0] == 1) {
             on++;
-            printf("on, record %lld cover %lld\n", (long long)answer[1], (long long)answer[2]);
-        } else if (answer[0] == 0) {
+            printf("on, record %" PRId64 " cover %" PRId64 "\n", answers[1], answers[2]);
+        } else if (answers[0] == 0) {
             off++;
             printf("off\n");
         } else {
             refused++;
-            printf("refused %lld %lld\n", (long long)answer[0], (long long)answer[1]);
+            printf("refused %" PRId64 " %" PRId64 ": %s\n", answers[0], answers[1], contour_refusal_text((uint32_t)answers[0]));
         }
     }
-    printf("points %d: on %d, off %d, refused %d\n", (int)count, on, off, refused);
-    free(points);
-    free(answers);
+    printf("points %zu: on %zu, off %zu, refused %zu\n", points->length / 2, on, off, refused);
+    return refused > 0 ? 2 : off > 0;
+}
+
+/* Ends the output. What standard output did not take is a failure; where nobody reads it any more, nobody is told. */
+static void finish(void) {
+    if (fflush(stdout) != 0 || ferror(stdout)) {
+        if (errno == EPIPE) {
+            exit(2);
+        }
+        fail("standard output: %s", strerror(errno));
+    }
+}
+
+/* Judges the points against the records written. Three numbers for each point. */
+static int64_t *judged(const struct list *points, const int32_t *records, uint64_t leaves) {
+    const size_t length = CONTOUR_BAND_ANSWER * (points->length / 2);
+    int64_t *answers = larger(NULL, length * sizeof *answers + 1);
+    const struct contour_band_points answer = contour_judge_points(records, CONTOUR_BAND_RECORD(M) * (size_t)leaves, M,
+                                                                   points->numbers, points->length, answers, length);
+    if (answer.refusal != CONTOUR_BAND_ACCEPTED) {
+        fail("the points are refused: %s", contour_refusal_text(answer.refusal));
+    }
+    return answers;
 }
 
 int main(int count, char **arguments) {
     if (count != 3) {
-        fprintf(stderr, "usage: inspect OUTLINE POINTS\n");
-        return EXIT_FAILURE;
+        fail("usage: inspect OUTLINE POINTS");
     }
-    const int32_t tolerance = read_outline(arguments[1]);
-    size_t length;
-    int32_t *records = room(&length);
-    const struct contour_band_answer answer = contour_band(outline, outline_length, tolerance, M, records, length);
-    if (answer.refusal != CONTOUR_BAND_ACCEPTED) {
-        fprintf(stderr, "%s: refused %u %llu\n", arguments[1], (unsigned)answer.refusal, (unsigned long long)answer.spot);
-        return EXIT_FAILURE;
-    }
-    printf("tolerance %d: curves %llu, leaves %llu, nodes %llu\n", (int)tolerance, (unsigned long long)answer.curves,
-           (unsigned long long)answer.leaves, (unsigned long long)answer.nodes);
-    for (uint64_t leaf = 0; leaf < answer.leaves; leaf++) {
-        print_leaf(records + CONTOUR_BAND_RECORD(M) * leaf);
-    }
-    /* Points are judged against the records written, not against the rest of the list. */
-    judge_points(arguments[2], records, CONTOUR_BAND_RECORD(M) * (size_t)answer.leaves);
+#ifdef SIGPIPE
+    signal(SIGPIPE, SIG_IGN);
+#endif
+    const struct drawing drawing = read_outline(arguments[1]);
+    const struct list points = read_points(arguments[2]);
+    struct contour_band_answer answer;
+    int32_t *records = banded(arguments[1], &drawing, &answer);
+    int64_t *answers = judged(&points, records, answer.leaves);
+    print_band(drawing.tolerance, answer, records);
+    const int status = print_points(&points, answers);
+    finish();
+    free(answers);
     free(records);
-    return EXIT_SUCCESS;
+    free(points.numbers);
+    free(drawing.numbers.numbers);
+    return status;
 }

@@ -1,13 +1,23 @@
 /* The C interface of the contour band engine: banding an outline or a B-spline, foretelling an outline's leaves, finding the
  * tightest band that fits, judging points, quoting leaves, drawing the hull of two boxes.
  *
- * The library is made at the root of the repository, and a program is linked with it, by
+ * An outline is Bezier curves of degree 1 to 5, each from where the one before it ends. Banding puts a narrow band of straight
+ * pieces round it: a leaf, which is a stretch of a curve, has m pieces, a box at each of their m + 1 ends, and on each piece a
+ * cover, which is the convex hull of its two boxes. A measured point is on the band where a cover holds it. Then every point of
+ * the curves is on, and a point that is on lies no farther from a curve than the tolerance.
+ *
+ * At the root of the repository the library is made, and a program is linked with it, by
  *
  *     rt staticlib contour
  *     cc -std=c99 -Iinclude program.c target/staticlib/libcontour.a -o program
  *
- * The library calls no other, the C library included. The program below is curve A of document 01. It prints "leaves 1, on,
- * vertices 4"; a test compiles and runs it. examples/inspect.c is one to start from: it reads an outline and points from files.
+ * or, where it is installed (bash install PREFIX), by
+ *
+ *     cc -std=c99 program.c $(pkg-config --cflags --libs contour_band) -o program
+ *
+ * The library calls no other, the C library included. The program below bands an arch of one cubic curve. It prints "leaves 1,
+ * on, vertices 4"; a test compiles and runs it. examples/inspect.c is one to start from: it reads an outline and points from
+ * files. Every name that this header declares begins with contour_ or CONTOUR_.
  *
  *     #include "contour_band.h"
  *     #include <stdio.h>
@@ -18,6 +28,7 @@
  *         int32_t records[256 * CONTOUR_BAND_RECORD(M)];
  *         struct contour_band_answer band = contour_band(outline, 9, 44, M, records, 256 * CONTOUR_BAND_RECORD(M));
  *         if (band.refusal != CONTOUR_BAND_ACCEPTED) {
+ *             fprintf(stderr, "%s\n", contour_refusal_text(band.refusal));
  *             return 1;
  *         }
  *         // Only the records written are judged against.
@@ -34,8 +45,9 @@
  * Ownership: every list is the caller's, before and after. A call reads and writes the lists it is lent and no other memory,
  * allocates nothing, and keeps no pointer and no state once it has returned. Every call returns.
  *
- * Pointers: each must be aligned for the numbers it points to and must not be NULL, also where a length is 0. Lists that one
- * call is lent must not overlap. Lengths count numbers, not bytes, and every length and all contents are taken.
+ * Pointers: each must be aligned for the numbers it points to. NULL is taken where the length is 0, and nowhere else. Lists
+ * that one call is lent must not overlap: a call with lists that do may end the program by a segmentation fault. Lengths
+ * count numbers, not bytes, and every length and all contents are taken.
  *
  * Threads: any number of calls may run at once as long as no list that one of them writes to (the records, the depths, the
  * answers, the vertices) is lent to another. Lists that are only read (the outline, a spline's points, the leaves, the
@@ -50,11 +62,16 @@
 extern "C" {
 #endif
 
+/* The version of this header, in words and as the number that contour_version answers: 10000 times its first, 100 times its
+ * second and its third part. */
+#define CONTOUR_BAND_VERSION "0.1.0"
+#define CONTOUR_BAND_VERSION_NUMBER 100
+
 /* How many numbers a leaf record of m pieces has: the curve, the node, and four of a box at each of m + 1 break points. */
 #define CONTOUR_BAND_RECORD(m) (6 + 4 * (m))
 
-/* The ranges of documents 01 and 02. A tolerance is in sixteenths of a stage unit, a coordinate in stage units, m a number of
- * pieces. A curve of degree 4 or 5 takes 3 to 8 pieces, any other 1 to 8. */
+/* The ranges. A tolerance is in sixteenths of a stage unit, a coordinate in stage units, m a number of pieces. A curve of
+ * degree 4 or 5 takes 3 to 8 pieces, any other 1 to 8. */
 #define CONTOUR_BAND_DEGREE_MIN 1
 #define CONTOUR_BAND_DEGREE_MAX 5
 #define CONTOUR_BAND_PIECES_MIN 1
@@ -101,7 +118,7 @@ extern "C" {
  * 25, 7 and 8; foretelling those of banding but for 7 and 19; the tightest band those of banding but for 1, 7, 8 and 19;
  * judging 18 and 9 to 11, a list of points 18, 9, 10, 101 and then 8, and 11 is the answer to a point; a quote 18, 9, 26 and
  * 10; banding and judging together those of banding and then 11, drawing 12 and 13. A refusal leaves every lent list as it
- * was. Numbers from 101 on stand in no document: they are the engine's own. */
+ * was. contour_refusal_text has each in words. */
 enum contour_band_refusal {
     CONTOUR_BAND_ACCEPTED = 0,         /* nothing is refused; 0 */
     CONTOUR_BAND_PIECES = 18,          /* m is not 1 to 8; 0 */
@@ -207,7 +224,7 @@ struct contour_band_foretold {
  *         2 * (16 * G * M + 20000 * 4^j)^2 <= (10000 * tolerance * 4^j)^2
  *
  *     where M is the largest second difference of the curve's control points, in x or in y, and G goes by its degree and m
- *     (docs/ROWS.md). No leaf of the curve is deeper.
+ *     (the repository's docs/ROWS.md has the table). No leaf of the curve is deeper.
  *
  * Accepted: the first numbers of the depths, one a curve, are written, and the numbers past them stay as they were. leaves is
  * the sum of 2^j and nodes that of 2^(j + 1) - 1; where a curve has no depth both are 0, and nothing is foretold: contour_band
@@ -349,6 +366,71 @@ struct contour_band_drawing {
  * Refused: every number of the list stays as it was. */
 struct contour_band_drawing contour_draw(struct contour_band_box first, struct contour_band_box second, int32_t *vertices,
                                          size_t vertices_length);
+
+/* The version of the library that is linked, to be compared with CONTOUR_BAND_VERSION_NUMBER. */
+uint32_t contour_version(void);
+
+/* A refusal in words: what is wrong, what would be right, and what the spot is. Also for 0, and for a number that no refusal
+ * has. It is a function of this header alone, so that the library has numbers only. */
+static inline const char *contour_refusal_text(uint32_t refusal) {
+    switch (refusal) {
+    case CONTOUR_BAND_ACCEPTED:
+        return "nothing is refused";
+    case CONTOUR_BAND_TOLERANCE:
+        return "the tolerance is not 2 to 1048576 sixteenths of a stage unit";
+    case CONTOUR_BAND_DEGREE:
+        return "a degree is not 1 to 5; the spot is its index in the outline";
+    case CONTOUR_BAND_CUT_SHORT:
+        return "the outline ends inside a curve; the spot is the outline's length";
+    case CONTOUR_BAND_COORDINATE:
+        return "a coordinate is not -1048576 to 1048576; the spot is its index in the outline";
+    case CONTOUR_BAND_TOO_MANY_CURVES:
+        return "the outline has more than 4096 curves, or 64 at the bench station; the spot is the index of the "
+               "degree of the first too many";
+    case CONTOUR_BAND_EMPTY_OUTLINE:
+        return "the outline has no curve";
+    case CONTOUR_BAND_TOO_WIDE:
+        return "a stretch of a curve is still wider than the tolerance after its last halving; the spot is 512 * "
+               "curve + node";
+    case CONTOUR_BAND_TOO_FEW_RECORDS:
+        return "the list lent is too short; the spot is how many leaves, points or curves it must have room for";
+    case CONTOUR_BAND_LEAVES_LENGTH:
+        return "the leaf list is empty or ends inside a record, which has 6 + 4 * m numbers; the spot is the list's "
+               "length";
+    case CONTOUR_BAND_LEAVES_NUMBER:
+        return "a number of the leaf list is bad: a curve is 0 to 4095, a node 1 to 511, a bound -536870912 to "
+               "536870912, no low above its high; the spot is its index";
+    case CONTOUR_BAND_POINT:
+        return "a coordinate of the point is not -536870912 to 536870912; the spot is 0 for x and 1 for y";
+    case CONTOUR_BAND_BOX_NUMBER:
+        return "a number of the boxes is not -536870912 to 536870912, or a low is above its high; the spot is its "
+               "place, 0 to 7";
+    case CONTOUR_BAND_TOO_FEW_VERTICES:
+        return "fewer than 16 numbers are lent for vertices; the spot is how many are";
+    case CONTOUR_BAND_GAP:
+        return "a curve does not begin where the curve before it ends; the spot is the index of its degree in the "
+               "outline";
+    case CONTOUR_BAND_PIECES:
+        return "m, the number of pieces of a leaf, is not 1 to 8";
+    case CONTOUR_BAND_TOO_MANY_LEAVES:
+        return "the outline has more than 128 leaves, which the bench station does not take; the spot is how many "
+               "it has";
+    case CONTOUR_BAND_TOO_FEW_PIECES:
+        return "a curve of degree 4 or 5 takes 3 to 8 pieces a leaf, and m is below 3; the spot is the index of its "
+               "degree in the outline";
+    case CONTOUR_BAND_SPLINE_LENGTH:
+        return "a B-spline has x and y of 4 to 4099 points, which is an even count of numbers from 8 to 8198; the "
+               "spot is the count given";
+    case CONTOUR_BAND_SPLINE_COORDINATE:
+        return "a coordinate of a B-spline's point is not -131072 to 131072; the spot is its index in the list";
+    case CONTOUR_BAND_TOO_MANY_RECORDS:
+        return "the leaf list of a quote has more than 1048576 records; the spot is the list's length";
+    case CONTOUR_BAND_ODD_POINTS:
+        return "the list of points has an odd count of numbers; the spot is the count";
+    default:
+        return "no refusal has this number";
+    }
+}
 
 #ifdef __cplusplus
 }

@@ -23,12 +23,18 @@ fn main() {
     println!("cargo:rustc-link-search=native={}", folder.display());
     println!("cargo:rustc-link-lib=static=contour");
     println!("cargo:rustc-env=CONTOUR_BAND_LINKED={}", folder.display());
+    // For the build scripts of crates that name this one.
+    println!("cargo:folder={}", folder.display());
 }
 
-/// The folder that the variable names, or target/staticlib at the root of the repository.
+/// The folder that the variable names, by a whole path or from where cargo is called, or target/staticlib at the root of
+/// the repository.
 fn folder() -> PathBuf {
     if let Some(named) = env::var_os(FOLDER) {
-        return PathBuf::from(named);
+        // Cargo runs this in the folder of the crate, and PWD still names the one that it was called in.
+        println!("cargo:rerun-if-env-changed=PWD");
+        let called_in = env::var_os("PWD").map(PathBuf::from).unwrap_or_default();
+        return called_in.join(named);
     }
     let manifest = env::var_os("CARGO_MANIFEST_DIR").expect("cargo sets CARGO_MANIFEST_DIR");
     let root = Path::new(&manifest).ancestors().nth(2).expect("the crate stands in rust/");

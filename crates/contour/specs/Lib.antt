@@ -1,5 +1,5 @@
 -- What a reader must believe of the C interface: the numbers of each answer (Numbers, Foretellings, Tightest, Points,
--- Quotes, Drawings), and of what outcome they are (Answers).
+-- Quotes, Drawings), of what outcome they are (Answers), and the version (Version).
 pub mod Numbers
 pub mod Foretellings
 pub mod Tightest
@@ -7,3 +7,4 @@ pub mod Points
 pub mod Quotes
 pub mod Drawings
 pub mod Answers
+pub mod Version

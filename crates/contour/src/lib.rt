@@ -16,6 +16,7 @@ ghost use Rattle.contour.specs.Quotes.{quoteAnswerOf};
 ghost use Rattle.contour.specs.Drawings.{drawingOf};
 ghost use Rattle.engine.specs.Outcomes.{writtenFor};
 ghost use Rattle.contour.specs.Answers.{outcomeAnswerOf, JudgedInNumbers, AnsweredInNumbers};
+ghost use Rattle.contour.specs.Version.{version};
 use crate::c_answers::Answer;
 use crate::c_answers::Drawing;
 use crate::c_answers::ForetoldAnswer;
@@ -228,4 +229,12 @@ pub extern "C" fn contour_draw(first: Box, second: Box, vertices: &mut [i32]) ->
 {
     let drawn = draw::draw(first, second, vertices);
     drawing_in_numbers(drawn)
+}
+
+// The version of this interface, as a number: 10000 × its first, 100 × its second and its third part.
+#[no_mangle]
+pub extern "C" fn contour_version() -> u32
+    ensures { λ r. ⌜ r ≡ version ⌝ }
+{
+    100
 }

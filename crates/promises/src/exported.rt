@@ -16,6 +16,7 @@ ghost use Rattle.contour.specs.Quotes.{quoteAnswerOf};
 ghost use Rattle.contour.specs.Drawings.{drawingOf};
 ghost use Rattle.engine.specs.Outcomes.{writtenFor};
 ghost use Rattle.contour.specs.Answers.{JudgedInNumbers, AnsweredInNumbers};
+ghost use Rattle.contour.specs.Version.{version};
 use boxes::Box;
 use contour::OutcomeAnswer;
 use contour::c_answers::Answer;
@@ -119,4 +120,10 @@ pub fn contour_draw(first: Box, second: Box, vertices: &mut [i32]) -> Drawing
     ensures { λ r. ⌜ now (vertices .exit) ≡ drawnInto first second (now (vertices .entry)) ⌝ }
 {
     contour::contour_draw(first, second, vertices)
+}
+
+pub fn contour_version() -> u32
+    ensures { λ r. ⌜ r ≡ version ⌝ }
+{
+    contour::contour_version()
 }

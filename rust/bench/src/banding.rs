@@ -40,16 +40,17 @@ fn row(name: &str, outline: &[i32], tolerance: i32, m: u32) {
     let (Ok(plain), Ok(proved)) = (plain, proved) else {
         panic!("{name}: the outline is refused");
     };
-    let report = (plain.curves, plain.leaves, plain.nodes);
-    let same = report == (proved.curves, proved.leaves, proved.nodes) && by_plain == by_proved;
-    let written = record_length(m) * report.1 as usize;
+    let report = [plain.curves, plain.leaves, plain.nodes];
+    let by_both = [proved.curves, proved.leaves, proved.nodes].map(|count| count as u64) == report;
+    let same = by_both && by_plain == by_proved;
+    let written = record_length(m) * proved.leaves;
     let untouched = by_proved[written..].iter().all(|&n| n == -1);
     println!(
         "{:<32} {:>6} {:>7} {:>7} {}  {}, rest {}",
         name,
-        report.0,
-        report.1,
-        report.2,
+        report[0],
+        report[1],
+        report[2],
         times,
         if same { "equal" } else { "DIFFERENT" },
         if untouched { "untouched" } else { "TOUCHED" },

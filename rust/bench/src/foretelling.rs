@@ -31,7 +31,7 @@ fn row(name: &str, outline: &[i32], tolerance: i32, m: u32) {
     let (Ok(plain), Ok(proved)) = (plain, proved) else {
         panic!("{name}: the outline is refused");
     };
-    let told = proved.map_or((0, 0), |foretold| (foretold.leaves, foretold.nodes));
+    let told = proved.map_or((0, 0), |foretold| (foretold.leaves as u64, foretold.nodes as u64));
     let same = (plain.leaves, plain.nodes) == told && by_plain == by_proved;
     println!("{name:<32} {:>7} {:>7} {times}  {}", told.0, told.1, if same { "equal" } else { "DIFFERENT" });
     assert!(same, "{name}: the engines differ");

@@ -42,7 +42,7 @@ pub fn leaves(m: u32) -> Leaves {
     let mut records = vec![0; record_length(m) * 256 * 64];
     let report =
         contour_band::band(&cubics(), tolerance(m), m, &mut records).expect("the outline is accepted");
-    assert!(report.leaves >= LEAVES as u64, "{} leaves with m {m}", report.leaves);
+    assert!(report.leaves >= LEAVES, "{} leaves with m {m}", report.leaves);
     records.truncate(record_length(m) * LEAVES);
     Leaves { records, m }
 }

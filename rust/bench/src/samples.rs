@@ -78,8 +78,8 @@ fn row(name: &str, outline: &[i32], tolerance: i32) {
 /// Bands an outline, and counts the leaves of each curve. Nothing where it is refused.
 fn banded(outline: &[i32], tolerance: i32, records: &mut [i32]) -> Option<Vec<usize>> {
     let report = contour_band::band(outline, tolerance, M, records).ok()?;
-    let mut leaves = vec![0; report.curves as usize];
-    for record in records.chunks_exact(RECORD).take(report.leaves as usize) {
+    let mut leaves = vec![0; report.curves];
+    for record in records.chunks_exact(RECORD).take(report.leaves) {
         leaves[record[0] as usize] += 1;
     }
     Some(leaves)

@@ -4,14 +4,30 @@ use crate::library;
 use crate::refusal::Refusal;
 
 /// What banding reports of an outline or a B-spline that it accepts.
+///
+/// ```
+/// use contour_band::{Band, Report};
+///
+/// // An arch, and a line back to where it begins.
+/// let outline = [3, 0, 0, 10, 30, 20, 30, 30, 0, 1, 30, 0, 0, 0];
+/// assert_eq!(Band::new(&outline, 43, 3)?.report(), Report { curves: 2, leaves: 3, nodes: 4 });
+/// # Ok::<(), contour_band::Refusal>(())
+/// ```
 #[derive(Debug, Clone, Copy, PartialEq, Eq, Hash)]
 pub struct Report {
     /// The curves, 1 to 4,096.
-    pub curves: u64,
+    pub curves: usize,
     /// The leaves, each written as one record.
-    pub leaves: u64,
+    pub leaves: usize,
     /// The nodes met, 2 × leaves − curves.
-    pub nodes: u64,
+    pub nodes: usize,
+}
+
+impl Report {
+    /// The report of these counts, as the library gives them.
+    pub(crate) fn new(curves: u64, leaves: u64, nodes: u64) -> Report {
+        Report { curves: curves as usize, leaves: leaves as usize, nodes: nodes as usize }
+    }
 }
 
 /// Puts a band round an outline.
@@ -55,18 +71,32 @@ pub struct Report {
 /// # Errors
 ///
 /// A [`Refusal`] where `m`, the tolerance or the outline breaks a bound, a stretch is too wide after
-/// the last halving, or `records` is too short. It is the first in the documents' order, and
-/// `records` is then unaltered. An empty list therefore asks how many leaves there are: the answer
+/// the last halving, or `records` is too short. The first that falls is
+/// answered, and `records` is then unaltered. An empty list therefore asks how many leaves there are: the answer
 /// is [`Refusal::TooFewRecords`] for any outline that is otherwise accepted.
 pub fn band(outline: &[i32], tolerance: i32, m: u32, records: &mut [i32]) -> Result<Report, Refusal> {
     report(library::band(outline, tolerance, m, records))
 }
 
 /// How many curves the bench station takes.
+///
+/// ```
+/// use contour_band::{station_band, STATION_CURVES};
+///
+/// let lines = [1, 0, 0, 0, 0].repeat(STATION_CURVES);
+/// let mut records = vec![0; 18 * STATION_CURVES];
+/// assert!(station_band(&lines, 100, 3, &mut records).is_ok());
+/// ```
 pub const STATION_CURVES: usize = 64;
 
 /// How many leaves the bench station takes. So a list of `STATION_LEAVES` × `record_length(m)` numbers is
 /// always long enough for [`station_band`].
+///
+/// ```
+/// use contour_band::{record_length, STATION_LEAVES};
+///
+/// assert_eq!(STATION_LEAVES * record_length(3), 2_304);
+/// ```
 pub const STATION_LEAVES: usize = 128;
 
 /// Puts a band round an outline for the bench station, which has little memory: it takes
@@ -146,5 +176,5 @@ fn report(answer: library::Answer) -> Result<Report, Refusal> {
     if answer.refusal != 0 {
         return Err(Refusal::new(answer.refusal, answer.spot));
     }
-    Ok(Report { curves: answer.curves, leaves: answer.leaves, nodes: answer.nodes })
+    Ok(Report::new(answer.curves, answer.leaves, answer.nodes))
 }

@@ -5,6 +5,10 @@ use crate::library;
 use crate::refusal::Refusal;
 
 /// How many numbers drawing asks for: x and y of eight vertices.
+///
+/// ```
+/// assert_eq!(contour_band::VERTEX_ROOM, 16);
+/// ```
 pub const VERTEX_ROOM: usize = 16;
 
 /// Draws the convex hull of two boxes, which is a cover where they are neighbours of a leaf.

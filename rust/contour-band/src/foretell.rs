@@ -4,13 +4,22 @@ use crate::library;
 use crate::refusal::Refusal;
 
 /// What is foretold of an outline all of whose curves have a depth.
+///
+/// ```
+/// use contour_band::{foretell, Foretold};
+///
+/// // A line is one leaf.
+/// let foretold = foretell(&[1, 0, 0, 0, 1], 3, 3, &mut [0])?;
+/// assert_eq!(foretold, Some(Foretold { leaves: 1, nodes: 1 }));
+/// # Ok::<(), contour_band::Refusal>(())
+/// ```
 #[derive(Debug, Clone, Copy, PartialEq, Eq, Hash)]
 pub struct Foretold {
     /// The most leaves that banding can count: 2^j for each curve of depth j. So a list of so many times
     /// [`record_length(m)`](crate::record_length) numbers is long enough.
-    pub leaves: u64,
+    pub leaves: usize,
     /// The most nodes that banding can count: 2^(j + 1) − 1 for each curve of depth j.
-    pub nodes: u64,
+    pub nodes: usize,
 }
 
 /// Foretells, without halving a curve, how many leaves and nodes [`band`](crate::band) can count for an outline, at a
@@ -19,7 +28,7 @@ pub struct Foretold {
 /// One number for each curve is written to the front of `depths`: the least depth j, up to the curve's greatest (8, or 4
 /// where its degree is 4 or 5), that meets the premise of the depth claim, 2 × (16 × G × M + 20000 × 4^j)² ≤ (10000 × T
 /// × 4^j)², or −1 where none does. No leaf of the curve is deeper. M is the curve's largest second difference, and
-/// `docs/ROWS.md` has G for its degree and `m`. The numbers past them stay as they were.
+/// G goes by its degree and `m` (the repository's `docs/ROWS.md` has the table). The numbers past them stay as they were.
 ///
 /// Where every curve has a depth, banding of the outline at this tolerance and `m` is refused neither with 7 nor, with
 /// room for the foretold leaves, with 8. Otherwise the answer is `None`, and nothing is foretold: banding may still
@@ -33,7 +42,7 @@ pub struct Foretold {
 /// let mut depths = [0; 1];
 /// let foretold = foretell(&outline, 43, m, &mut depths)?.expect("the curve has a depth");
 /// assert_eq!((depths, foretold), ([1], Foretold { leaves: 2, nodes: 3 }));
-/// let mut records = vec![0; foretold.leaves as usize * record_length(m)];
+/// let mut records = vec![0; foretold.leaves * record_length(m)];
 /// assert!(band(&outline, 43, m, &mut records)?.leaves <= foretold.leaves);
 ///
 /// // A line at a tolerance of 2 has no depth, although it is accepted.
@@ -61,5 +70,6 @@ pub fn foretell(
     if answer.refusal != 0 {
         return Err(Refusal::new(answer.refusal, answer.spot));
     }
-    Ok((answer.leaves > 0).then_some(Foretold { leaves: answer.leaves, nodes: answer.nodes }))
+    let foretold = Foretold { leaves: answer.leaves as usize, nodes: answer.nodes as usize };
+    Ok((answer.leaves > 0).then_some(foretold))
 }

@@ -6,9 +6,27 @@ use crate::refusal::Refusal;
 
 /// The largest number of a box and of a point, in sixteenths of a stage unit. Its negative is the
 /// least.
+///
+/// ```
+/// use contour_band::{Band, Refusal, FARTHEST};
+///
+/// let line = Band::new(&[1, 0, 0, 0, 1], 2, 3)?;
+/// assert!(!line.judge(FARTHEST, -FARTHEST)?.is_on());
+/// assert_eq!(line.judge(0, FARTHEST + 1), Err(Refusal::PointY));
+/// # Ok::<(), Refusal>(())
+/// ```
 pub const FARTHEST: i32 = 536_870_912;
 
 /// What judging says of a point.
+///
+/// ```
+/// use contour_band::{Band, Judgement};
+///
+/// let arch = Band::new(&[3, 0, 0, 10, 30, 20, 30, 30, 0], 44, 3)?;
+/// assert_eq!(arch.judge(240, 363)?, Judgement::On { leaf: 0, cover: 1 });
+/// assert_eq!(arch.judge(240, 364)?, Judgement::Off);
+/// # Ok::<(), contour_band::Refusal>(())
+/// ```
 #[derive(Debug, Clone, Copy, PartialEq, Eq, Hash)]
 pub enum Judgement {
     /// The point is on the band: a cover holds it, edges included.
@@ -24,6 +42,13 @@ pub enum Judgement {
 
 impl Judgement {
     /// Whether the point is on the band.
+    ///
+    /// ```
+    /// use contour_band::Judgement;
+    ///
+    /// assert!(Judgement::On { leaf: 0, cover: 1 }.is_on());
+    /// assert!(!Judgement::Off.is_on());
+    /// ```
     pub fn is_on(self) -> bool {
         matches!(self, Judgement::On { .. })
     }
@@ -55,7 +80,7 @@ impl Judgement {
 /// let m = 3;
 /// let mut records = vec![0; 10 * record_length(m)];
 /// let report = band(&[1, 0, 0, 0, 1], 2, m, &mut records)?;
-/// let leaves = &records[..record_length(m) * report.leaves as usize];
+/// let leaves = &records[..record_length(m) * report.leaves];
 ///
 /// assert_eq!(judge(leaves, m, 0, 3), Ok(Judgement::On { leaf: 0, cover: 0 }));
 /// assert_eq!(judge(leaves, m, 0, 17), Ok(Judgement::Off));
@@ -124,6 +149,15 @@ pub fn judge_points<'a>(
 }
 
 /// What banding an outline and judging a point come to, where nothing is refused.
+///
+/// ```
+/// use contour_band::{band_and_judge, Judgement, Outcome, Report};
+///
+/// let outcome = band_and_judge(&[1, 0, 0, 0, 1], 2, 3, &mut [0; 18], 0, 17)?;
+/// let report = Report { curves: 1, leaves: 1, nodes: 1 };
+/// assert_eq!(outcome, Outcome { report, judgement: Judgement::Off });
+/// # Ok::<(), contour_band::Refusal>(())
+/// ```
 #[derive(Debug, Clone, Copy, PartialEq, Eq, Hash)]
 pub struct Outcome {
     /// What banding reports.
@@ -167,6 +201,6 @@ pub fn band_and_judge(
     if outcome.refusal != 0 {
         return Err(Refusal::new(outcome.refusal, outcome.spot));
     }
-    let report = Report { curves: outcome.curves, leaves: outcome.leaves, nodes: outcome.nodes };
+    let report = Report::new(outcome.curves, outcome.leaves, outcome.nodes);
     Ok(Outcome { report, judgement: Judgement::new(outcome.on, outcome.leaf, outcome.cover) })
 }

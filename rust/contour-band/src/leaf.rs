@@ -15,6 +15,13 @@ pub const fn record_length(m: u32) -> usize {
 }
 
 /// A low and a high of one coordinate, in sixteenths of a stage unit.
+///
+/// ```
+/// use contour_band::Bounds;
+///
+/// let bounds = Bounds { low: 319, high: 363 };
+/// assert_eq!(bounds.high - bounds.low, 44);
+/// ```
 #[derive(Debug, Clone, Copy, PartialEq, Eq, Hash)]
 #[repr(C)]
 pub struct Bounds {
@@ -25,6 +32,14 @@ pub struct Bounds {
 }
 
 /// The bounds of both coordinates at a break point.
+///
+/// ```
+/// use contour_band::{Bounds, BoxBounds};
+///
+/// // x low, x high, y low and y high, as they stand in a record.
+/// let middle = BoxBounds::from([160, 160, 319, 363]);
+/// assert_eq!(middle, BoxBounds { x: Bounds { low: 160, high: 160 }, y: Bounds { low: 319, high: 363 } });
+/// ```
 #[derive(Debug, Clone, Copy, PartialEq, Eq, Hash)]
 #[repr(C)]
 pub struct BoxBounds {
@@ -51,6 +66,17 @@ impl BoxBounds {
 }
 
 /// A leaf: a stretch of a curve and the boxes that enclose it, which are those of a record.
+///
+/// ```
+/// use contour_band::Band;
+///
+/// let arch = Band::new(&[3, 0, 0, 10, 30, 20, 30, 30, 0], 43, 3)?;
+/// let second = arch.leaves().nth(1).expect("there are two leaves");
+/// // The second half of the curve, which begins at its middle.
+/// assert_eq!((second.curve, second.node, second.boxes.len()), (0, 3, 4));
+/// assert_eq!((second.boxes[0].x.low, second.boxes[0].x.high), (240, 240));
+/// # Ok::<(), contour_band::Refusal>(())
+/// ```
 #[derive(Debug, Clone, Copy, PartialEq, Eq, Hash)]
 pub struct Leaf<'a> {
     /// The number of the curve in its outline, from 0.
@@ -70,7 +96,7 @@ pub struct Leaf<'a> {
 /// let m = 4;
 /// let mut records = vec![0; 256 * record_length(m)];
 /// let report = band(&[2, 0, 0, 0, 18, 0, 0], 10, m, &mut records)?;
-/// records.truncate(record_length(m) * report.leaves as usize);
+/// records.truncate(record_length(m) * report.leaves);
 ///
 /// let leaf = leaves(&records, m).next().unwrap();
 /// assert_eq!((leaf.curve, leaf.node, leaf.boxes.len()), (0, 1, 5));

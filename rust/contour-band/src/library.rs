@@ -170,6 +170,14 @@ extern "C" {
     ) -> Outcome;
 
     fn contour_draw(first: Box, second: Box, vertices: *mut i32, vertices_length: usize) -> Drawing;
+
+    fn contour_version() -> u32;
+}
+
+/// The version of the archive.
+pub fn version() -> u32 {
+    // Safety: the function takes nothing and reads no memory.
+    unsafe { contour_version() }
 }
 
 /// The answer for an outline. Writes to `records` as the header says.

@@ -1,9 +1,22 @@
-//! Refusals as an enum, with the numbers and spots of documents 01 and 02.
+//! Refusals as an enum: a number and a spot each, and words.
 
 use std::error::Error;
 use std::fmt;
 
 /// Why an operation refused its input. Every list that the caller lent is then as it was.
+///
+/// Each has a number and a spot, by which the engine's other interfaces name it, and words.
+///
+/// ```
+/// use contour_band::{Band, Refusal};
+///
+/// // The second curve does not begin at (30 0), where the first one ends.
+/// let outline = [1, 0, 0, 30, 0, 1, 31, 0, 31, 40];
+/// let refusal = Band::new(&outline, 44, 3).unwrap_err();
+/// assert_eq!(refusal, Refusal::Gap { index: 5 });
+/// assert_eq!((refusal.number(), refusal.spot()), (17, 5));
+/// assert!(refusal.to_string().starts_with("refused 17 5: a curve does not begin where"));
+/// ```
 #[derive(Debug, Clone, Copy, PartialEq, Eq, Hash)]
 #[non_exhaustive]
 pub enum Refusal {
@@ -110,7 +123,11 @@ pub enum Refusal {
 }
 
 impl Refusal {
-    /// The refusal's number in documents 01 and 02; numbers from 101 on are the engine's own.
+    /// The refusal's number: the same for every outline, and the same from C.
+    ///
+    /// ```
+    /// assert_eq!(contour_band::Refusal::Tolerance.number(), 1);
+    /// ```
     pub fn number(self) -> u32 {
         match self {
             Refusal::Tolerance => 1,
@@ -137,7 +154,13 @@ impl Refusal {
         }
     }
 
-    /// The spot that the documents give beside the number.
+    /// The refusal's spot, which says where: an index, a length or a count, as [`text`](Refusal::text) tells; 0 where
+    /// there is nothing to tell.
+    ///
+    /// ```
+    /// assert_eq!(contour_band::Refusal::Coordinate { index: 4 }.spot(), 4);
+    /// assert_eq!(contour_band::Refusal::TooWide { curve: 2, node: 300 }.spot(), 1_324);
+    /// ```
     pub fn spot(self) -> u64 {
         match self {
             Refusal::Pieces | Refusal::Tolerance | Refusal::EmptyOutline | Refusal::PointX => 0,
@@ -196,49 +219,47 @@ impl Refusal {
     }
 }
 
-impl fmt::Display for Refusal {
-    fn fmt(&self, f: &mut fmt::Formatter<'_>) -> fmt::Result {
-        write!(f, "refused {} {}: ", self.number(), self.spot())?;
-        match self {
-            Refusal::Pieces => write!(f, "the number of pieces is not 1 to 8"),
-            Refusal::Tolerance => write!(f, "the tolerance is outside its range"),
-            Refusal::Degree { .. } => write!(f, "a degree is not 1 to 5"),
-            Refusal::TooFewPieces { .. } => write!(f, "a curve of degree 4 or 5 takes 3 to 8 pieces"),
-            Refusal::CutShort { .. } => write!(f, "the outline ends inside a curve"),
-            Refusal::Coordinate { .. } => write!(f, "a coordinate is outside its range"),
-            Refusal::TooManyCurves { .. } => write!(f, "the outline has more curves than are taken"),
-            Refusal::Gap { .. } => write!(f, "a curve does not begin where the one before it ends"),
-            Refusal::EmptyOutline => write!(f, "the outline is empty"),
-            Refusal::SplineLength { .. } => {
-                write!(f, "a B-spline has 4 to 4,099 points, x and y of each")
-            }
-            Refusal::SplineCoordinate { .. } => {
-                write!(f, "a coordinate of a B-spline is outside its range")
-            }
-            Refusal::TooWide { curve, node } => {
-                write!(f, "node {node} of curve {curve} is too wide after its last halving")
-            }
-            Refusal::TooFewRecords { leaves } => {
-                write!(f, "the list has no room for {leaves} leaves, points or depths")
-            }
-            Refusal::TooManyLeaves { leaves } => {
-                write!(f, "the outline has {leaves} leaves, more than are taken")
-            }
-            Refusal::LeafListLength { .. } => write!(f, "the leaf list is empty or ends inside a record"),
-            Refusal::TooManyRecords { .. } => write!(f, "the leaf list has more records than a quote takes"),
-            Refusal::LeafListNumber { .. } => {
-                write!(f, "a number of the leaf list is outside its range, or a low is above its high")
-            }
-            Refusal::OddPoints { .. } => write!(f, "the list of points has an odd count of numbers"),
-            Refusal::PointX => write!(f, "the point's x is outside its range"),
-            Refusal::PointY => write!(f, "the point's y is outside its range"),
-            Refusal::BoxNumber { place } => {
-                write!(f, "number {place} of the boxes is outside its range or above its high")
-            }
-            Refusal::TooFewVertices { length } => {
-                write!(f, "a list of {length} numbers has no room for eight vertices")
-            }
+impl Refusal {
+    /// What is wrong, what would be right, and what the spot is. The words are those of `contour_refusal_text` in C.
+    ///
+    /// ```
+    /// use contour_band::Refusal;
+    ///
+    /// let text = Refusal::Degree { index: 9 }.text();
+    /// assert_eq!(text, "a degree is not 1 to 5; the spot is its index in the outline");
+    /// ```
+    pub fn text(self) -> &'static str {
+        match self.number() {
+            1 => "the tolerance is not 2 to 1048576 sixteenths of a stage unit",
+            2 => "a degree is not 1 to 5; the spot is its index in the outline",
+            3 => "the outline ends inside a curve; the spot is the outline's length",
+            4 => "a coordinate is not -1048576 to 1048576; the spot is its index in the outline",
+            5 => "the outline has more than 4096 curves, or 64 at the bench station; the spot is the index of the degree of the first too many",
+            6 => "the outline has no curve",
+            7 => "a stretch of a curve is still wider than the tolerance after its last halving; the spot is 512 * curve + node",
+            8 => "the list lent is too short; the spot is how many leaves, points or curves it must have room for",
+            9 => "the leaf list is empty or ends inside a record, which has 6 + 4 * m numbers; the spot is the list's length",
+            10 => "a number of the leaf list is bad: a curve is 0 to 4095, a node 1 to 511, a bound -536870912 to 536870912, no low above its high; the spot is its index",
+            11 => "a coordinate of the point is not -536870912 to 536870912; the spot is 0 for x and 1 for y",
+            12 => "a number of the boxes is not -536870912 to 536870912, or a low is above its high; the spot is its place, 0 to 7",
+            13 => "fewer than 16 numbers are lent for vertices; the spot is how many are",
+            17 => "a curve does not begin where the curve before it ends; the spot is the index of its degree in the outline",
+            18 => "m, the number of pieces of a leaf, is not 1 to 8",
+            19 => "the outline has more than 128 leaves, which the bench station does not take; the spot is how many it has",
+            20 => "a curve of degree 4 or 5 takes 3 to 8 pieces a leaf, and m is below 3; the spot is the index of its degree in the outline",
+            24 => "a B-spline has x and y of 4 to 4099 points, which is an even count of numbers from 8 to 8198; the spot is the count given",
+            25 => "a coordinate of a B-spline's point is not -131072 to 131072; the spot is its index in the list",
+            26 => "the leaf list of a quote has more than 1048576 records; the spot is the list's length",
+            101 => "the list of points has an odd count of numbers; the spot is the count",
+            number => unreachable!("no refusal has the number {number}"),
         }
+    }
+}
+
+impl fmt::Display for Refusal {
+    /// `refused`, the number, the spot, and the words.
+    fn fmt(&self, f: &mut fmt::Formatter<'_>) -> fmt::Result {
+        write!(f, "refused {} {}: {}", self.number(), self.spot(), self.text())
     }
 }
 
@@ -279,8 +300,8 @@ mod tests {
     }
 
     #[test]
-    fn a_message_begins_with_number_and_spot() {
-        let message = Refusal::TooWide { curve: 2, node: 300 }.to_string();
-        assert_eq!(message, "refused 7 1324: node 300 of curve 2 is too wide after its last halving");
+    fn a_message_has_number_spot_and_words() {
+        let message = Refusal::TooManyLeaves { leaves: 132 }.to_string();
+        assert!(message.starts_with("refused 19 132: the outline has more than 128 leaves"), "{message}");
     }
 }

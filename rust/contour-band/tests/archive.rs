@@ -38,7 +38,7 @@ fn inspected(thread: i32) -> (Vec<i32>, usize) {
     let m = 2 + thread as u32;
     let mut records = vec![0; 64 * 256 * record_length(m)];
     let report = band(&outline, 10 + thread, m, &mut records).expect("the outline is accepted");
-    records.truncate(record_length(m) * report.leaves as usize);
+    records.truncate(record_length(m) * report.leaves);
     let is_on = |&i: &i32| matches!(judge(&records, m, 100 * i, 9 * i), Ok(Judgement::On { .. }));
     let on = (0..500).filter(is_on).count();
     (records, on)

@@ -17,7 +17,7 @@ const RECORD: usize = record_length(M);
 fn written_in(m: u32, outline: &[i32], tolerance: i32) -> (Report, Vec<i32>) {
     let mut records = vec![-5; 4 * record_length(m)];
     let report = band(outline, tolerance, m, &mut records).expect("the outline is accepted");
-    let rest = records.split_off(record_length(m) * report.leaves as usize);
+    let rest = records.split_off(record_length(m) * report.leaves);
     assert!(rest.iter().all(|&n| n == -5));
     (report, records)
 }

@@ -198,7 +198,9 @@ fn by_proved(caller: Caller, outline: &[i32], tolerance: i32, m: u32, records: &
         Caller::Splines => contour_band::spline_band,
     };
     match band(outline, tolerance, m, records) {
-        Ok(contour_band::Report { curves, leaves, nodes }) => Accepted { curves, leaves, nodes },
+        Ok(contour_band::Report { curves, leaves, nodes }) => {
+            Accepted { curves: curves as u64, leaves: leaves as u64, nodes: nodes as u64 }
+        }
         Err(refusal) => Refused(refusal.number(), refusal.spot()),
     }
 }

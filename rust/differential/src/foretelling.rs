@@ -138,8 +138,11 @@ impl Comparison {
                 let mut records = vec![0; record_length(m) * leaves as usize];
                 let report = contour_band::band(outline, tolerance, m, &mut records);
                 let report = report.expect("what is foretold is accepted");
-                assert!(report.leaves <= leaves && report.nodes <= nodes, "{outline:?} {tolerance} {m}");
-                records.truncate(record_length(m) * report.leaves as usize);
+                assert!(
+                    report.leaves as u64 <= leaves && report.nodes as u64 <= nodes,
+                    "{outline:?} {tolerance} {m}"
+                );
+                records.truncate(record_length(m) * report.leaves);
                 for record in records.chunks_exact(record_length(m)) {
                     let depth = record[1].ilog2() as i32;
                     assert!(depth <= self.depths()[record[0] as usize], "{outline:?} {tolerance} {m}");
@@ -180,7 +183,9 @@ impl Comparison {
 
 fn by_proved(outline: &[i32], tolerance: i32, m: u32, depths: &mut [i32]) -> Answer {
     match contour_band::foretell(outline, tolerance, m, depths) {
-        Ok(Some(contour_band::Foretold { leaves, nodes })) => Told { leaves, nodes },
+        Ok(Some(contour_band::Foretold { leaves, nodes })) => {
+            Told { leaves: leaves as u64, nodes: nodes as u64 }
+        }
         Ok(None) => Told { leaves: 0, nodes: 0 },
         Err(refusal) => Refused(refusal.number(), refusal.spot()),
     }

@@ -81,7 +81,7 @@ impl<'a> Band<'a> {
     pub fn new(outline: &'a [i32], tolerance: i32, m: u32) -> Result<Band<'a>, u32> {
         let mut records = vec![0; record_length(8) * 64 * 256];
         let report = contour_band::band(outline, tolerance, m, &mut records).map_err(|r| r.number())?;
-        records.truncate(record_length(m) * report.leaves as usize);
+        records.truncate(record_length(m) * report.leaves);
         Ok(Band { outline, tolerance, m, records })
     }
 }

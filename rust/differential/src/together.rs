@@ -110,12 +110,14 @@ impl Comparison {
     }
 }
 
+fn counts(report: contour_band::Report) -> [u64; 3] {
+    [report.curves, report.leaves, report.nodes].map(|count| count as u64)
+}
+
 /// The proved engine in one call.
 fn together(outline: &[i32], tolerance: i32, m: u32, records: &mut [i32], x: i32, y: i32) -> Outcome {
     match contour_band::band_and_judge(outline, tolerance, m, records, x, y) {
-        Ok(contour_band::Outcome { report, judgement }) => {
-            Banded([report.curves, report.leaves, report.nodes], Ok(judgement).into())
-        }
+        Ok(contour_band::Outcome { report, judgement }) => Banded(counts(report), Ok(judgement).into()),
         Err(refusal) => Refused(refusal.number(), refusal.spot()),
     }
 }
@@ -127,11 +129,11 @@ fn apart(outline: &[i32], tolerance: i32, m: u32, records: &mut [i32], x: i32, y
         Ok(report) => report,
         Err(refusal) => return Refused(refusal.number(), refusal.spot()),
     };
-    match contour_band::judge(&changed[..record_length(m) * report.leaves as usize], m, x, y).into() {
+    match contour_band::judge(&changed[..record_length(m) * report.leaves], m, x, y).into() {
         Answer::Refused(number, spot) => Refused(number, spot),
         answer => {
             records.copy_from_slice(&changed);
-            Banded([report.curves, report.leaves, report.nodes], answer)
+            Banded(counts(report), answer)
         }
     }
 }

@@ -86,7 +86,7 @@ fn band(engine: &str, input: &str, times: usize) -> Option<()> {
     };
     let mut records = vec![0; leaves * record_length(m)];
     let report = proved_band(&outline, tolerance, m, &mut records).ok()?;
-    let mut leaves = vec![0; report.curves as usize];
+    let mut leaves = vec![0; report.curves];
     for record in records.chunks_exact(record_length(m)) {
         leaves[record[0] as usize] += 1;
     }

@@ -173,7 +173,7 @@ fn bands() {
         let length = record_length(m);
         let mut leaves = vec![0; 256 * curves * length];
         let report = contour_band::band(&outline, 3, m, &mut leaves).expect("it is accepted");
-        leaves.truncate(length * report.leaves as usize);
+        leaves.truncate(length * report.leaves);
         let mut numbers = Vec::new();
         for _ in 0..100 {
             let start = length * random.below(leaves.len() / length) + 2 + 4 * random.below(m as usize + 1);

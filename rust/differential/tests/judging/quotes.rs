@@ -148,9 +148,9 @@ fn of_bands() {
         let ends = starts[1..].iter().copied().chain([outline.len()]);
         let counts = starts.iter().zip(ends).map(|(&start, end)| {
             let report = contour_band::band(&outline[start..end], tolerance, m, &mut alone);
-            report.expect("each curve is accepted").leaves
+            report.expect("each curve is accepted").leaves as u64
         });
-        let written = &records[..record_length(m) * report.leaves as usize];
+        let written = &records[..record_length(m) * report.leaves];
         assert_eq!(quote(written, m), Ok(total(counts)));
         accepted += 1;
     }

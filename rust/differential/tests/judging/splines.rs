@@ -26,7 +26,7 @@ impl Band {
         loop {
             match contour_band::spline_band(&points, tolerance, m, &mut records) {
                 Ok(report) => {
-                    records.truncate(record_length(m) * report.leaves as usize);
+                    records.truncate(record_length(m) * report.leaves);
                     return Band { points, tolerance, leaves: LeafList::new(records, m) };
                 }
                 Err(refusal) => assert_eq!(refusal.number(), 7, "{points:?}, tolerance {tolerance}, m {m}"),
