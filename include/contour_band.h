@@ -1,5 +1,6 @@
-/* The C interface of the contour band engine: banding an outline or a B-spline, foretelling an outline's leaves, finding the
- * tightest band that fits, judging points, quoting leaves, drawing the hull of two boxes.
+/* The C interface of the contour band engine: banding an outline, in integers or in binary64, or a B-spline, foretelling an
+ * outline's leaves, finding the tightest band that fits, judging points, quoting leaves, drawing the hull of two boxes,
+ * handing out a box in binary64.
  *
  * An outline is Bezier curves of degree 1 to 5, each from where the one before it ends. Banding puts a narrow band of straight
  * pieces round it: a leaf, which is a stretch of a curve, has m pieces, a box at each of their m + 1 ends, and on each piece a
@@ -114,11 +115,12 @@ extern "C" {
 #define CONTOUR_BAND_VERTEX_ROOM 16
 
 /* The refusals, each with its condition and its spot. They stand in the order in which an operation tries them: banding 18, 1
- * to 8, 17 and 20 (5, 2, 20, 3, 4 and 17 curve by curve), and 19 for the bench station alone; banding a B-spline 18, 1, 24,
- * 25, 7 and 8; foretelling those of banding but for 7 and 19; the tightest band those of banding but for 1, 7, 8 and 19;
- * judging 18 and 9 to 11, a list of points 18, 9, 10, 101 and then 8, and 11 is the answer to a point; a quote 18, 9, 26 and
- * 10; banding and judging together those of banding and then 11, drawing 12 and 13. A refusal leaves every lent list as it
- * was. contour_refusal_text has each in words. */
+ * to 8, 17 and 20 (5, 2, 20, 3, 4 and 17 curve by curve), and 19 for the bench station alone; banding in binary64 those of
+ * banding but for 19, and 21 of each coordinate before 4; banding a B-spline 18, 1, 24, 25, 7 and 8; foretelling those of
+ * banding but for 7 and 19; the tightest band those of banding but for 1, 7, 8 and 19; judging 18 and 9 to 11, a list of
+ * points 18, 9, 10, 101 and then 8, and 11 is the answer to a point; a quote 18, 9, 26 and 10; banding and judging together
+ * those of banding and then 11, drawing 12 and 13, a box in binary64 12. A refusal leaves every lent list as it was.
+ * contour_refusal_text has each in words. */
 enum contour_band_refusal {
     CONTOUR_BAND_ACCEPTED = 0,         /* nothing is refused; 0 */
     CONTOUR_BAND_PIECES = 18,          /* m is not 1 to 8; 0 */
@@ -128,6 +130,8 @@ enum contour_band_refusal {
     CONTOUR_BAND_DEGREE = 2,           /* a degree is not 1 to 5; its index */
     CONTOUR_BAND_TOO_FEW_PIECES = 20,  /* a degree is 4 or 5, and m is below 3; its index */
     CONTOUR_BAND_CUT_SHORT = 3,        /* the outline ends inside a curve; the outline's length */
+    CONTOUR_BAND_NOT_WHOLE = 21,       /* a coordinate in binary64 is no whole number, infinities and NaN included; its index.
+                                        * 21 and then 4 are tried of each coordinate in turn */
     CONTOUR_BAND_COORDINATE = 4,       /* a coordinate is outside its range; the index of the curve's first such */
     CONTOUR_BAND_GAP = 17,             /* a curve does not begin where the one before it ends; the index of its degree */
     CONTOUR_BAND_SPLINE_LENGTH = 24,   /* points_length is odd, below 8 or above 8,198; points_length */
@@ -143,7 +147,8 @@ enum contour_band_refusal {
     CONTOUR_BAND_LEAVES_NUMBER = 10,   /* a number of the leaves is bad, see contour_judge; the index of the first such */
     CONTOUR_BAND_ODD_POINTS = 101,     /* points_length is odd; points_length */
     CONTOUR_BAND_POINT = 11,           /* a coordinate of the point is beyond the farthest; 0 for x, else 1 */
-    CONTOUR_BAND_BOX_NUMBER = 12,      /* a number of the boxes is bad, see contour_draw; the first such's place, 0 to 7 */
+    CONTOUR_BAND_BOX_NUMBER = 12,      /* a number of the boxes is bad, see contour_draw; the first such's place, 0 to 7, of
+                                        * one box 0 to 3 */
     CONTOUR_BAND_TOO_FEW_VERTICES = 13 /* vertices_length is less than 16; vertices_length */
 };
 
@@ -187,6 +192,21 @@ struct contour_band_answer contour_band(const int32_t *outline, size_t outline_l
  * is 8 or 19, and its spot says how many leaves there are. */
 struct contour_band_answer contour_station_band(const int32_t *outline, size_t outline_length, int32_t tolerance,
                                                 uint32_t m, int32_t *records, size_t records_length);
+
+/* Puts a band round an outline whose numbers are all in binary64, its degrees too.
+ *
+ * outline: as for contour_band, in binary64. A coordinate is read where it is a whole number in range, and -0.0 as 0; the list
+ *     is not copied.
+ * tolerance, m, records: as for contour_band.
+ *
+ * Accepted: the report and the records are those of contour_band, of the whole numbers read. Records are in whole sixteenths,
+ * and contour_judge and contour_judge_points take them.
+ * Refused: as in contour_band, and every number of the records stays as it was. A degree that is not exactly 1 to 5 is 2: NaN,
+ * 2.5 and -0.0 too. A coordinate that is no whole number is 21, in the place of 4 and before it of each coordinate in turn, so
+ * that the first faulty one decides: 2000000.5 is 21, 1e300 is 4. 17 compares the numbers read.
+ * Stack: CONTOUR_BAND_STATION_STACK bytes are enough, whatever is given. */
+struct contour_band_answer contour_binary64_band(const double *outline, size_t outline_length, int32_t tolerance, uint32_t m,
+                                                 int32_t *records, size_t records_length);
 
 /* Puts a band round a uniform cubic B-spline.
  *
@@ -367,6 +387,45 @@ struct contour_band_drawing {
 struct contour_band_drawing contour_draw(struct contour_band_box first, struct contour_band_box second, int32_t *vertices,
                                          size_t vertices_length);
 
+/* A box in stage units, in binary64. */
+struct contour_band_units {
+    uint32_t refusal; /* 0 where the box is accepted, else 12 */
+    uint64_t spot;    /* the refusal's spot, 0 to 3; 0 where the box is accepted */
+    double x_low;     /* the four numbers of the box; 0.0 where it is refused */
+    double x_high;
+    double y_low;
+    double y_high;
+};
+
+/* Hands out a box in stage units: each number is exactly the sixteenth divided by 16. A zero is never negative.
+ *
+ * box: a number is bad as for contour_draw; places 0 to 3 are the numbers in the order of the struct. */
+struct contour_band_units contour_box_units(struct contour_band_box box);
+
+/* Which form a box has in the short form. */
+enum contour_band_short_kind {
+    CONTOUR_BAND_SHORT_REFUSED = 0, /* none: the box is refused */
+    CONTOUR_BAND_SHORT_POINT = 1,   /* the box is a single point: both widths are 0 */
+    CONTOUR_BAND_SHORT_MIDDLE = 2   /* any other box, also one of which one width is 0 */
+};
+
+/* A box in the drawing office's short form, in stage units, in binary64. */
+struct contour_band_short {
+    uint32_t refusal;   /* 0 where the box is accepted, else 12 */
+    uint64_t spot;      /* the refusal's spot, 0 to 3; 0 where the box is accepted */
+    uint32_t kind;      /* a number of enum contour_band_short_kind */
+    double x;           /* the point, or the middle of the box; 0.0 where it is refused */
+    double y;
+    double half_width;  /* half of the width, in x; 0.0 of a point and where the box is refused */
+    double half_height; /* half of the height, in y; 0.0 of a point and where the box is refused */
+};
+
+/* Hands out a box in the short form: as that point where it is a single point, else as its middle with two half widths. Each
+ * number is exact, so the box can be regained from it. A zero is never negative.
+ *
+ * box: as for contour_box_units. */
+struct contour_band_short contour_box_short(struct contour_band_box box);
+
 /* The version of the library that is linked, to be compared with CONTOUR_BAND_VERSION_NUMBER. */
 uint32_t contour_version(void);
 
@@ -425,6 +484,8 @@ static inline const char *contour_refusal_text(uint32_t refusal) {
         return "a coordinate of a B-spline's point is not -131072 to 131072; the spot is its index in the list";
     case CONTOUR_BAND_TOO_MANY_RECORDS:
         return "the leaf list of a quote has more than 1048576 records; the spot is the list's length";
+    case CONTOUR_BAND_NOT_WHOLE:
+        return "a coordinate is no whole number; the spot is its index in the outline";
     case CONTOUR_BAND_ODD_POINTS:
         return "the list of points has an odd count of numbers; the spot is the count";
     default:

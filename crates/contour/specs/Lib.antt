@@ -1,10 +1,11 @@
 -- What a reader must believe of the C interface: the numbers of each answer (Numbers, Foretellings, Tightest, Points,
--- Quotes, Drawings), of what outcome they are (Answers), and the version (Version).
+-- Quotes, Drawings, BoxForms), of what outcome they are (Answers), and the version (Version).
 pub mod Numbers
 pub mod Foretellings
 pub mod Tightest
 pub mod Points
 pub mod Quotes
 pub mod Drawings
+pub mod BoxForms
 pub mod Answers
 pub mod Version

@@ -3,6 +3,7 @@ ghost use mathlib.Core.Path.{_≡_};
 ghost use lib.ListN.{length};
 ghost use Rattle.setting.specs.Setting.{lists, station};
 ghost use Rattle.band.specs.Banding.{banded, written, bandedSpline, writtenSpline};
+ghost use Rattle.band.specs.Banding.{bandedBinary64, writtenBinary64};
 ghost use Rattle.band_foretold.specs.Foretelling.{foretold, depthsWritten};
 ghost use Rattle.band_tightest.specs.Tightest.{tightest};
 ghost use Rattle.judge_points.specs.Points.{pointsJudged, judgedInto};
@@ -14,10 +15,13 @@ ghost use Rattle.contour.specs.Tightest.{tightestAnswerOf};
 ghost use Rattle.contour.specs.Points.{pointsAnswerOf};
 ghost use Rattle.contour.specs.Quotes.{quoteAnswerOf};
 ghost use Rattle.contour.specs.Drawings.{drawingOf};
+ghost use Rattle.contour.specs.BoxForms.{UnitsInNumbers, ShortInNumbers};
 ghost use Rattle.engine.specs.Outcomes.{writtenFor};
 ghost use Rattle.contour.specs.Answers.{outcomeAnswerOf, JudgedInNumbers, AnsweredInNumbers};
 ghost use Rattle.contour.specs.Version.{version};
 use crate::c_answers::Answer;
+use crate::c_answers::BoxShort;
+use crate::c_answers::BoxUnits;
 use crate::c_answers::Drawing;
 use crate::c_answers::ForetoldAnswer;
 use crate::c_answers::JudgingAnswer;
@@ -30,7 +34,9 @@ use crate::c_answers::in_numbers;
 use crate::c_answers::judgement_in_numbers;
 use crate::c_answers::points_in_numbers;
 use crate::c_answers::quote_in_numbers;
+use crate::c_answers::short_in_numbers;
 use crate::c_answers::tightest_in_numbers;
+use crate::c_answers::units_in_numbers;
 use boxes::Box;
 use engine::Outcome;
 use engine::band_and_judge;
@@ -86,6 +92,23 @@ pub extern "C" fn contour_spline_band(
         ≡ writtenSpline m tolerance (now (points .entry)) (now (records .entry)) ⌝ }
 {
     let banded = band::spline_band(points, tolerance, m, records);
+    in_numbers(banded)
+}
+
+// The same of an outline in binary64: degrees and coordinates are f64.
+#[no_mangle]
+pub extern "C" fn contour_binary64_band(
+    outline: &[f64],
+    tolerance: i32,
+    m: u32,
+    records: &mut [i32],
+) -> Answer
+    ensures { λ r. ⌜ r
+        ≡ bandAnswerOf (bandedBinary64 m tolerance (now (outline .entry)) (length (now (records .entry)))) ⌝ }
+    ensures { λ r. ⌜ now (records .exit)
+        ≡ writtenBinary64 m tolerance (now (outline .entry)) (now (records .entry)) ⌝ }
+{
+    let banded = band::binary64_band(outline, tolerance, m, records);
     in_numbers(banded)
 }
 
@@ -229,6 +252,24 @@ pub extern "C" fn contour_draw(first: Box, second: Box, vertices: &mut [i32]) ->
 {
     let drawn = draw::draw(first, second, vertices);
     drawing_in_numbers(drawn)
+}
+
+// Hands a box out in binary64, in stage units.
+#[no_mangle]
+pub extern "C" fn contour_box_units(b: Box) -> BoxUnits
+    ensures { λ r. ⌜ UnitsInNumbers b r ⌝ }
+{
+    let handed = boxes_binary64::hand_out(b);
+    units_in_numbers(handed)
+}
+
+// The short form of a box in binary64: a point, or the middle with half of the width and of the height.
+#[no_mangle]
+pub extern "C" fn contour_box_short(b: Box) -> BoxShort
+    ensures { λ r. ⌜ ShortInNumbers b r ⌝ }
+{
+    let shortened = boxes_binary64::shorten(b);
+    short_in_numbers(shortened)
 }
 
 // The version of this interface, as a number: 10000 × its first, 100 × its second and its third part.

@@ -1,4 +1,4 @@
-//! Banding an outline or a B-spline.
+//! Banding an outline, in integers or in binary64, or a B-spline.
 
 use crate::library;
 use crate::refusal::Refusal;
@@ -169,6 +169,47 @@ pub fn station_band(outline: &[i32], tolerance: i32, m: u32, records: &mut [i32]
 /// last halving, or `records` is too short. `records` is then unaltered.
 pub fn spline_band(points: &[i32], tolerance: i32, m: u32, records: &mut [i32]) -> Result<Report, Refusal> {
     report(library::spline_band(points, tolerance, m, records))
+}
+
+/// Puts a band round an outline whose numbers are all in binary64, its degrees too.
+///
+/// A coordinate is read where it is a whole number from −1,048,576 to 1,048,576, and −0.0 reads as 0. What is answered
+/// and written is what [`band`] answers and writes for the whole numbers read: records are in whole sixteenths, and
+/// [`judge`](crate::judge) takes them. `tolerance`, `m` and `records` are as in [`band`]. The list is not copied.
+///
+/// ```
+/// use contour_band::{band, binary64_band, record_length, Refusal};
+///
+/// const M: u32 = 3;
+/// let mut records = [0; record_length(M)];
+/// let report = binary64_band(&[3.0, 0.0, -0.0, 10.0, 30.0, 20.0, 30.0, 30.0, 0.0], 44, M, &mut records)?;
+/// assert_eq!((report.curves, report.leaves, report.nodes), (1, 1, 1));
+///
+/// let mut same = [0; record_length(M)];
+/// assert_eq!(band(&[3, 0, 0, 10, 30, 20, 30, 30, 0], 44, M, &mut same)?, report);
+/// assert_eq!(records, same);
+///
+/// // The first faulty coordinate decides: it is no whole number, or it is one out of range.
+/// let mut refused = |x, y| binary64_band(&[1.0, 0.0, 0.0, x, y], 44, M, &mut records).unwrap_err();
+/// assert_eq!(refused(2_000_000.5, 1e300), Refusal::NotWhole { index: 3 });
+/// assert_eq!(refused(1e300, 2_000_000.5), Refusal::Coordinate { index: 3 });
+/// assert_eq!(refused(0.0, f64::NAN), Refusal::NotWhole { index: 4 });
+/// // A degree that is not exactly 1 to 5 is no degree.
+/// assert_eq!(binary64_band(&[2.5], 44, M, &mut records), Err(Refusal::Degree { index: 0 }));
+/// # Ok::<(), Refusal>(())
+/// ```
+///
+/// # Errors
+///
+/// A [`Refusal`], as in [`band`]. [`Refusal::NotWhole`] stands in the place of [`Refusal::Coordinate`]: of each
+/// coordinate it is tried before the range.
+pub fn binary64_band(
+    outline: &[f64],
+    tolerance: i32,
+    m: u32,
+    records: &mut [i32],
+) -> Result<Report, Refusal> {
+    report(library::binary64_band(outline, tolerance, m, records))
 }
 
 /// An answer in numbers as a report or a refusal.

@@ -73,8 +73,9 @@ mod owned;
 mod quote;
 mod refusal;
 mod tightest;
+mod units;
 
-pub use band::{band, spline_band, station_band, Report, STATION_CURVES, STATION_LEAVES};
+pub use band::{band, binary64_band, spline_band, station_band, Report, STATION_CURVES, STATION_LEAVES};
 pub use cover::{draw, VERTEX_ROOM};
 pub use foretell::{foretell, Foretold};
 pub use judge::{band_and_judge, judge, judge_points, Judgement, Outcome, FARTHEST};
@@ -84,6 +85,7 @@ pub use owned::{Band, Cover};
 pub use quote::{quote, Cents};
 pub use refusal::Refusal;
 pub use tightest::tightest;
+pub use units::{box_short, box_units, Short, Units};
 
 /// The version of the archive that is linked, as a number: 10,000 × its first, 100 × its second and its third part.
 ///

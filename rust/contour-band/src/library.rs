@@ -86,6 +86,34 @@ pub struct Outcome {
     pub cover: u64,
 }
 
+/// `struct contour_band_units`.
+#[repr(C)]
+#[derive(Debug, Clone, Copy, PartialEq)]
+pub struct Units {
+    /// 0 where the box is accepted.
+    pub refusal: u32,
+    pub spot: u64,
+    pub x_low: f64,
+    pub x_high: f64,
+    pub y_low: f64,
+    pub y_high: f64,
+}
+
+/// `struct contour_band_short`.
+#[repr(C)]
+#[derive(Debug, Clone, Copy, PartialEq)]
+pub struct Short {
+    /// 0 where the box is accepted.
+    pub refusal: u32,
+    pub spot: u64,
+    /// 1 for a point, 2 for a middle, 0 where the box is refused.
+    pub kind: u32,
+    pub x: f64,
+    pub y: f64,
+    pub half_width: f64,
+    pub half_height: f64,
+}
+
 /// `struct contour_band_box`.
 #[repr(C)]
 struct Box {
@@ -93,6 +121,12 @@ struct Box {
     x_high: i32,
     y_low: i32,
     y_high: i32,
+}
+
+impl From<BoxBounds> for Box {
+    fn from(b: BoxBounds) -> Box {
+        Box { x_low: b.x.low, x_high: b.x.high, y_low: b.y.low, y_high: b.y.high }
+    }
 }
 
 /// `struct contour_band_drawing`.
@@ -127,6 +161,15 @@ extern "C" {
     fn contour_spline_band(
         points: *const i32,
         points_length: usize,
+        tolerance: i32,
+        m: u32,
+        records: *mut i32,
+        records_length: usize,
+    ) -> Answer;
+
+    fn contour_binary64_band(
+        outline: *const f64,
+        outline_length: usize,
         tolerance: i32,
         m: u32,
         records: *mut i32,
@@ -171,6 +214,10 @@ extern "C" {
 
     fn contour_draw(first: Box, second: Box, vertices: *mut i32, vertices_length: usize) -> Drawing;
 
+    fn contour_box_units(b: Box) -> Units;
+
+    fn contour_box_short(b: Box) -> Short;
+
     fn contour_version() -> u32;
 }
 
@@ -209,6 +256,21 @@ pub fn spline_band(points: &[i32], tolerance: i32, m: u32, records: &mut [i32]) 
     // Safety: as for `band`.
     unsafe {
         contour_spline_band(points.as_ptr(), points.len(), tolerance, m, records.as_mut_ptr(), records.len())
+    }
+}
+
+/// The answer for an outline in binary64. Writes to `records` as the header says.
+pub fn binary64_band(outline: &[f64], tolerance: i32, m: u32, records: &mut [i32]) -> Answer {
+    // Safety: as for `band`.
+    unsafe {
+        contour_binary64_band(
+            outline.as_ptr(),
+            outline.len(),
+            tolerance,
+            m,
+            records.as_mut_ptr(),
+            records.len(),
+        )
     }
 }
 
@@ -282,9 +344,20 @@ pub fn band_and_judge(
 
 /// The answer for two boxes. Writes to `vertices` as the header says.
 pub fn draw(first: BoxBounds, second: BoxBounds, vertices: &mut [i32]) -> Drawing {
-    let numbers = |b: BoxBounds| Box { x_low: b.x.low, x_high: b.x.high, y_low: b.y.low, y_high: b.y.high };
     // Safety: as above.
-    unsafe { contour_draw(numbers(first), numbers(second), vertices.as_mut_ptr(), vertices.len()) }
+    unsafe { contour_draw(first.into(), second.into(), vertices.as_mut_ptr(), vertices.len()) }
+}
+
+/// A box in stage units.
+pub fn box_units(b: BoxBounds) -> Units {
+    // Safety: the function takes a box by value and touches no memory of the caller.
+    unsafe { contour_box_units(b.into()) }
+}
+
+/// The short form of a box.
+pub fn box_short(b: BoxBounds) -> Short {
+    // Safety: the function takes a box by value and touches no memory of the caller.
+    unsafe { contour_box_short(b.into()) }
 }
 
 #[cfg(test)]
@@ -354,6 +427,56 @@ mod tests {
         assert_eq!(spline_band(&points, 9, 3, &mut records), expected);
         let leaf = [0, 1, 160, 160, 400, 407, 213, 214, 453, 461, 266, 267, 453, 461, 320, 320, 400, 407];
         assert_eq!(records, leaf);
+    }
+
+    #[test]
+    fn an_outline_in_binary64_answers_as_its_whole_numbers_do() {
+        let refused = |refusal, spot| Answer { refusal, spot, curves: 0, leaves: 0, nodes: 0 };
+        let mut records = [0; 18];
+        for bad in [f64::NAN, f64::INFINITY, -f64::INFINITY, 0.5, 2_000_000.5, f64::MIN_POSITIVE] {
+            assert_eq!(binary64_band(&[1.0, 0.0, 0.0, bad, 0.0], 2, 3, &mut records), refused(21, 3));
+            assert_eq!(binary64_band(&[bad], 2, 3, &mut records), refused(2, 0));
+        }
+        for far in [1_048_577.0, -1e300, 9_007_199_254_740_994.0] {
+            assert_eq!(binary64_band(&[1.0, 0.0, 0.0, far, 0.5], 2, 3, &mut records), refused(4, 3));
+        }
+        assert_eq!(binary64_band(&[-0.0], 2, 3, &mut records), refused(2, 0));
+        assert_eq!(binary64_band(&[4.0], 2, 2, &mut records), refused(20, 0));
+        assert_eq!(binary64_band(&[], 2, 3, &mut records), refused(6, 0));
+        assert_eq!(binary64_band(&[], 1, 3, &mut records), refused(1, 0));
+        assert_eq!(binary64_band(&[], 1, 9, &mut records), refused(18, 0));
+        let line = [1.0, -0.0, 0.0, 0.0, 1.0];
+        assert_eq!(binary64_band(&line, 2, 3, &mut records[..17]), refused(8, 1));
+        assert_eq!(records, [0; 18]);
+        let accepted = Answer { refusal: 0, spot: 0, curves: 1, leaves: 1, nodes: 1 };
+        assert_eq!(binary64_band(&line, 2, 3, &mut records), accepted);
+        let mut by_integers = [0; 18];
+        assert_eq!(band(&[1, 0, 0, 0, 1], 2, 3, &mut by_integers), accepted);
+        assert_eq!(records, by_integers);
+    }
+
+    #[test]
+    fn a_refused_box_has_zeros() {
+        let units = |refusal, spot| Units { refusal, spot, x_low: 0.0, x_high: 0.0, y_low: 0.0, y_high: 0.0 };
+        let short = |refusal, spot, kind, x, y| Short {
+            refusal,
+            spot,
+            kind,
+            x,
+            y,
+            half_width: 0.0,
+            half_height: 0.0,
+        };
+        for (spot, bad) in [[-FAR - 1, 0, 0, 0], [0, FAR + 1, 0, 0], [0, 0, 1, 0], [0, 0, 0, FAR + 1]]
+            .into_iter()
+            .enumerate()
+        {
+            assert_eq!(box_units(bad.into()), units(12, spot as u64));
+            assert_eq!(box_short(bad.into()), short(12, spot as u64, 0, 0.0, 0.0));
+        }
+        assert_eq!(box_short([8, 8, -24, -24].into()), short(0, 0, 1, 0.5, -1.5));
+        let middle = Short { half_width: 0.03125, ..short(0, 0, 2, 0.03125, -1.5) };
+        assert_eq!(box_short([0, 1, -24, -24].into()), middle);
     }
 
     #[test]

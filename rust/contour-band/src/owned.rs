@@ -1,6 +1,6 @@
 //! A band that owns its records.
 
-use crate::band::{band, spline_band, Report};
+use crate::band::{band, binary64_band, spline_band, Report};
 use crate::cover::{draw, VERTEX_ROOM};
 use crate::judge::{judge, judge_points, Judgement};
 use crate::leaf::{leaves, record_length, Leaf};
@@ -116,6 +116,26 @@ impl Band {
     ) -> Result<Option<Band>, Refusal> {
         let tolerance = tightest(outline.as_ref(), pieces, leaves)?;
         tolerance.map(|tolerance| Band::new(outline, tolerance, pieces)).transpose()
+    }
+
+    /// Puts a band round an outline whose degrees and coordinates are binary64 numbers, as [`binary64_band`] does. Each must be
+    /// whole.
+    ///
+    /// ```
+    /// use contour_band::{Band, Refusal};
+    ///
+    /// let band = Band::of_binary64(&[1.0, 0.0, 0.0, 30.0, -7.0], 44, 3)?;
+    /// assert_eq!(band, Band::new(&[1, 0, 0, 30, -7], 44, 3)?);
+    /// let refused = Band::of_binary64(&[1.0, 0.0, 0.0, 30.5, -7.0], 44, 3);
+    /// assert_eq!(refused, Err(Refusal::NotWhole { index: 3 }));
+    /// # Ok::<(), Refusal>(())
+    /// ```
+    ///
+    /// # Errors
+    ///
+    /// The refusals of [`binary64_band`], but for [`Refusal::TooFewRecords`].
+    pub fn of_binary64(outline: &[f64], tolerance: i32, pieces: u32) -> Result<Band, Refusal> {
+        Band::made(tolerance, pieces, |records| binary64_band(outline, tolerance, pieces, records))
     }
 
     /// The band that an operation writes: it is asked how many leaves there are, then lent room for just so many.

@@ -44,6 +44,12 @@ pub enum Refusal {
         /// The index in the outline of the curve's first such coordinate.
         index: usize,
     },
+    /// 21: a coordinate of an outline in binary64 is no whole number; infinities and NaN are none.
+    NotWhole {
+        /// The index in the outline of the coordinate. The curve's first one that is no whole number or not in
+        /// range decides between 21 and 4.
+        index: usize,
+    },
     /// 17: a curve does not begin where the curve before it ends.
     Gap {
         /// The index in the outline of the later curve's degree.
@@ -109,7 +115,7 @@ pub enum Refusal {
     PointX,
     /// 11: the point's y is beyond ±[`FARTHEST`](crate::FARTHEST), and its x is not.
     PointY,
-    /// 12: a number of two boxes is not −536,870,912 to 536,870,912, or a low is above its high.
+    /// 12: a number of a box, or of two boxes, is not −536,870,912 to 536,870,912, or a low is above its high.
     BoxNumber {
         /// The place of the first such number: x low, x high, y low, y high of the first box are 0 to
         /// 3, those of the second 4 to 7. A low above its high is named by the low.
@@ -147,6 +153,7 @@ impl Refusal {
             Refusal::Pieces => 18,
             Refusal::TooManyLeaves { .. } => 19,
             Refusal::TooFewPieces { .. } => 20,
+            Refusal::NotWhole { .. } => 21,
             Refusal::SplineLength { .. } => 24,
             Refusal::SplineCoordinate { .. } => 25,
             Refusal::TooManyRecords { .. } => 26,
@@ -171,6 +178,7 @@ impl Refusal {
             | Refusal::LeafListNumber { index }
             | Refusal::Gap { index }
             | Refusal::TooFewPieces { index }
+            | Refusal::NotWhole { index }
             | Refusal::SplineCoordinate { index } => index as u64,
             Refusal::CutShort { length }
             | Refusal::LeafListLength { length }
@@ -210,6 +218,7 @@ impl Refusal {
             18 => Refusal::Pieces,
             19 => Refusal::TooManyLeaves { leaves: place },
             20 => Refusal::TooFewPieces { index: place },
+            21 => Refusal::NotWhole { index: place },
             24 => Refusal::SplineLength { length: place },
             25 => Refusal::SplineCoordinate { index: place },
             26 => Refusal::TooManyRecords { length: place },
@@ -250,6 +259,7 @@ impl Refusal {
             24 => "a B-spline has x and y of 4 to 4099 points, which is an even count of numbers from 8 to 8198; the spot is the count given",
             25 => "a coordinate of a B-spline's point is not -131072 to 131072; the spot is its index in the list",
             26 => "the leaf list of a quote has more than 1048576 records; the spot is the list's length",
+            21 => "a coordinate is no whole number; the spot is its index in the outline",
             101 => "the list of points has an odd count of numbers; the spot is the count",
             number => unreachable!("no refusal has the number {number}"),
         }
@@ -272,7 +282,7 @@ mod tests {
     #[test]
     fn number_and_spot_are_what_the_library_answered() {
         let places = [0, 1, 17, 575, 32_767];
-        for number in (2..=10).chain(12..=13).chain([17, 19, 20, 24, 25, 26, 101]) {
+        for number in (2..=10).chain(12..=13).chain([17, 19, 20, 21, 24, 25, 26, 101]) {
             for place in places {
                 // 6 has the spot 0 only.
                 let spot = if number == 6 { 0 } else { place };

@@ -25,6 +25,7 @@ contour_station_band 6 0
 contour_station_band 8 1
 contour_spline_band 24 0
 contour_spline_band 8 1
+contour_binary64_band 6 0
 contour_foretell 6 0
 contour_foretell 8 1
 contour_tightest 6 0
@@ -37,6 +38,8 @@ contour_quote 9 0
 contour_band_and_judge 6 0
 contour_band_and_judge 8 1
 contour_draw 13 0
+contour_box_units 0 0
+contour_box_short 0 0
 ";
     assert_eq!(printed("null"), expected);
     // Every function that takes a list is called there.
@@ -96,6 +99,7 @@ const REFUSALS: &[Refusal] = &[
     Refusal::SplineLength { length: 0 },
     Refusal::SplineCoordinate { index: 0 },
     Refusal::TooManyRecords { length: 0 },
+    Refusal::NotWhole { index: 0 },
     Refusal::OddPoints { length: 0 },
 ];
 

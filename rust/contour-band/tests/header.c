@@ -1,7 +1,9 @@
-/* A C caller of the header: bands curve A and B-splines, foretells leaves, finds tightest bands, judges points, one by one and
- * as a list, quotes leaves, draws two boxes, and prints the answers, to be compared by header.rs. */
+/* A C caller of the header: bands curve A, in binary64 too, and B-splines, foretells leaves, finds tightest bands, judges points,
+ * one by one and as a list, quotes leaves, draws two boxes, hands out boxes in binary64, and prints the answers, to be compared by
+ * header.rs. */
 #include "contour_band.h"
 
+#include <math.h>
 #include <stdio.h>
 
 /* How many pieces a leaf has. */
@@ -81,6 +83,38 @@ static void higher(int32_t *records) {
     print(contour_band(quintic, 12, 95, M - 1, records, 2 * CONTOUR_BAND_RECORD(M)));
     print(contour_band(quintic, 12, 95, M, records, 2 * CONTOUR_BAND_RECORD(M)));
     print(contour_band(sextic, 1, 44, M - 1, records, 2 * CONTOUR_BAND_RECORD(M)));
+}
+
+/* Curve A in binary64; a second line of whose numbers one is given; a degree that is none. */
+static void binary64(int32_t *records) {
+    const double outline[9] = {3.0, 0.0, -0.0, 10.0, 30.0, 20.0, 30.0, 30.0, 0.0};
+    const double others[8] = {-0.0, 2000000.5, 1e300, NAN, -INFINITY, 9007199254740994.0, CONTOUR_BAND_COORDINATE_MAX + 1, 1.0};
+    print(contour_binary64_band(outline, 9, 44, M, records, CONTOUR_BAND_RECORD(M)));
+    for (int i = 0; i < CONTOUR_BAND_RECORD(M); i++) {
+        printf(i < CONTOUR_BAND_RECORD(M) - 1 ? "%d " : "%d\n", (int)records[i]);
+    }
+    for (int i = 0; i < 8; i++) {
+        const double lines[10] = {1.0, 5.0, 5.0, 0.0, 0.0, 1.0, others[i], 0.0, NAN, 0.0};
+        print(contour_binary64_band(lines, i == 0 ? 9 : 10, 44, M, records, CONTOUR_BAND_RECORD(M)));
+        print(contour_binary64_band(lines + 6, 1, 44, M, records, CONTOUR_BAND_RECORD(M)));
+    }
+    print(contour_binary64_band(outline, 9, 44, M, records, CONTOUR_BAND_RECORD(M) - 1));
+    print(contour_binary64_band(outline, 0, 44, M, records, 0));
+    print(contour_binary64_band(outline, 0, CONTOUR_BAND_TOLERANCE_MAX + 1, M, records, 0));
+    print(contour_binary64_band(outline, 0, 1, CONTOUR_BAND_PIECES_MAX + 1, records, 0));
+}
+
+/* A box in stage units, and in the short form. */
+static void hand_out(struct contour_band_box box) {
+    const struct contour_band_units units = contour_box_units(box);
+    printf("%u %llu %.17g %.17g %.17g %.17g\n", (unsigned)units.refusal, (unsigned long long)units.spot, units.x_low, units.x_high,
+           units.y_low, units.y_high);
+    const struct contour_band_short form = contour_box_short(box);
+    const char *kind = form.kind == CONTOUR_BAND_SHORT_POINT    ? "point"
+                       : form.kind == CONTOUR_BAND_SHORT_MIDDLE ? "middle"
+                                                                : "refused";
+    printf("%u %llu %s %.17g %.17g %.17g %.17g\n", (unsigned)form.refusal, (unsigned long long)form.spot, kind, form.x, form.y,
+           form.half_width, form.half_height);
 }
 
 /* The B-spline of curve A's control points; its refusals; and splines of the most points and of one more. */
@@ -229,5 +263,13 @@ int main(void) {
     draw(near, far, CONTOUR_BAND_VERTEX_ROOM);
     draw(near, far, CONTOUR_BAND_VERTEX_ROOM - 1);
     draw(near, beyond, 0);
+
+    binary64(records);
+    enum { FAR = CONTOUR_BAND_FARTHEST };
+    const struct contour_band_box boxes[6] = {{160, 160, 319, 363}, {160, 160, -319, -319}, {-FAR, FAR, FAR - 1, FAR},
+                                              {0, 0, 0, 0},         {0, -1, 0, 0},          {0, 0, 0, FAR + 1}};
+    for (int i = 0; i < 6; i++) {
+        hand_out(boxes[i]);
+    }
     return 0;
 }

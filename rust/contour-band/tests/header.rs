@@ -109,6 +109,40 @@ const EXPECTED: &str = "\
 0 0 6 0 0 1 0 4 3 4 4 3 4 0 1 0 0 0 0
 13 15 0 0 0 0 0 0 0 0 0 0 0 0 0 0 0 0 0
 12 7 0 0 0 0 0 0 0 0 0 0 0 0 0 0 0 0 0
+0 0 1 1 1
+0 1 0 0 0 38 160 160 319 363 320 320 319 363 480 480 0 38
+3 9 0 0 0
+2 0 0 0 0
+21 6 0 0 0
+2 0 0 0 0
+4 6 0 0 0
+2 0 0 0 0
+21 6 0 0 0
+2 0 0 0 0
+21 6 0 0 0
+2 0 0 0 0
+4 6 0 0 0
+2 0 0 0 0
+4 6 0 0 0
+2 0 0 0 0
+21 8 0 0 0
+3 1 0 0 0
+8 1 0 0 0
+6 0 0 0 0
+1 0 0 0 0
+18 0 0 0 0
+0 0 10 10 19.9375 22.6875
+0 0 middle 10 21.3125 0 1.375
+0 0 10 10 -19.9375 -19.9375
+0 0 point 10 -19.9375 0 0
+0 0 -33554432 33554432 33554431.9375 33554432
+0 0 middle 0 33554431.96875 33554432 0.03125
+0 0 0 0 0 0
+0 0 point 0 0 0 0
+12 0 0 0 0 0
+12 0 refused 0 0 0 0
+12 3 0 0 0 0
+12 3 refused 0 0 0 0
 ";
 
 /// What a C program prints.
@@ -123,13 +157,13 @@ fn a_c_program_gets_the_same_answers() {
     assert_eq!(printed(&c::root().join("rust/contour-band/tests/header.c"), "header"), EXPECTED);
 }
 
-/// What the header says of the stack of a call: of the station's, for curves of each degree, of a B-spline's, refused or
-/// banded, with the most leaves or few, and of the tightest band's; of judging a list of points; and of a quote.
+/// What the header says of the stack of a call: of the station's, for curves of each degree, of a list in binary64, of a
+/// B-spline's, refused or banded, with the most leaves or few, and of the tightest band's; of judging a list of points; and of a quote.
 #[test]
 fn calls_take_little_stack() {
     let printed = printed(&c::root().join("rust/contour-band/tests/stack.c"), "stack");
     let mut most = [0; 5];
-    let (mut splines, mut tightest, mut points, mut quotes) = (0, 0, 0, 0);
+    let (mut binary64, mut splines, mut tightest, mut points, mut quotes) = (0, 0, 0, 0, 0);
     for line in printed.lines() {
         let (call, numbers) = line.split_once(' ').expect("a word and numbers are printed");
         let numbers: Vec<i32> = numbers.split(' ').map(|n| n.parse().expect("a number is printed")).collect();
@@ -139,6 +173,10 @@ fn calls_take_little_stack() {
                 assert!(bytes <= 6_144, "{bytes} bytes of stack at degree {degree}");
                 let at = usize::try_from(degree).expect("a degree is printed") - 1;
                 most[at] = bytes.max(most[at]);
+            }
+            ("binary64", &[bytes]) => {
+                assert!(bytes <= 6_144, "{bytes} bytes of stack");
+                binary64 = bytes.max(binary64);
             }
             ("spline", &[bytes]) => {
                 assert!(bytes <= 6_144, "{bytes} bytes of stack");
@@ -160,13 +198,13 @@ fn calls_take_little_stack() {
         }
     }
     println!(
-        "the most bytes of stack: the station's by degree {most:?}, a B-spline's {splines}, the tightest band's \
-        {tightest}, judging points {points}, a quote {quotes}"
+        "the most bytes of stack: the station's by degree {most:?}, in binary64 {binary64}, a B-spline's {splines}, \
+        the tightest band's {tightest}, judging points {points}, a quote {quotes}"
     );
     // Some outline of each degree is walked: a refusal before the walk takes less than 300 bytes.
     assert!(
-        most.iter().chain([&splines, &tightest, &points, &quotes]).all(|bytes| *bytes > 1_024),
-        "{most:?} {splines} {tightest} {points} {quotes}"
+        most.iter().chain([&binary64, &splines, &tightest, &points, &quotes]).all(|bytes| *bytes > 1_024),
+        "{most:?} {binary64} {splines} {tightest} {points} {quotes}"
     );
 }
 

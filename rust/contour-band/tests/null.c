@@ -21,6 +21,7 @@ int main(void) {
     PRINT(contour_station_band, outline, 9, 44, M, NULL, 0);
     PRINT(contour_spline_band, NULL, 0, 44, M, NULL, 0);
     PRINT(contour_spline_band, spline, 8, 44, M, NULL, 0);
+    PRINT(contour_binary64_band, NULL, 0, 44, M, NULL, 0);
     PRINT(contour_foretell, NULL, 0, 44, M, NULL, 0);
     PRINT(contour_foretell, outline, 9, 44, M, NULL, 0);
     PRINT(contour_tightest, NULL, 0, M, 1);
@@ -33,5 +34,7 @@ int main(void) {
     PRINT(contour_band_and_judge, NULL, 0, 44, M, NULL, 0, 0, 0);
     PRINT(contour_band_and_judge, outline, 9, 44, M, NULL, 0, 0, 0);
     PRINT(contour_draw, box, box, NULL, 0);
+    PRINT(contour_box_units, box);
+    PRINT(contour_box_short, box);
     return 0;
 }

@@ -1,6 +1,7 @@
-/* How much stack contour_station_band, contour_spline_band, contour_tightest, contour_judge_points and contour_quote take: each call
- * runs on a stack of its own, filled with one byte beforehand, and what it did not touch is counted from the far end. Prints the bytes
- * that the header promises, then a line for each call, the station's with its degree, to be compared by header.rs. */
+/* How much stack contour_station_band, contour_binary64_band, contour_spline_band, contour_tightest, contour_judge_points and
+ * contour_quote take: each call runs on a stack of its own, filled with one byte beforehand, and what it did not touch is counted
+ * from the far end. Prints the bytes that the header promises, then a line for each call, the station's with its degree, to be
+ * compared by header.rs. */
 #define _XOPEN_SOURCE 700
 #include "contour_band.h"
 
@@ -30,6 +31,11 @@ static int64_t answers[6 * CONTOUR_BAND_ANSWER];
 static void nothing(void) {}
 
 static void station(void) { contour_station_band(outline, outline_length, tolerance, m, records, records_length); }
+
+/* The outline in binary64, with so many leaves as the station takes. */
+static double numbers[66 * (3 + 2 * CONTOUR_BAND_DEGREE_MAX)];
+
+static void binary64(void) { contour_binary64_band(numbers, outline_length, tolerance, m, records, records_length); }
 
 static void spline(void) { contour_spline_band(outline, outline_length, tolerance, m, records, records_length); }
 
@@ -104,6 +110,10 @@ static void measure_station(void) {
                     tolerance = tolerances[i % 10 / 2];
                     records_length = i % 2 ? sizeof records / sizeof *records : 0;
                     printf("station %d %d\n", degree, touched(station) - touched(nothing));
+                    for (size_t j = 0; j < outline_length; j++) {
+                        numbers[j] = outline[j];
+                    }
+                    printf("binary64 %d\n", touched(binary64) - touched(nothing));
                     if (i % 10 < 2) {
                         printf("tightest %d\n", touched(tightest) - touched(nothing));
                     }
@@ -158,6 +168,7 @@ int main(void) {
     tolerance = 100;
     curves(1, 3, 800);
     touched(station);
+    touched(binary64);
     touched(spline);
     touched(tightest);
     touched(judge_points);

@@ -51,6 +51,8 @@ pub struct Options {
     pub leaves: Option<usize>,
     /// Where a picture goes.
     pub svg: Option<OsString>,
+    /// Whether the numbers of curves may have a decimal point, and go to the engine as binary64 numbers.
+    pub binary64: bool,
     /// Whether the picture has the boxes at the break points.
     pub boxes: bool,
 }
@@ -66,6 +68,11 @@ impl Command {
             "tightest" => Some((Command::Tightest, help::TIGHTEST)),
             _ => None,
         }
+    }
+
+    /// Whether it bands the outline, which is what takes binary64 numbers.
+    fn bands(self) -> bool {
+        !matches!(self, Command::Foretell | Command::Tightest)
     }
 
     /// How many files it takes.
@@ -99,13 +106,15 @@ fn job(
     help: &'static str,
     mut arguments: impl Iterator<Item = OsString>,
 ) -> Result<Asked, Failure> {
-    let mut options = Options { tolerance: None, pieces: 3, leaves: None, svg: None, boxes: false };
+    let mut options =
+        Options { tolerance: None, pieces: 3, leaves: None, svg: None, binary64: false, boxes: false };
     let mut files = Vec::new();
     while let Some(argument) = arguments.next() {
         match parted(&argument) {
             (Some("--help" | "-h"), _) => return Ok(Asked::Help(help)),
             (Some("--version"), _) => return Ok(Asked::Version),
             (Some("--boxes"), None) => options.boxes = true,
+            (Some("--binary64"), None) => options.binary64 = true,
             (Some(option), Some(value)) => options.set(option, value)?,
             (Some(option), None) if Options::NAMES.contains(&option) => match arguments.next() {
                 Some(value) => options.set(option, value)?,
@@ -138,7 +147,7 @@ impl Options {
             "--pieces" => self.pieces = whole_number(option, &value)? as u32,
             "--leaves" => self.leaves = Some(count(option, &value)?),
             "--svg" => self.svg = Some(value),
-            "--boxes" => return Err(wrong("--boxes takes no value")),
+            "--boxes" | "--binary64" => return Err(wrong(&format!("{option} takes no value"))),
             _ => return Err(no_option(OsStr::new(option))),
         }
         Ok(())
@@ -153,6 +162,9 @@ impl Options {
             }
             (Command::Tightest, Some(_), None) | (_, None, _) => {}
             _ => return Err(wrong("--leaves goes with tightest")),
+        }
+        if self.binary64 && !command.bands() {
+            return Err(wrong("--binary64 goes with what bands an outline: band, inspect and quote"));
         }
         if self.boxes && self.svg.is_none() {
             return Err(wrong("--boxes goes with --svg FILE"));

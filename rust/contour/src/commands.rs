@@ -17,8 +17,11 @@ pub type Judged = (Point, Result<Judgement, Refusal>);
 /// Does a job. The exit status: 0, or 1 where a point is off or no tolerance has so few leaves, or 2 where a point is
 /// refused.
 pub fn run(job: &Job) -> Result<u8, Failure> {
-    let drawing =
-        Drawing::read(&job.outline, job.command != Command::Tightest && job.options.tolerance.is_none())?;
+    let drawing = Drawing::read(
+        &job.outline,
+        job.command != Command::Tightest && job.options.tolerance.is_none(),
+        job.options.binary64,
+    )?;
     match job.command {
         Command::Band => band(job, &drawing),
         Command::Inspect => inspect(job, &drawing),

@@ -31,11 +31,31 @@ pub enum Shape {
 pub struct Curves {
     /// For each curve its degree, then x and y of each control point.
     pub numbers: Vec<i32>,
+    /// The same in binary64, where the file is read so; the numbers above are then as near as whole numbers come, which is
+    /// exact where banding accepts.
+    binary64: Vec<f64>,
     /// The index of each curve's degree.
     starts: Vec<usize>,
 }
 
 impl Curves {
+    /// Adds the curve of a line; `None` where the line is no curve of 2 to 6 points.
+    fn add(&mut self, line: &[u8]) -> Option<()> {
+        let points = forms::points(line, "curve").filter(|points| (2..=6).contains(&points.len()))?;
+        self.push(&points);
+        Some(())
+    }
+
+    /// Adds the curve of a line whose numbers may have a decimal point.
+    fn add_binary64(&mut self, line: &[u8]) -> Option<()> {
+        let points = forms::decimal_points(line, "curve").filter(|points| (2..=6).contains(&points.len()))?;
+        self.binary64.push(points.len() as f64 - 1.0);
+        self.binary64.extend(points.iter().flatten());
+        let near: Vec<Point> = points.iter().map(|point| point.map(|number| number as i32)).collect();
+        self.push(&near);
+        Some(())
+    }
+
     fn push(&mut self, points: &[Point]) {
         self.starts.push(self.numbers.len());
         self.numbers.push(points.len() as i32 - 1);
@@ -63,7 +83,8 @@ impl Curves {
 
 impl Drawing {
     /// Reads an outline file, whose first line must have a tolerance unless one is given beside it.
-    pub fn read(file: &OsStr, tolerance_needed: bool) -> Result<Drawing, Failure> {
+    /// With `binary64` the numbers of curves may have a decimal point.
+    pub fn read(file: &OsStr, tolerance_needed: bool, binary64: bool) -> Result<Drawing, Failure> {
         let name = input::name(file);
         let text = input::read(file)?;
         let mut lines = (1..).zip(forms::lines(&text)).peekable();
@@ -82,10 +103,8 @@ impl Drawing {
         }
         let mut curves = Curves::default();
         for (number, line) in lines {
-            match forms::points(line, "curve") {
-                Some(points) if (2..=6).contains(&points.len()) => curves.push(&points),
-                _ => return Err(expected(&name, number, number == first_line)),
-            }
+            let added = if binary64 { curves.add_binary64(line) } else { curves.add(line) };
+            added.ok_or_else(|| expected(&name, number, number == first_line))?;
         }
         Ok(Drawing { name, tolerance, first_line, shape: Shape::Curves(curves) })
     }
@@ -93,6 +112,9 @@ impl Drawing {
     /// The band of what is drawn.
     pub fn band(&self, tolerance: i32, pieces: u32) -> Result<Band, Refusal> {
         match &self.shape {
+            Shape::Curves(curves) if !curves.binary64.is_empty() => {
+                Band::of_binary64(&curves.binary64, tolerance, pieces)
+            }
             Shape::Curves(curves) => Band::new(&curves.numbers, tolerance, pieces),
             Shape::Spline(points) => Band::of_spline(points, tolerance, pieces),
         }

@@ -35,6 +35,8 @@ OPTIONS
   --pieces M     how many straight pieces a leaf has, 1 to 8; curves of degree
                  4 and 5 take 3 to 8. 3 unless it is given
   --leaves R     of tightest: how many leaves are taken
+  --binary64     reads the numbers of curves as binary64, which may have a
+                 decimal point and must be whole, as in 30.0
   --svg FILE     draws the band, and the points, as a picture for browsers
   --boxes        with --svg: also draws the boxes at the break points
   --help         prints a text like this one

@@ -167,6 +167,26 @@ fn the_tightest_band_is_found() {
 }
 
 #[test]
+fn numbers_of_curves_may_be_binary64() {
+    let arch = "(tolerance 44)\n(curve (0.0 -0.0) (10.0 30.00) (20 30.0) (30.0 0))\n";
+    assert_eq!(contour_on(&["band", "-", "--binary64"], arch), contour_on(&["band", "-"], ARCH));
+    assert_eq!(contour_on(&["band", "-", "--binary64"], ARCH), contour_on(&["band", "-"], ARCH));
+    let half = "(tolerance 44)\n(curve (0.0 0.0) (10.0 30.5))\n";
+    for (arguments, said) in [
+        (
+            &["band", "-", "--binary64"][..],
+            "standard input, line 2: refused 21 4: a coordinate is no whole number",
+        ),
+        (&["band", "-"], "standard input, line 2: (curve (x y) (x y) ..) of 2 to 6 points"),
+        (&["foretell", "-", "--binary64"], "contour: --binary64 goes with what bands an outline"),
+        (&["band", "-", "--binary64=1"], "contour: --binary64 takes no value"),
+    ] {
+        let words = failed(contour_on(arguments, half));
+        assert!(words.starts_with(said), "{arguments:?}: {words}");
+    }
+}
+
+#[test]
 fn what_is_refused_is_told_in_words_with_its_place() {
     for (arguments, text, said) in [
         (

@@ -1,4 +1,5 @@
-//! One outline or list of points, tolerance, m and lent list to both engines, and what they answer compared.
+//! One outline, in integers or in binary64, or list of points, tolerance, m and lent list to both engines, and what they
+//! answer compared.
 
 use crate::random::Random;
 use crate::refusals::Refusals;
@@ -98,6 +99,37 @@ impl Comparison {
     /// Where an answer or a number differs, or a number that was not to be written has changed.
     /// Prints the input and both answers.
     pub fn band(&mut self, outline: &[i32], tolerance: i32, m: u32, length: usize) -> Answer {
+        let caller = self.caller;
+        let given = outline.to_vec();
+        let proved = |records: &mut [i32]| by_proved(caller, &given, tolerance, m, records);
+        let plain = |records: &mut [i32]| by_plain(caller, outline, tolerance, m, records);
+        let answer = self.compare(&outline, (tolerance, m), length, proved, plain);
+        assert_eq!(given, outline, "{}: the outline changed", self.name);
+        answer
+    }
+
+    /// Bands an outline in binary64 with both engines into lists of `length` numbers. Returns the answer that they share.
+    ///
+    /// # Panics
+    ///
+    /// Where an answer or a number differs, or a number that was not to be written has changed.
+    /// Prints the input and both answers.
+    pub fn band_binary64(&mut self, outline: &[f64], tolerance: i32, m: u32, length: usize) -> Answer {
+        let proved =
+            |records: &mut [i32]| proved_answer(contour_band::binary64_band(outline, tolerance, m, records));
+        let plain = |records: &mut [i32]| plain_answer(plain::binary64_band(outline, tolerance, m, records));
+        self.compare(&outline, (tolerance, m), length, proved, plain)
+    }
+
+    /// Lends equal lists to both engines, and compares what they answer and write.
+    fn compare(
+        &mut self,
+        outline: &dyn fmt::Debug,
+        (tolerance, m): (i32, u32),
+        length: usize,
+        proved: impl FnOnce(&mut [i32]) -> Answer,
+        plain: impl FnOnce(&mut [i32]) -> Answer,
+    ) -> Answer {
         // Other noise at the same place from call to call.
         let start = self.random.below(LONGEST.saturating_sub(length) + 1);
         let noise = &self.noise[start..][..length + 2 * MARGIN];
@@ -106,9 +138,8 @@ impl Comparison {
             list.extend_from_slice(noise);
         }
         let lent = MARGIN..MARGIN + length;
-        let given = outline.to_vec();
-        let proved = by_proved(self.caller, &given, tolerance, m, &mut self.proved[lent.clone()]);
-        let plain = by_plain(self.caller, outline, tolerance, m, &mut self.plain[lent]);
+        let proved = proved(&mut self.proved[lent.clone()]);
+        let plain = plain(&mut self.plain[lent]);
         self.written = match plain {
             Accepted { leaves, .. } => record_length(m) * leaves as usize,
             Refused(..) => 0,
@@ -117,9 +148,9 @@ impl Comparison {
         let stays = |list: &[i32]| {
             list[..written.start] == noise[..written.start] && list[written.end..] == noise[written.end..]
         };
-        let alike = proved == plain && self.proved == self.plain && given == outline;
+        let alike = proved == plain && self.proved == self.plain;
         if !alike || !stays(&self.proved) {
-            self.fail(outline, &given, (tolerance, m), length, proved, plain);
+            self.fail(outline, (tolerance, m), length, proved, plain);
         }
         self.count(plain, m);
         plain
@@ -168,8 +199,7 @@ impl Comparison {
 
     fn fail(
         &self,
-        outline: &[i32],
-        given: &[i32],
+        outline: &dyn fmt::Debug,
         (tolerance, m): (i32, u32),
         length: usize,
         proved: Answer,
@@ -178,9 +208,6 @@ impl Comparison {
         let mut message = format!("{}: the engines differ, or a number changed\n", self.name);
         message += &format!("outline {outline:?}\ntolerance {tolerance}\nm {m}\nlent numbers {length}\n");
         message += &format!("proved answers {proved:?}\nplain answers {plain:?}\n");
-        if given != outline {
-            message += &format!("outline after the proved engine {given:?}\n");
-        }
         let differs = |i: &usize| self.proved[*i] != self.plain[*i];
         for i in (0..self.plain.len()).filter(differs).take(20) {
             let (proved, plain) = (self.proved[i], self.plain[i]);
@@ -197,7 +224,11 @@ fn by_proved(caller: Caller, outline: &[i32], tolerance: i32, m: u32, records: &
         Caller::Station => contour_band::station_band,
         Caller::Splines => contour_band::spline_band,
     };
-    match band(outline, tolerance, m, records) {
+    proved_answer(band(outline, tolerance, m, records))
+}
+
+fn proved_answer(answer: Result<contour_band::Report, contour_band::Refusal>) -> Answer {
+    match answer {
         Ok(contour_band::Report { curves, leaves, nodes }) => {
             Accepted { curves: curves as u64, leaves: leaves as u64, nodes: nodes as u64 }
         }
@@ -211,7 +242,11 @@ fn by_plain(caller: Caller, outline: &[i32], tolerance: i32, m: u32, records: &m
         Caller::Station => plain::station_band,
         Caller::Splines => plain::spline_band,
     };
-    match band(outline, tolerance, m, records) {
+    plain_answer(band(outline, tolerance, m, records))
+}
+
+fn plain_answer(answer: Result<plain::Report, plain::Refusal>) -> Answer {
+    match answer {
         Ok(plain::Report { curves, leaves, nodes }) => Accepted { curves, leaves, nodes },
         Err(refusal) => Refused(refusal.number(), refusal.spot()),
     }

@@ -4,6 +4,7 @@
 #![forbid(unsafe_code)]
 
 pub mod banding;
+pub mod binary64;
 pub mod covers;
 pub mod curves;
 pub mod drawing;

@@ -1,5 +1,6 @@
 //! Banding: the walk of an outline's curves and the records of its leaves.
 
+use crate::binary64;
 use crate::curve::Curve;
 use crate::degree::deepest;
 use crate::enclosure::BoxBounds;
@@ -65,6 +66,19 @@ pub fn spline_band(points: &[i32], tolerance: i32, m: u32, records: &mut [i32]) 
     outline::check_tolerance(tolerance)?;
     let curves = spline::curves(points)?;
     for_pieces!(m, band_sixths)(&curves, usize::MAX, tolerance, records)
+}
+
+/// Bands an outline in binary64 as [`band`] does an outline: the curves are those of the whole numbers read.
+pub fn binary64_band(
+    outline: &[f64],
+    tolerance: i32,
+    m: u32,
+    records: &mut [i32],
+) -> Result<Report, Refusal> {
+    check_pieces(m)?;
+    outline::check_tolerance(tolerance)?;
+    let curves = binary64::curves(outline, m)?;
+    for_pieces!(m, band_units)(&curves, usize::MAX, tolerance, records)
 }
 
 /// Bands curves whose control values are stage units.

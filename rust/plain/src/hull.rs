@@ -30,7 +30,7 @@ pub fn draw(first: [i32; 4], second: [i32; 4], vertices: &mut [i32]) -> Result<u
 }
 
 /// The place of a box's first number that is beyond the range, or a low above its high.
-fn first_bad(numbers: [i32; 4]) -> Option<usize> {
+pub fn first_bad(numbers: [i32; 4]) -> Option<usize> {
     let is_bad = |&place: &usize| {
         !SIXTEENTHS.contains(&numbers[place]) || place % 2 == 0 && numbers[place] > numbers[place + 1]
     };

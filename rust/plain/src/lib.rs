@@ -2,9 +2,10 @@
 //! proved engine, and the two are compared with each other, number by number.
 //!
 //! [`band`] encloses an outline of Bézier curves in boxes, with m pieces to a leaf, and [`station_band`] a small
-//! one; [`spline_band`] encloses a B-spline. [`foretell`] says beforehand how many leaves there can be, and [`tightest`]
+//! one; [`spline_band`] encloses a B-spline, [`binary64_band`] an outline in binary64. [`foretell`] says beforehand how many leaves there can be, and [`tightest`]
 //! at which tolerance there are first no more than so many. [`judge`] says whether a point lies on what they cover,
-//! [`band_and_judge`] does both, and [`draw`] draws the hull of two boxes. [`text::answer`] is the text program. The
+//! [`band_and_judge`] does both, and [`draw`] draws the hull of two boxes. [`box_units`] and [`box_short`] give a box in
+//! binary64. [`text::answer`] is the text program. The
 //! modules follow the documents: the checks of an outline, of a degree and of m, the curves of a B-spline, halving, the
 //! rows and the enclosure, the walk; foretelling; the tightest band; the checks of a leaf list and a point, covers,
 //! judging; drawing; the lines of a text, its answer.
@@ -12,6 +13,7 @@
 #![forbid(unsafe_code)]
 
 mod band;
+mod binary64;
 mod cover;
 mod curve;
 mod degree;
@@ -36,7 +38,8 @@ mod spline;
 pub mod text;
 mod tightest;
 
-pub use band::{band, spline_band, station_band, Report};
+pub use band::{band, binary64_band, spline_band, station_band, Report};
+pub use binary64::{box_short, box_units, Short};
 pub use foretell::{foretell, Foretold};
 pub use hull::draw;
 pub use judge::{band_and_judge, judge, judge_points, Judgement};

@@ -9,7 +9,7 @@ use std::ops::RangeInclusive;
 pub const TOLERANCES: RangeInclusive<i32> = 2..=1_048_576;
 
 /// Coordinates that are taken, in stage units.
-const COORDINATES: RangeInclusive<i32> = -1_048_576..=1_048_576;
+pub const COORDINATES: RangeInclusive<i32> = -1_048_576..=1_048_576;
 
 /// How many curves an outline that is given as a list may have.
 pub const MOST_CURVES: usize = 4_096;

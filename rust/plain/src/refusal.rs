@@ -55,9 +55,9 @@ pub enum Refusal {
     PointX,
     /// 11: the point's y is beyond the range, and its x is not.
     PointY,
-    /// 12: a number of two boxes is beyond its range, or a low above its high.
+    /// 12: a number of a box, or of two boxes, is beyond its range, or a low above its high.
     BoxNumber {
-        /// The place of the first such number, 0 to 7.
+        /// The place of the first such number, 0 to 3 or 0 to 7.
         place: usize,
     },
     /// 13: fewer than 16 numbers are lent for vertices.
@@ -95,6 +95,11 @@ pub enum Refusal {
     /// 20: a degree is 4 or 5, and the number of pieces is below 3.
     TooFewPieces {
         /// Where the degree stands in the outline.
+        index: usize,
+    },
+    /// 21: a coordinate of an outline in binary64 is no whole number.
+    NotWhole {
+        /// Where it stands in the outline.
         index: usize,
     },
     /// 24: a B-spline's list of points has an odd count of numbers, too few or too many.
@@ -143,6 +148,7 @@ impl Refusal {
             Refusal::Pieces => 18,
             Refusal::TooManyLeaves { .. } => 19,
             Refusal::TooFewPieces { .. } => 20,
+            Refusal::NotWhole { .. } => 21,
             Refusal::SplineLength { .. } => 24,
             Refusal::SplineCoordinate { .. } => 25,
             Refusal::TooManyRecords { .. } => 26,
@@ -161,6 +167,7 @@ impl Refusal {
             | Refusal::LeafListNumber { index }
             | Refusal::Gap { index }
             | Refusal::TooFewPieces { index }
+            | Refusal::NotWhole { index }
             | Refusal::SplineCoordinate { index } => index,
             Refusal::CutShort { length }
             | Refusal::LeafListLength { length }

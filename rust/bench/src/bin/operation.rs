@@ -4,7 +4,7 @@
 //! `operation ENGINE OPERATION INPUT TIMES`. ENGINE is plain, proved or sampled. OPERATION and INPUT are
 //! band with an outline, a number of curves or a depth where it has one, a tolerance and m, as in
 //! nominal:16:3, cubics-64:16:8 and arches-3:44:3, spline:16:3 a B-spline and splined:16:3 its curves as an
-//! outline; count with an outline, into an empty list; foretell with an outline, at any tolerance; tightest with an outline,
+//! outline; binary64, which bands an outline in binary64; count with an outline, into an empty list; foretell with an outline, at any tolerance; tightest with an outline,
 //! a number of leaves and m, as in cubics-64:128:3; judge with the place of
 //! the points and m, as in near:3, and with a number of curves where each is to have 256 leaves, as in near-4096:3;
 //! points, which judges TIMES points in one call, with the same, and with -scattered behind the place or the number
@@ -27,6 +27,7 @@ fn main() -> ExitCode {
     let done = match arguments[..] {
         [engine, operation, input, times] => times.parse().ok().and_then(|times| match operation {
             "band" => band(engine, input, times),
+            "binary64" => binary64(engine, input, times),
             "count" => count(engine, input, times),
             "foretell" => foretell(engine, input, times),
             "tightest" => tightest(engine, input, times),
@@ -40,7 +41,7 @@ fn main() -> ExitCode {
     };
     if done.is_none() {
         eprintln!(
-            "usage: operation plain|proved|sampled|check band|count|foretell|tightest|judge|points|quote|draw INPUT TIMES"
+            "usage: operation plain|proved|sampled|check band|binary64|count|foretell|tightest|judge|points|quote|draw INPUT TIMES"
         );
         return ExitCode::FAILURE;
     }
@@ -100,6 +101,30 @@ fn band(engine: &str, input: &str, times: usize) -> Option<()> {
         }
     }
     println!("{}", report.leaves);
+    Some(())
+}
+
+/// Bands an outline in binary64. The records are those of the same outline in integers.
+fn binary64(engine: &str, input: &str, times: usize) -> Option<()> {
+    let (outline, tolerance, m) = with_tolerance(input)?;
+    let Err(Refusal::TooFewRecords { leaves }) = contour_band::band(&outline, tolerance, m, &mut []) else {
+        return None;
+    };
+    let mut by_integers = vec![0; leaves * record_length(m)];
+    contour_band::band(&outline, tolerance, m, &mut by_integers).ok()?;
+    let numbers: Vec<f64> = outline.into_iter().map(f64::from).collect();
+    let mut records = vec![0; leaves * record_length(m)];
+    contour_band::binary64_band(&numbers, tolerance, m, &mut records).ok()?;
+    assert!(records == by_integers);
+    for _ in 0..times {
+        let (numbers, records) = (black_box(&numbers[..]), black_box(&mut records[..]));
+        match engine {
+            "plain" => plain::binary64_band(numbers, tolerance, m, records).map(|_| ()).ok()?,
+            "proved" => contour_band::binary64_band(numbers, tolerance, m, records).map(|_| ()).ok()?,
+            _ => return None,
+        }
+    }
+    println!("{leaves}");
     Some(())
 }
 
