@@ -47,7 +47,7 @@ fn points_by<T>(line: &[u8], word: &str, number: fn(&[u8]) -> Front<T>) -> Optio
 
 /// The number at the front of a text, which may have a decimal point with digits on both sides, and what follows it. It has
 /// no plus and no leading zero; without a point it is not -0.
-fn decimal(text: &[u8]) -> Front<f64> {
+fn decimal(text: &[u8]) -> Front<'_, f64> {
     let count = text.iter().take_while(|byte| byte.is_ascii_digit() || b"-.".contains(byte)).count();
     let (number, rest) = text.split_at(count);
     let number = std::str::from_utf8(number).ok()?;
@@ -60,7 +60,7 @@ fn decimal(text: &[u8]) -> Front<f64> {
 }
 
 /// The 32-bit number at the front of a text, and what follows it. A number has no plus, no leading zero, and is not −0.
-fn number(text: &[u8]) -> Front<i32> {
+fn number(text: &[u8]) -> Front<'_, i32> {
     let digits = text.strip_prefix(b"-").unwrap_or(text);
     let count = digits.iter().take_while(|byte| byte.is_ascii_digit()).count();
     if digits.starts_with(b"0") && (count > 1 || digits.len() < text.len()) {
