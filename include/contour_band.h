@@ -521,6 +521,12 @@ static inline const char *contour_refusal_text(uint32_t refusal) {
         return "the leaf list of a quote has more than 1048576 records; the spot is the list's length";
     case CONTOUR_BAND_NOT_WHOLE:
         return "a coordinate is no whole number; the spot is its index in the outline";
+    case CONTOUR_BAND_NO_SUCH_CURVE:
+        return "the outline has no curve of this number; the spot is the number";
+    case CONTOUR_BAND_OTHER_RECORDS:
+        return "the records given are not the outline's, or their count passes the list; the spot is the first "
+               "index that differs, or the least of the count, the list's length and the length of the outline's "
+               "records";
     case CONTOUR_BAND_ODD_POINTS:
         return "the list of points has an odd count of numbers; the spot is the count";
     default:

@@ -272,6 +272,8 @@ impl Refusal {
             25 => "a coordinate of a B-spline's point is not -131072 to 131072; the spot is its index in the list",
             26 => "the leaf list of a quote has more than 1048576 records; the spot is the list's length",
             21 => "a coordinate is no whole number; the spot is its index in the outline",
+            22 => "the outline has no curve of this number; the spot is the number",
+            23 => "the records given are not the outline's, or their count passes the list; the spot is the first index that differs, or the least of the count, the list's length and the length of the outline's records",
             101 => "the list of points has an odd count of numbers; the spot is the count",
             number => unreachable!("no refusal has the number {number}"),
         }
