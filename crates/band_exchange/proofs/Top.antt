@@ -1,7 +1,7 @@
 -- The old outline's own checks, 22 and 23, and the whole answer.
 use mathlib.Core.Path.{_≡_, refl, sym, _∙_, ap, ap₂}
 use mathlib.Core.Bool.{Bool, true}
-use mathlib.Core.List.{List}
+use mathlib.Core.List.{List, []}
 use mathlib.Core.Option.{Option, none, some}
 use Prim.Native.Nat.{ℕ, suc, _*_, _/_, _^_, _≤_, _<_, min}
 use native.Mathlib.Omega.{arith}
@@ -73,10 +73,10 @@ module _ (m : ℕ) (T : ℤ) (ns : List ℤ) (n : ℕ) (e : Curves n ≡ checked
   all = curvesIn Outline ns n
 
   pub readable : Readable (lists m) Outline ns n
-  readable = given-read Outline 4096 1048576 m ns (omega arith) e .readable
+  readable = given-read Outline 4096 1048576 m ns [] (omega arith) e .readable
 
   is : outlined 4096 m ns ≡ curves all
-  is = given-read Outline 4096 1048576 m ns (omega arith) e .is
+  is = given-read Outline 4096 1048576 m ns [] (omega arith) e .is
 
   count-all : length all ≡ n
   count-all = curves-count (readAt Outline ns) (nextOf Outline ns) n 0

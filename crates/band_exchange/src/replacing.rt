@@ -25,8 +25,18 @@ fn leaves_in(curve: &[i32], t: i64, m: usize) -> Walked
     requires { ⌜ (HasRows m) × (Readable (lists m) Outline (now curve) 1) ⌝ }
     ensures { λ r. ⌜ r ≡ walkedOf (lists m) t (curveAt (now (curve .entry)) 0) ⌝ }
 {
+    let no_numbers = [0.0];
     let mut none = [1i32; 1];
-    match band_curves(Form::Outline, curve, t, m, 1, 1048576, &mut none) {
+    match band_curves(
+        Form::Outline,
+        curve,
+        &no_numbers,
+        t,
+        m,
+        1,
+        1048576,
+        &mut none,
+    ) {
         Banded::Done {
             curves: _,
             leaves,
@@ -74,9 +84,11 @@ fn write_new(
     ensures { λ _. ⌜ now (records .exit) ≡ sets (now (records .entry)) place (recordsOf (lists m) number
         (curveAt (now (curve .entry)) 0) (endsOf (lists m) t (curveAt (now (curve .entry)) 0))) ⌝ }
 {
+    let no_numbers = [0.0];
     band_curves(
         Form::Outline,
         curve,
+        &no_numbers,
         t,
         m,
         1,

@@ -19,10 +19,10 @@ use Rattle.band_exchange.proofs.replacing.write_new.Statement.{statemen
 use Rattle.band_exchange.proofs.replacing.write_new.Tie as tie
 
 start : tie.Need-part-band-curves-start
-start c = omega (arith, c .pre .3)
+start c = omega (arith, c .before .pre .3)
 
 band-curves-requires : tie.Need-band-curves-requires
-band-curves-requires c κs = (c .before .pre .0, c .before .pre .1)
+band-curves-requires c κs = (c .before .before .pre .0, c .before .before .pre .1)
 
 -- the part of the list
 part-long : (c : tie.Start) → let a = c .args in length (take (a .over - a .place) (drop (a .place) (a .records .now))) ≡ a .over - a .place
@@ -32,11 +32,11 @@ part-long c =
 
 -- what banding leaves in it
 own : (c : tie.After-band-curves) →
-    let a = c .before .before .args in
-    c .band-curves .last .1 .1 .1 .1 .1 .1 .0
+    let a = c .before .before .before .args in
+    c .band-curves .last .1 .1 .1 .1 .1 .1 .1 .0
     ≡ recordsOf (lists (a .m)) 0 (curveAt (a .curve .now) 0) (endsOf (lists (a .m)) (a .t) (curveAt (a .curve .now) 0))
 own c =
-    let s = c .before .before in
+    let s = c .before .before .before in
     let a = s .args in
     let e = rw (toZ-ofZ (s .fits .t)) at (c .band-curves .ensures) in
     alone-written (a .m) (a .t) (curveAt (a .curve .now) 0) (a .n) (s .pre .2) (take (a .over - a .place) (drop (a .place) (a .records .now)))
@@ -44,16 +44,16 @@ own c =
 
 -- and so in the whole
 put : (c : tie.After-band-curves) →
-    let a = c .before .before .args in
-    putMid (a .place) (a .over - a .place) (a .records .now) (c .band-curves .last .1 .1 .1 .1 .1 .1 .0)
+    let a = c .before .before .before .args in
+    putMid (a .place) (a .over - a .place) (a .records .now) (c .band-curves .last .1 .1 .1 .1 .1 .1 .1 .0)
     ≡ sets (a .records .now) (a .place) (recordsOf (lists (a .m)) 0 (curveAt (a .curve .now) 0) (endsOf (lists (a .m)) (a .t) (curveAt (a .curve .now) 0)))
 put c =
-    let s = c .before .before in
+    let s = c .before .before .before in
     let a = s .args in
     let q = curveAt (a .curve .now) 0 in
     let rs = recordsOf (lists (a .m)) 0 q (endsOf (lists (a .m)) (a .t) q) in
     ap (putMid (a .place) (a .over - a .place) (a .records .now)) (own c)
-    ∙ part-written (a .records .now) rs (a .place) (a .over) (start s) (s .pre .4)
+    ∙ part-written (a .records .now) rs (a .place) (a .over) (start (c .before .before)) (s .pre .4)
     (omega (
       arith,
       s .pre .3,
@@ -63,17 +63,17 @@ put c =
     ))
 
 put-long : (c : tie.After-band-curves) →
-    let a = c .before .before .args in
-    length (putMid (a .place) (a .over - a .place) (a .records .now) (c .band-curves .last .1 .1 .1 .1 .1 .1 .0)) ≡ length (a .records .now)
+    let a = c .before .before .before .args in
+    length (putMid (a .place) (a .over - a .place) (a .records .now) (c .band-curves .last .1 .1 .1 .1 .1 .1 .1 .0)) ≡ length (a .records .now)
 put-long c =
-    let a = c .before .before .args in
+    let a = c .before .before .before .args in
     let q = curveAt (a .curve .now) 0 in
     ap length (put c) ∙ length-sets (a .records .now) (a .place) (recordsOf (lists (a .m)) 0 q (endsOf (lists (a .m)) (a .t) q))
 
 renumber-requires : tie.Need-renumber-requires
 renumber-requires c κs =
     let b = c .before .before in
-    let s = b .before .before in
+    let s = b .before .before .before in
     (omega (arith, put-long b, s .pre .3, s .pre .4), omega arith, s .pre .5)
 
 same-length : tie.Need-same-length
@@ -84,7 +84,7 @@ same-length c =
 returns : tie.Need-returns
 returns c =
     let b = c .before .before .before .before in
-    let s = b .before .before in
+    let s = b .before .before .before in
     let a = s .args in
     let q = curveAt (a .curve .now) 0 in
     let σ = lists (a .m) in
@@ -97,5 +97,5 @@ returns c =
 pub write-new-spec : {M : Type 1} → statement M
 write-new-spec =
     tie.close
-    (tie.spec (λ c. search needs) (λ c. omega (arith, c .pre .3)) start (λ c. search needs) band-curves-requires (λ c. search needs)
+    (tie.spec (λ c. search needs) (λ c. search needs) (λ c. omega (arith, c .before .pre .3)) start (λ c. search needs) band-curves-requires (λ c. search needs)
     (λ c. search needs) renumber-requires same-length returns)
