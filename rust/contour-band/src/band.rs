@@ -142,7 +142,7 @@ pub fn spline_band(points: &[i32], tolerance: i32, m: u32, records: &mut [i32]) 
 }
 
 /// An answer in numbers as a report or a refusal.
-fn report(answer: library::Answer) -> Result<Report, Refusal> {
+pub(crate) fn report(answer: library::Answer) -> Result<Report, Refusal> {
     if answer.refusal != 0 {
         return Err(Refusal::new(answer.refusal, answer.spot));
     }

@@ -6,7 +6,8 @@
 //! curve, m straight pieces with a box at each of their m + 1 ends. The caller chooses m, 1 to 8, or 3 to 8
 //! where a curve has degree 4 or 5. [`station_band`] does the same for the bench station, which takes less, and
 //! [`spline_band`] for a uniform cubic B-spline, given by its points. [`foretell`] says beforehand how many leaves
-//! an outline can have, and [`tightest`] at which tolerance it first has no more than so many.
+//! an outline can have, and [`tightest`] at which tolerance it first has no more than so many. [`exchange`] puts another
+//! curve in the place of one of a banded outline.
 //! [`leaves`] reads the records. [`judge`] says of a measured point whether it lies on what the boxes cover,
 //! [`judge_points`] of many at once, and [`band_and_judge`] bands and judges a point. [`quote`] says what the leaves
 //! cost. [`draw`] draws the convex hull of two boxes.
@@ -50,6 +51,7 @@
 
 mod band;
 mod cover;
+mod exchange;
 mod foretell;
 mod judge;
 mod leaf;
@@ -60,6 +62,7 @@ mod tightest;
 
 pub use band::{band, spline_band, station_band, Report, STATION_CURVES, STATION_LEAVES};
 pub use cover::{draw, VERTEX_ROOM};
+pub use exchange::{exchange, CURVE_LENGTH};
 pub use foretell::{foretell, Foretold};
 pub use judge::{band_and_judge, judge, judge_points, Judgement, Outcome, FARTHEST};
 pub use leaf::{leaves, record_length, Bounds, BoxBounds, Leaf};

@@ -60,6 +60,17 @@ pub enum Refusal {
         /// The first such node of the walk: 256 to 511, or 16 to 31 where the curve's degree is 4 or 5.
         node: u32,
     },
+    /// 22: the curve that is to be exchanged is not in the outline.
+    NoSuchCurve {
+        /// The number that was given.
+        number: usize,
+    },
+    /// 23: the records given are not those of the outline, or their count passes the list.
+    OtherRecords {
+        /// The first index at which they differ; where none does, the least of the count given, the list's length and the
+        /// count of the outline's records.
+        index: usize,
+    },
     /// 8: the lent list has fewer numbers than the leaves, the points or the curves need.
     TooFewRecords {
         /// How many leaves the outline has; each needs [`record_length`](crate::record_length) numbers. Of a list of
@@ -130,6 +141,8 @@ impl Refusal {
             Refusal::Pieces => 18,
             Refusal::TooManyLeaves { .. } => 19,
             Refusal::TooFewPieces { .. } => 20,
+            Refusal::NoSuchCurve { .. } => 22,
+            Refusal::OtherRecords { .. } => 23,
             Refusal::SplineLength { .. } => 24,
             Refusal::SplineCoordinate { .. } => 25,
             Refusal::TooManyRecords { .. } => 26,
@@ -148,7 +161,9 @@ impl Refusal {
             | Refusal::LeafListNumber { index }
             | Refusal::Gap { index }
             | Refusal::TooFewPieces { index }
+            | Refusal::OtherRecords { index }
             | Refusal::SplineCoordinate { index } => index as u64,
+            Refusal::NoSuchCurve { number } => number as u64,
             Refusal::CutShort { length }
             | Refusal::LeafListLength { length }
             | Refusal::SplineLength { length }
@@ -187,6 +202,8 @@ impl Refusal {
             18 => Refusal::Pieces,
             19 => Refusal::TooManyLeaves { leaves: place },
             20 => Refusal::TooFewPieces { index: place },
+            22 => Refusal::NoSuchCurve { number: place },
+            23 => Refusal::OtherRecords { index: place },
             24 => Refusal::SplineLength { length: place },
             25 => Refusal::SplineCoordinate { index: place },
             26 => Refusal::TooManyRecords { length: place },
@@ -217,6 +234,10 @@ impl fmt::Display for Refusal {
             }
             Refusal::TooWide { curve, node } => {
                 write!(f, "node {node} of curve {curve} is too wide after its last halving")
+            }
+            Refusal::NoSuchCurve { number } => write!(f, "the outline has no curve {number}"),
+            Refusal::OtherRecords { .. } => {
+                write!(f, "the records given are not those of the outline at this tolerance")
             }
             Refusal::TooFewRecords { leaves } => {
                 write!(f, "the list has no room for {leaves} leaves, points or depths")
@@ -251,7 +272,7 @@ mod tests {
     #[test]
     fn number_and_spot_are_what_the_library_answered() {
         let places = [0, 1, 17, 575, 32_767];
-        for number in (2..=10).chain(12..=13).chain([17, 19, 20, 24, 25, 26, 101]) {
+        for number in (2..=10).chain(12..=13).chain([17, 19, 20, 22, 23, 24, 25, 26, 101]) {
             for place in places {
                 // 6 has the spot 0 only.
                 let spot = if number == 6 { 0 } else { place };

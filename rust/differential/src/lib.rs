@@ -7,6 +7,7 @@ pub mod banding;
 pub mod covers;
 pub mod curves;
 pub mod drawing;
+pub mod exchanging;
 pub mod foretelling;
 pub mod judging;
 pub mod leaf_lists;

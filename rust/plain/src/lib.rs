@@ -3,11 +3,11 @@
 //!
 //! [`band`] encloses an outline of Bézier curves in boxes, with m pieces to a leaf, and [`station_band`] a small
 //! one; [`spline_band`] encloses a B-spline. [`foretell`] says beforehand how many leaves there can be, and [`tightest`]
-//! at which tolerance there are first no more than so many. [`judge`] says whether a point lies on what they cover,
-//! [`band_and_judge`] does both, and [`draw`] draws the hull of two boxes. [`text::answer`] is the text program. The
-//! modules follow the documents: the checks of an outline, of a degree and of m, the curves of a B-spline, halving, the
-//! rows and the enclosure, the walk; foretelling; the tightest band; the checks of a leaf list and a point, covers,
-//! judging; drawing; the lines of a text, its answer.
+//! at which tolerance there are first no more than so many. [`exchange`] puts another curve in the place of one of a banded
+//! outline. [`judge`] says whether a point lies on what they cover, [`band_and_judge`] does both, and [`draw`] draws the
+//! hull of two boxes. [`text::answer`] is the text program. The modules follow the documents: the checks of an outline, of a
+//! degree and of m, the curves of a B-spline, halving, the rows and the enclosure, the walk; foretelling; the tightest band;
+//! exchanging a curve; the checks of a leaf list and a point, covers, judging; drawing; the lines of a text, its answer.
 
 #![forbid(unsafe_code)]
 
@@ -22,6 +22,7 @@ mod enclosure;
 mod exact;
 #[cfg(test)]
 mod examples;
+mod exchange;
 mod foretell;
 mod form;
 mod hull;
@@ -37,6 +38,7 @@ pub mod text;
 mod tightest;
 
 pub use band::{band, spline_band, station_band, Report};
+pub use exchange::exchange;
 pub use foretell::{foretell, Foretold};
 pub use hull::draw;
 pub use judge::{band_and_judge, judge, judge_points, Judgement};

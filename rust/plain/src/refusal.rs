@@ -97,6 +97,16 @@ pub enum Refusal {
         /// Where the degree stands in the outline.
         index: usize,
     },
+    /// 22: the curve to exchange is not in the outline.
+    NoSuchCurve {
+        /// The number that was given.
+        number: usize,
+    },
+    /// 23: the records given are not those of the outline, or are more than the list has.
+    OtherRecords {
+        /// Where they first differ, or the shortest of their count, the list and the outline's own records.
+        index: usize,
+    },
     /// 24: a B-spline's list of points has an odd count of numbers, too few or too many.
     SplineLength {
         /// The length of the list.
@@ -143,6 +153,8 @@ impl Refusal {
             Refusal::Pieces => 18,
             Refusal::TooManyLeaves { .. } => 19,
             Refusal::TooFewPieces { .. } => 20,
+            Refusal::NoSuchCurve { .. } => 22,
+            Refusal::OtherRecords { .. } => 23,
             Refusal::SplineLength { .. } => 24,
             Refusal::SplineCoordinate { .. } => 25,
             Refusal::TooManyRecords { .. } => 26,
@@ -161,7 +173,9 @@ impl Refusal {
             | Refusal::LeafListNumber { index }
             | Refusal::Gap { index }
             | Refusal::TooFewPieces { index }
+            | Refusal::OtherRecords { index }
             | Refusal::SplineCoordinate { index } => index,
+            Refusal::NoSuchCurve { number } => number,
             Refusal::CutShort { length }
             | Refusal::LeafListLength { length }
             | Refusal::SplineLength { length }
