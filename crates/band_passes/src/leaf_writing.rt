@@ -14,7 +14,7 @@ use crate::forms::read_at;
 use band_records::put_record;
 use band_records::put_record_higher;
 use bound_pieces::Pieces;
-use bound_tolerance_higher::Verdict;
+use bound_tolerance::Verdict;
 use curve_nodes::Curve;
 use walk_curve::Part;
 
@@ -67,15 +67,21 @@ fn write_low(
     loop {
         let node = part.node;
         let own = part.curve;
-        if bound_tolerance::meets(rows, pieces, own, curve_nodes::depth(node), t) {
+        let depth = curve_nodes::depth(node);
+        let met = match bound_tolerance::verdict_of(pieces, own, depth, t) {
+            Verdict::Narrow => true,
+            Verdict::Wide => false,
+            Verdict::Open => bound_tolerance::boxes_meet(rows, pieces, own, depth, t, t * t),
+        };
+        if met {
             put_record(records, place, number, node, rows, pieces, own);
             place += record_length;
-            part = part.after();
+            part = part.after_low();
             if part.node == 1 {
                 return place;
             }
         } else {
-            part = part.left();
+            part = part.left_low();
         }
     }
 }

@@ -1,13 +1,13 @@
--- The corners of the gaps: no break point is wider than both corners are, and where the corners are break points themselves, a node that is too wide
--- at one of them does not meet the tolerance. What the rows of one to eight pieces give for it is tested by computing.
-use mathlib.Core.Path.{_≡_, refl, subst}
+-- The corners of the gaps: no break point is wider than both corners are, and a node that is too wide at the break point of a corner does not meet
+-- the tolerance. What the rows of one to eight pieces give for it is tested by computing.
+use mathlib.Core.Path.{_≡_, refl, sym, ap, subst}
 use mathlib.Core.Bool.{Bool, true, false, cond, _&&_}
 use mathlib.Core.Logic.{_⊎_, inl, inr, ⊎-elim}
 use mathlib.Core.List.{List, [], _∷_}
 use Prim.Native.Nat.{ℕ, zero, suc, _+_, _-_, _*_, _≤_, _<_, max, suc-le-suc}
 use native.Mathlib.Nat.{le-refl, le-of-lt, mul-le-mul, max-eq-left, max-eq-right}
 use native.Mathlib.Omega.{arith}
-use lib.Dec.{T, leb, leb→le}
+use lib.Dec.{T, eqb, leb, eqb→eq, leb→le}
 use lib.IntN.{ℤ, pos, natAbs, _+ℤ_, _-ℤ_}
 use lib.ListN.{getD}
 use lib.Signed.{ltZ, _≤ℤ_, clashℤ}
@@ -25,7 +25,7 @@ use Rattle.bound_rows.specs.Rule.{gapOf}
 use Rattle.bound_rows.proofs.Degrees.{degrees}
 use Rattle.bound_enclosure.specs.AtDepth.{highOf, lowOf}
 use Rattle.bound_pieces.specs.Inside.{gapsAt, gapsSum, times, spreadOf, gapAt, widestAt, nearGap, farGap, cornerOf}
-use Rattle.bound_pieces.specs.Inside.{nearCorner, farCorner, sumsOf, exactOf}
+use Rattle.bound_pieces.specs.Inside.{nearCorner, farCorner, sumsOf, otherGap, nearPoint, farPoint, pointSum, exactOf}
 use Rattle.bound_node.specs.Boxes.{meets}
 use Rattle.bound_pieces.proofs.Boxes.{low-takes}
 use Rattle.bound_node.proofs.Narrow.{refuted, meets-narrow, narrow-meets}
@@ -61,17 +61,42 @@ gaps-tested : T (every-below 8 (λ n. every-below (suc (suc n)) (gapsFine (suc n
 unfolding table rowsOf gapOf largestOf nearGap farGap
 gaps-tested = tt
 
--- the break point whose gaps are the near corner, if any is; those of the far corner stand as far from the other end
+-- the break point of the near corner; that of the far corner stands as far from the other end
 abbrev cornerAt : (m d : ℕ) → ℕ
 cornerAt m d = cond (leb d 2) 1 (widestAt m)
 
-abbrev exactFine : (m d : ℕ) → Bool
-exactFine m d = leb (cornerAt m d) m && cond (exactOf m d)
-    (under (nearCorner m d) (gapsAt (rowsOf m d) (cornerAt m d)) && under (farCorner m d) (gapsAt (rowsOf m d) (m - cornerAt m d))) true
+abbrev pointsFine : (m d : ℕ) → Bool
+pointsFine m d = leb (cornerAt m d) m
+    && (under (nearPoint m d) (gapsAt (rowsOf m d) (cornerAt m d)) && under (farPoint m d) (gapsAt (rowsOf m d) (m - cornerAt m d)))
 
-exact-tested : T (every-below 8 (λ n. every-below 4 (exactFine (suc n))))
-unfolding table rowsOf gapOf largestOf nearGap farGap cornerOf exactOf
-exact-tested = tt
+points-tested : T (every-below 8 (λ n. every-below 4 (pointsFine (suc n))))
+unfolding table rowsOf nearGap otherGap cornerOf gapOf largestOf
+points-tested = tt
+
+other-tested : T (every-below 8 (λ n. leb (otherGap (suc n)) (farGap (suc n))))
+unfolding table rowsOf gapOf largestOf nearGap farGap otherGap
+other-tested = tt
+
+-- the other gap there is at most that of the corner; where it is as large, the corner is a break point
+module _ (m : ℕ) (h : HasRows m) where
+  pub other-under : otherGap m ≤ farGap m
+  other-under = leb→le (otherGap m) (farGap m) (pieces-tested (λ m. leb (otherGap m) (farGap m)) other-tested m h)
+
+  none-less : (b : Bool) (n : ℕ) → times b * n ≡ 0 → n ≡ 0
+  none-less true n e = omega (arith, e)
+  none-less false n e = omega (arith, e)
+
+  exact-gap : (b : Bool) → exactOf b m 3 ≡ true → farGap m ≡ otherGap m
+  unfolding exactOf
+  exact-gap b e =
+      let none = none-less b (farGap m - otherGap m) (eqb→eq (times b * (farGap m - otherGap m)) 0 (subst T (sym e) tt)) in
+      omega (arith, other-under, none)
+
+  exact-corners : (b : Bool) (d : ℕ) → 1 ≤ d → d ≤ 3 → exactOf b m d ≡ true → (nearCorner m d ≡ nearPoint m d) × (farCorner m d ≡ farPoint m d)
+  unfolding cornerOf
+  exact-corners b = degrees (λ d. exactOf b m d ≡ true → (nearCorner m d ≡ nearPoint m d) × (farCorner m d ≡ farPoint m d))
+      (λ e. (refl, refl)) (λ e. (refl, refl))
+      (λ e. let g = exact-gap b e in (ap (λ b. nearGap m ∷ b ∷ []) g, ap (λ a. a ∷ nearGap m ∷ []) g))
 
 -- ---- the sum of gap × difference at a break point is at most that of one of the corners
 module _ (A B g h : ℕ) (first : g ≤ A) (second : h ≤ A) (both : g + h ≤ A + B) where
@@ -197,33 +222,37 @@ module _ (σ : Setting) (rows : HasRows (σ .pieces)) (tolerance : ℤ) {depth :
       (mul-le-mul (le-refl f) (under-sum (c .x) gs (gapsAt (rowsOf (σ .pieces) (c .degree)) i) 0 t))
       (mul-le-mul (le-refl f) (under-sum (c .y) gs (gapsAt (rowsOf (σ .pieces) (c .degree)) i) 0 t))
 
-  -- where the corners are break points: the one where x is the wider
-  module _ (exact : exactOf (σ .pieces) (c .degree) ≡ true) where
-    abbrev at : ℕ
-    at = cornerAt (σ .pieces) (c .degree)
+  -- at the break points of the corners
+  abbrev at : ℕ
+  at = cornerAt (σ .pieces) (c .degree)
 
-    abbrev one : Bool
-    one = under (nearCorner (σ .pieces) (c .degree)) (gapsAt (rowsOf (σ .pieces) (c .degree)) at)
+  abbrev one : Bool
+  one = under (nearPoint (σ .pieces) (c .degree)) (gapsAt (rowsOf (σ .pieces) (c .degree)) at)
 
-    abbrev other : Bool
-    other = under (farCorner (σ .pieces) (c .degree)) (gapsAt (rowsOf (σ .pieces) (c .degree)) (σ .pieces - at))
+  abbrev other : Bool
+  other = under (farPoint (σ .pieces) (c .degree)) (gapsAt (rowsOf (σ .pieces) (c .degree)) (σ .pieces - at))
 
-    passed : T (leb at (σ .pieces) && cond (exactOf (σ .pieces) (c .degree)) (one && other) true)
-    passed = below 4 (exactFine (σ .pieces))
-        (pieces-tested (λ m. every-below 4 (exactFine m)) exact-tested (σ .pieces) rows) (c .degree) (suc-le-suc few)
+  passed : T (leb at (σ .pieces) && (one && other))
+  passed = below 4 (pointsFine (σ .pieces))
+      (pieces-tested (λ m. every-below 4 (pointsFine m)) points-tested (σ .pieces) rows) (c .degree) (suc-le-suc few)
 
-    inside : at ≤ σ .pieces
-    inside = leb→le at (σ .pieces) (and-left (leb at (σ .pieces)) (cond (exactOf (σ .pieces) (c .degree)) (one && other) true) passed)
+  inside : at ≤ σ .pieces
+  inside = leb→le at (σ .pieces) (and-left (leb at (σ .pieces)) (one && other) passed)
 
-    both : T (one && other)
-    both = subst (λ b. T (cond b (one && other) true)) exact
-        (and-right (leb at (σ .pieces)) (cond (exactOf (σ .pieces) (c .degree)) (one && other) true) passed)
+  both : T (one && other)
+  both = and-right (leb at (σ .pieces)) (one && other) passed
 
-    -- n is the sum in y at that corner
-    pub wider-fails : {w n : ℕ} → w ≡ max (getD xs 0 0) (getD xs 1 0)
-        → ((getD xs 0 0 < getD xs 1 0) × (n ≡ getD ys 1 0)) ⊎ ((getD xs 1 0 ≤ getD xs 0 0) × (n ≡ getD ys 0 0))
-        → ltZ (squared tolerance) (squareOf w (c .degree * depth) +ℤ squareOf n (c .degree * depth)) ≡ true → meets σ tolerance depth c ≡ false
-    wider-fails ew (inl (l, en)) e = gaps-fail (farCorner (σ .pieces) (c .degree)) (σ .pieces - at) (omega arith) (and-right one other both)
-        (rw (ew, max-eq-right (le-of-lt l), en, ex, ey) at e)
-    wider-fails ew (inr (l, en)) e = gaps-fail (nearCorner (σ .pieces) (c .degree)) at inside (and-left one other both)
-        (rw (ew, max-eq-left l, en, ex, ey) at e)
+  pub point-fails : (last : Bool) → ltZ (squared tolerance)
+      (squareOf (pointSum (σ .sixths) (σ .pieces) (c .degree) last (c .x)) (c .degree * depth)
+      +ℤ squareOf (pointSum (σ .sixths) (σ .pieces) (c .degree) last (c .y)) (c .degree * depth)) ≡ true → meets σ tolerance depth c ≡ false
+  point-fails true e = gaps-fail (farPoint (σ .pieces) (c .degree)) (σ .pieces - at) (omega arith) (and-right one other both) e
+  point-fails false e = gaps-fail (nearPoint (σ .pieces) (c .degree)) at inside (and-left one other both) e
+
+  -- where the corners are break points: the one where x is the wider, and n is the sum in y there
+  pub wider-fails : exactOf (σ .sixths) (σ .pieces) (c .degree) ≡ true → {w n : ℕ} → w ≡ max (getD xs 0 0) (getD xs 1 0)
+      → ((getD xs 0 0 < getD xs 1 0) × (n ≡ getD ys 1 0)) ⊎ ((getD xs 1 0 ≤ getD xs 0 0) × (n ≡ getD ys 0 0))
+      → ltZ (squared tolerance) (squareOf w (c .degree * depth) +ℤ squareOf n (c .degree * depth)) ≡ true → meets σ tolerance depth c ≡ false
+  wider-fails exact ew (inl (l, en)) e = point-fails true
+      (rw (ew, max-eq-right (le-of-lt l), en, ex, ey, exact-corners (σ .pieces) rows (σ .sixths) (c .degree) (s .least) few exact .1) at e)
+  wider-fails exact ew (inr (l, en)) e = point-fails false
+      (rw (ew, max-eq-left l, en, ex, ey, exact-corners (σ .pieces) rows (σ .sixths) (c .degree) (s .least) few exact .0) at e)

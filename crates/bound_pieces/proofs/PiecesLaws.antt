@@ -26,7 +26,7 @@ use Rattle.bound_rows.proofs.Gaps.{ordered}
 use Rattle.bound_rows.proofs.Rule.{rows-ordered}
 use Rattle.bound_pieces.specs.declared.Pieces.{Pieces}
 use Rattle.bound_pieces.specs.declared.Gaps.{Gaps}
-use Rattle.bound_pieces.specs.Inside.{gapAt, widestAt, nearGap, gapsOf, piecesBy, piecesOf, settingOf}
+use Rattle.bound_pieces.specs.Inside.{gapAt, widestAt, nearGap, otherGap, gapsOf, piecesBy, piecesOf, settingOf}
 use Rattle.bound_pieces.specs.Inside.{SmallGaps}
 use Rattle.bound_pieces.proofs.Corners.{pieces-tested, many-tested, both-degrees}
 
@@ -100,13 +100,13 @@ module _ {m : ℕ} (h : HasRows m) where
     widest b e = ap (λ (t : Bool). cond t 1 0) (ap₂ ltb (sym ea₀) (sym ea₁) ∙ e)
 
     pub pieces-second : a₀ < a₁ → piecesBy m sixths s a₁ b₁ g q r ≡ piecesOf m sixths
-    unfolding piecesOf nearGap
+    unfolding piecesOf nearGap otherGap
     pieces-second l =
         let w = sym (widest true (lt-ltb _ _ l)) in
         λ j. piecesBy m sixths ((es ∙ single-is) j) ((ea₁ ∙ ap (gapAt m 3 0) w) j) ((eb₁ ∙ ap (gapAt m 3 1) w) j) (largest j) (eq j) (er j)
 
     pub pieces-first : a₁ ≤ a₀ → piecesBy m sixths s a₀ b₀ g q r ≡ piecesOf m sixths
-    unfolding piecesOf nearGap
+    unfolding piecesOf nearGap otherGap
     pieces-first l =
         let w = sym (widest false (le-ltb _ _ l)) in
         λ j. piecesBy m sixths ((es ∙ single-is) j) ((ea₀ ∙ ap (gapAt m 3 0) w) j) ((eb₀ ∙ ap (gapAt m 3 1) w) j) (largest j) (eq j) (er j)

@@ -87,9 +87,23 @@ abbrev pub sumsOf : (sixths : Bool) (m d : ℕ) → List ℤ → List ℕ
 sumsOf sixths m d cs =
     times sixths * gapsSum (nearCorner m d) 0 cs ∷ times sixths * gapsSum (farCorner m d) 0 cs ∷ []
 
+-- the gaps at the break point of a corner: A and the other one there, at most G − A, and the same from the other end
+unfoldable pub otherGap : ℕ → ℕ
+otherGap m = gapAt m 3 1 (widestAt m)
+
+abbrev pub nearPoint : (m d : ℕ) → List ℕ
+nearPoint m d = cornerOf m (nearGap m) (otherGap m) d
+
+abbrev pub farPoint : (m d : ℕ) → List ℕ
+farPoint m d = cornerOf m (otherGap m) (nearGap m) d
+
+-- the sum at one of the two, so multiplied
+abbrev pub pointSum : (sixths : Bool) (m d : ℕ) → (last : Bool) → List ℤ → ℕ
+pointSum sixths m d last cs = times sixths * gapsSum (cond last (farPoint m d) (nearPoint m d)) 0 cs
+
 -- the gaps of the corners are those of break points
-unfoldable pub exactOf : (m d : ℕ) → Bool
-exactOf m d = cond (ltb d 3) true (eqb (gapAt m 3 1 (widestAt m)) (farGap m))
+unfoldable pub exactOf : (sixths : Bool) (m d : ℕ) → Bool
+exactOf sixths m d = cond (ltb d 3) true (eqb (times sixths * (farGap m - otherGap m)) 0)
 
 -- what goes with degree 4 or 5: G, the first and the last gap at break point 0 and their sum; 0 for fewer pieces than
 -- they take
@@ -112,14 +126,14 @@ piecesBy m sixths single near other both quartic quintic = record {
   «single» = times sixths * single;
   «near» = times sixths * near;
   «far» = times sixths * (both - near);
-  «exact» = eqb other (both - near);
+  «less» = times sixths * (both - near - other);
   «quartic» = quartic;
   «quintic» = quintic;
 }
 
 unfoldable pub piecesOf : ℕ → Bool → Pieces
 piecesOf m sixths =
-    piecesBy m sixths (gapOf m 2) (nearGap m) (gapAt m 3 1 (widestAt m)) (gapOf m 3) (gapsOf m 4) (gapsOf m 5)
+    piecesBy m sixths (gapOf m 2) (nearGap m) (otherGap m) (gapOf m 3) (gapsOf m 4) (gapsOf m 5)
 
 -- the setting of lists that it goes with
 abbrev pub settingOf : Pieces → Setting

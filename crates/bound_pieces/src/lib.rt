@@ -8,8 +8,8 @@ ghost use Rattle.bound_row_table.specs.Inside.{rowPlace, Copied};
 ghost use Rattle.bound_pieces.specs.Inside.{times, gapAt, gapsOf, piecesBy, piecesOf};
 
 // The number of pieces; whether control values are sixths; the divisor, m times the scale of control values, and 5040
-// over it; the largest gap of degree 2 and the corner of degree 3, each times 6 over the scale of control values;
-// whether the corner's gaps are those of a break point; and the gaps of degrees 4 and 5.
+// over it; the largest gap of degree 2, the corner of degree 3, and by how much its second gap is less at the break
+// point that has its first, each times 6 over the scale of control values; and the gaps of degrees 4 and 5.
 pub struct Pieces {
     pub m: usize,
     pub sixths: bool,
@@ -18,7 +18,7 @@ pub struct Pieces {
     pub single: u64,
     pub near: u64,
     pub far: u64,
-    pub exact: bool,
+    pub less: u64,
     pub quartic: Gaps,
     pub quintic: Gaps,
 }
@@ -129,7 +129,7 @@ fn pieces_by(
     quartic: Gaps,
     quintic: Gaps,
 ) -> Pieces
-    requires { ⌜ (1 ≤ m) × (m ≤ 8) × (near ≤ both) × (single ≤ 18000) × (both ≤ 36000) ⌝ }
+    requires { ⌜ (1 ≤ m) × (m ≤ 8) × (near + other ≤ both) × (single ≤ 18000) × (both ≤ 36000) ⌝ }
     ensures { λ r. ⌜ r ≡ piecesBy m sixths single near other both quartic quintic ⌝ }
 {
     let far = both - near;
@@ -143,7 +143,7 @@ fn pieces_by(
         single: times * single,
         near: times * near,
         far: times * far,
-        exact: other == far,
+        less: times * (far - other),
         quartic,
         quintic,
     }

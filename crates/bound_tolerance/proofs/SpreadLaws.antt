@@ -1,11 +1,11 @@
 -- What the code of the spread computes: sums by the degree, and a sum rounded up.
-use mathlib.Core.Path.{_≡_, refl, _∙_, ap}
-use mathlib.Core.Bool.{Bool}
+use mathlib.Core.Path.{_≡_, refl, sym, _∙_, ap}
+use mathlib.Core.Bool.{Bool, true, false}
 use mathlib.Core.List.{List, [], _∷_}
 use Prim.Native.Nat.{ℕ, suc, _+_, _-_, _*_, _/_, _%_, _^_, _≤_, _<_, zero-le}
-use native.Mathlib.Nat.{add-zero, mul-zero, mul-comm, mul-add, mul-assoc, mul-le-mul, le-refl, le-trans, lt-of-le-of-lt, div-div-eq-div-mul, mod-eq-of-lt}
+use native.Mathlib.Nat.{add-zero, mul-zero, mul-comm, add-mul, mul-add, mul-assoc, mul-le-mul, le-refl, le-trans, lt-of-le-of-lt, div-div-eq-div-mul, mod-eq-of-lt}
 use native.Mathlib.Omega.{arith}
-use lib.Dec.{T, leb, leb→le, lit<, lit≤}
+use lib.Dec.{T, eqb, leb, leb→le, lit<, lit≤}
 use lib.Pow.{pow-mono, pow-pos}
 use lib.IntN.{ℤ, pos, natAbs}
 use lib.ListN.{getD}
@@ -27,10 +27,10 @@ use Rattle.setting.specs.Setting.{HasRows}
 use Rattle.bound_rows.specs.Rule.{gapOf}
 use Rattle.bound_rows.proofs.Rule.{gap-most}
 use Rattle.bound_pieces.specs.declared.Pieces.{Pieces}
-use Rattle.bound_pieces.specs.Inside.{gapsSum, times, spreadOf, nearGap, farGap, cornerOf, sumsOf, exactOf}
+use Rattle.bound_pieces.specs.Inside.{gapsSum, times, spreadOf, nearGap, farGap, otherGap, cornerOf, sumsOf, pointSum, exactOf}
 use Rattle.bound_pieces.specs.Inside.{gapsOf, piecesBy, piecesOf}
 use Rattle.bound_pieces.proofs.Apart.{up-most, times-most}
-use Rattle.bound_pieces.proofs.Corners.{pieces-tested}
+use Rattle.bound_pieces.proofs.Corners.{pieces-tested, other-under}
 
 pub same-size : {B r : ℕ} {z : ℤ} → r ≡ natAbs z → Small B z → (r ≡ natAbs z) × (r ≤ B)
 same-size e h = (e, rw e (h .size))
@@ -82,6 +82,9 @@ module _ (m : ℕ) (h : HasRows m) where
   unfolding farGap
   far-most = omega (arith, gap-most m 3 h (lit≤ tt) refl)
 
+  other-most : otherGap m ≤ 7500
+  other-most = le-trans (other-under m h) far-most
+
 module _ {p : Pieces} (h : HasRows (p .m)) (e : p ≡ piecesOf (p .m) (p .sixths)) where
   pub single-is : p .single ≡ times (p .sixths) * gapOf (p .m) 2
   unfolding piecesOf piecesBy
@@ -95,9 +98,13 @@ module _ {p : Pieces} (h : HasRows (p .m)) (e : p ≡ piecesOf (p .m) (p .sixths
   unfolding piecesOf piecesBy farGap
   far-is = ap (λ q. q .far) e
 
-  pub exact-is : p .exact ≡ exactOf (p .m) 3
-  unfolding piecesOf piecesBy farGap exactOf
-  exact-is = ap (λ q. q .exact) e
+  pub less-is : p .less ≡ times (p .sixths) * (farGap (p .m) - otherGap (p .m))
+  unfolding piecesOf piecesBy farGap
+  less-is = ap (λ q. q .less) e
+
+  pub exact-is : eqb (p .less) 0 ≡ exactOf (p .sixths) (p .m) 3
+  unfolding exactOf
+  exact-is = ap (λ n. eqb n 0) less-is
 
   pub quartic-is : p .quartic ≡ gapsOf (p .m) 4
   unfolding piecesOf piecesBy
@@ -115,6 +122,11 @@ module _ {p : Pieces} (h : HasRows (p .m)) (e : p ≡ piecesOf (p .m) (p .sixths
 
   pub far-under : p .far ≤ 45000
   far-under = rw far-is (mul-le-mul (times-most (p .sixths)) (far-most (p .m) h))
+
+  pub less-under : p .less ≤ 45000
+  less-under =
+      let most : farGap (p .m) - otherGap (p .m) ≤ 7500 = omega (arith, far-most (p .m) h) in
+      rw less-is (mul-le-mul (times-most (p .sixths)) most)
 
 -- a gap times the size of a difference
 pub product-under : {G g n : ℕ} → g ≤ G → n ≤ 2 ^ 46 → g * n ≤ G * 2 ^ 46
@@ -139,6 +151,25 @@ module _ (b : Bool) (m : ℕ) {d : ℕ} (cs : List ℤ) where
   unfolding gapsSum cornerOf
   cubic-sums e p q f g = simp (e, p, q, f, g, add-zero, mul-add, mul-assoc)
 
+-- ---- from the sum of a corner to that of its break point: its second gap is less there
+module _ (f : ℕ) {far other : ℕ} (h : other ≤ far) (a : ℕ) where
+  less-product : far * a ≡ other * a + (far - other) * a
+  less-product = let e : far ≡ other + (far - other) = omega (arith, h) in ap (λ n. n * a) e ∙ add-mul other (far - other) a
+
+  less-sum : (n k : ℕ) → n ≡ k + (far - other) * a → f * n ≡ f * k + f * (far - other) * a
+  less-sum n k e = ap (λ n. f * n) e ∙ mul-add f k ((far - other) * a) ∙ ap (λ q. f * k + q) (sym (mul-assoc f (far - other) a))
+
+module _ (b : Bool) {m : ℕ} (h : HasRows m) (cs : List ℤ) {ns : List ℕ} (e : ns ≡ sumsOf b m 3 cs) {u : ℕ} (eu : u ≡ times b * (farGap m - otherGap m)) where
+  pub first-less : {n : ℕ} → n ≡ natAbs (difference cs 0) → getD ns 1 0 ≡ pointSum b m 3 true cs + u * n
+  unfolding gapsSum cornerOf
+  first-less {n} en = rw (e, eu, en) (less-sum (times b) (other-under m h) (natAbs (difference cs 0)) _ _
+      (omega (arith, less-product (times b) (other-under m h) (natAbs (difference cs 0)))))
+
+  pub second-less : {n : ℕ} → n ≡ natAbs (difference cs 1) → getD ns 0 0 ≡ pointSum b m 3 false cs + u * n
+  unfolding gapsSum cornerOf
+  second-less {n} en = rw (e, eu, en) (less-sum (times b) (other-under m h) (natAbs (difference cs 1)) _ _
+      (omega (arith, less-product (times b) (other-under m h) (natAbs (difference cs 1)))))
+
 -- ---- how large the sums of a node are: each gap is at most 7500, and second differences are within 2^22 of a unit
 module _ (m : ℕ) (h : HasRows m) (W : ℕ) (cs : List ℤ) (each : (k : ℕ) → natAbs (difference cs k) ≤ W) where
   sum-under : {a b : ℕ} → a ≤ 7500 → b ≤ 7500 → (d : ℕ) → 1 ≤ d → d ≤ 3 → gapsSum (cornerOf m a b d) 0 cs ≤ 15000 * W
@@ -150,13 +181,19 @@ module _ (b : Bool) {m depth : ℕ} {c : Curve} (h : HasRows m) (s : Sized depth
   abbrev B : ℕ
   B = 6 * (2 ^ 36 * 2 ^ (c .degree * depth))
 
+  one-under : (cs : List ℤ) → Each (2 ^ 20 * 2 ^ (c .degree * depth)) cs → {u v : ℕ} → u ≤ 7500 → v ≤ 7500
+      → times b * gapsSum (cornerOf m u v (c .degree)) 0 cs ≤ B
+  one-under cs each hu hv = mul-le-mul (times-most b) (le-trans
+      (sum-under m h (4 * (2 ^ 20 * 2 ^ (c .degree * depth))) cs (difference-under each) hu hv (c .degree) (s .least) few) (omega arith))
+
   both-under : (cs : List ℤ) {ns : List ℕ} → Each (2 ^ 20 * 2 ^ (c .degree * depth)) cs → ns ≡ sumsOf b m (c .degree) cs
       → (getD ns 0 0 ≤ B) × (getD ns 1 0 ≤ B)
-  both-under cs each e = rw e (one (near-most m h) (far-most m h), one (far-most m h) (near-most m h))
-    where
-      one : {u v : ℕ} → u ≤ 7500 → v ≤ 7500 → times b * gapsSum (cornerOf m u v (c .degree)) 0 cs ≤ B
-      one hu hv = mul-le-mul (times-most b) (le-trans
-          (sum-under m h (4 * (2 ^ 20 * 2 ^ (c .degree * depth))) cs (difference-under each) hu hv (c .degree) (s .least) few) (omega arith))
+  both-under cs each e = rw e (one-under cs each (near-most m h) (far-most m h), one-under cs each (far-most m h) (near-most m h))
+
+  pub point-under : (last : Bool) (cs : List ℤ) → Each (2 ^ 20 * 2 ^ (c .degree * depth)) cs
+      → pointSum b m (c .degree) last cs ≤ 6 * (2 ^ 36 * 2 ^ (c .degree * depth))
+  point-under true cs each = one-under cs each (other-most m h) (near-most m h)
+  point-under false cs each = one-under cs each (near-most m h) (other-most m h)
 
   pub sums-under : {xs ys : List ℕ} → xs ≡ sumsOf b m (c .degree) (c .x) → ys ≡ sumsOf b m (c .degree) (c .y)
       → ((getD xs 0 0 ≤ 6 * (2 ^ 36 * 2 ^ (c .degree * depth))) × (getD xs 1 0 ≤ 6 * (2 ^ 36 * 2 ^ (c .degree * depth))))

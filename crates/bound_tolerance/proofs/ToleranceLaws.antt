@@ -1,17 +1,18 @@
 -- What the code of the test holds: whether the corners are break points, and the boxes, one break point after the other.
-use mathlib.Core.Path.{_≡_, sym, _∙_, ap, ap₂}
+use mathlib.Core.Path.{_≡_, sym, _∙_, ap, ap₂, subst}
 use mathlib.Core.Bool.{Bool, true, false, cond}
 use mathlib.Core.Logic.{⊎-elim}
 use mathlib.Core.List.{List}
-use Prim.Native.Nat.{ℕ, _+_, _*_, _≤_, _<_}
+use Prim.Native.Nat.{ℕ, _+_, _-_, _*_, _≤_, _<_}
 use native.Mathlib.Nat.{eq-or-lt-of-le}
 use native.Mathlib.Omega.{arith}
-use lib.Dec.{eqb}
+use lib.Dec.{T, eqb}
 use lib.IntN.{ℤ, _+ℤ_, _-ℤ_}
 use lib.Signed.{ltZ}
 use borrow.Author.Tests.{lt-ltb, le-ltb}
 use Rattle.setting.specs.Setting.{Setting}
 use Rattle.integers.specs.Squares.{squared}
+use Rattle.integers.proofs.Order.{lt-or-ge}
 use Rattle.integers.proofs.Ranges.{lt-no}
 use Rattle.curve_nodes.specs.declared.Curve.{Curve}
 use Rattle.curve_nodes.specs.Bounds.{Sized}
@@ -22,21 +23,24 @@ use Rattle.bound_coordinate.specs.Higher.{higherOf, higherLow, higherHigh}
 use Rattle.bound_coordinate.proofs.LowHigh.{low-is, high-is, higher-low-is, higher-high-is}
 use Rattle.bound_enclosure.specs.AtDepth.{lowOf, highOf}
 use Rattle.bound_pieces.specs.declared.Pieces.{Pieces}
-use Rattle.bound_pieces.specs.Inside.{gapAt, widestAt, farGap, exactOf, settingOf, Ready, acrossBy, higherAcrossBy}
+use Rattle.bound_pieces.specs.Inside.{times, farGap, otherGap, exactOf, settingOf, Ready, acrossBy, higherAcrossBy}
 use Rattle.bound_node.specs.Boxes.{boxAt, meets}
 use Rattle.bound_pieces.proofs.Boxes.{low-takes, many-takes}
 use Rattle.bound_pieces.proofs.PiecesLaws.{divisor-is}
 use Rattle.bound_node.proofs.Narrow.{diagonal, longer-wide, wide-fails, narrow-meets}
 
 -- ---- by the degree
-module _ (m : ℕ) {d : ℕ} where
-  pub exact-below : d < 3 → true ≡ exactOf m d
+module _ (sixths : Bool) (m : ℕ) {d : ℕ} where
+  pub exact-below : d < 3 → true ≡ exactOf sixths m d
   unfolding exactOf
-  exact-below h = ap (λ b. cond b true (eqb (gapAt m 3 1 (widestAt m)) (farGap m))) (sym (lt-ltb _ _ h))
+  exact-below h = ap (λ b. cond b true (eqb (times sixths * (farGap m - otherGap m)) 0)) (sym (lt-ltb _ _ h))
 
-  pub exact-cubic : 3 ≤ d → exactOf m 3 ≡ exactOf m d
+  pub exact-cubic : 3 ≤ d → exactOf sixths m 3 ≡ exactOf sixths m d
   unfolding exactOf
-  exact-cubic h = ap (λ b. cond b true (eqb (gapAt m 3 1 (widestAt m)) (farGap m))) (sym (le-ltb _ _ h))
+  exact-cubic h = ap (λ b. cond b true (eqb (times sixths * (farGap m - otherGap m)) 0)) (sym (le-ltb _ _ h))
+
+  pub inexact-cubic : exactOf sixths m d ≡ false → d ≤ 3 → d ≡ 3
+  inexact-cubic e few = ⊎-elim (λ l. absurd (subst T (exact-below l ∙ e) tt)) (λ l. omega (arith, l, few)) (lt-or-ge d 3)
 
 -- ---- the boxes, one break point after the other
 pub none-next : (f : ℕ → Bool) (n : ℕ) → ((j : ℕ) → j < n → f j ≡ false) → f n ≡ false → (j : ℕ) → j < n + 1 → f j ≡ false

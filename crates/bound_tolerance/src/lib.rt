@@ -6,13 +6,16 @@ ghost use lib.Signed.{ltZ};
 ghost use Rattle.setting.specs.Setting.{HasRows};
 ghost use Rattle.integers.specs.Squares.{squared};
 ghost use Rattle.curve_nodes.specs.Bounds.{Sized};
-ghost use Rattle.bound_coordinate.specs.Inside.{Small};
+ghost use Rattle.bound_coordinate.specs.Inside.{Small, Boundable};
 ghost use Rattle.bound_coordinate.specs.Terms.{ComputableAt};
-ghost use Rattle.bound_pieces.specs.Inside.{piecesOf, settingOf, exactOf, Ready, acrossBy};
+ghost use Rattle.bound_pieces.specs.Inside.{piecesOf, settingOf, exactOf, sumsOf, pointSum, Ready, acrossBy};
+ghost use Rattle.bound_tolerance.specs.Told.{Told};
 ghost use Rattle.bound_node.specs.Boxes.{meets};
+use crate::spread::size;
 use bound_coordinate::break_points::high_at;
 use bound_coordinate::break_points::low_at;
 use bound_coordinate::terms::Terms;
+use bound_coordinate::terms::difference_at;
 use bound_coordinate::terms::terms_of;
 use bound_pieces::Pieces;
 use bound_pieces::larger;
@@ -26,17 +29,6 @@ pub fn is_longer(width: i64, height: i64, square: i64) -> bool
     ensures { λ r. ⌜ r ≡ ltZ square (squared width +ℤ squared height) ⌝ }
 {
     square < width * width + height * height
-}
-
-// The corners of the degree are break points.
-fn is_exact(pieces: Pieces, degree: u32) -> bool
-    requires { ⌜ (HasRows (pieces .m)) × (pieces ≡ piecesOf (pieces .m) (pieces .sixths)) ⌝ }
-    ensures { λ r. ⌜ r ≡ exactOf (pieces .m) degree ⌝ }
-{
-    if degree < 3 {
-        return true;
-    }
-    pieces.exact
 }
 
 // The box at break point i is too long.
@@ -62,7 +54,14 @@ fn is_wide(
 }
 
 // The boxes at all break points are narrow. The square is that of the tolerance.
-fn boxes_meet(rows: &[i64], pieces: Pieces, curve: Curve, depth: u32, t: i64, square: i64) -> bool
+pub fn boxes_meet(
+    rows: &[i64],
+    pieces: Pieces,
+    curve: Curve,
+    depth: u32,
+    t: i64,
+    square: i64,
+) -> bool
     requires { ⌜ (Ready pieces (now rows)) × (Sized depth curve) × (curve .degree ≤ 3) × (depth ≤ 8)
         × (square ≡ squared t) ⌝ }
     ensures { λ r. ⌜ r ≡ meets (settingOf pieces) t depth curve ⌝ }
@@ -86,20 +85,47 @@ fn boxes_meet(rows: &[i64], pieces: Pieces, curve: Curve, depth: u32, t: i64, sq
     true
 }
 
-// The node meets the tolerance: its boxes at all break points are narrow. How far its lows and highs are apart before
-// rounding decides most nodes: no box is wider than the wider corner is, rounded up, and one more; where the corners
-// are break points, no box there is narrower than its corner. A tolerance beyond 2^27 is longer than every diagonal,
-// and so no square wraps.
-pub fn meets(rows: &[i64], pieces: Pieces, curve: Curve, depth: u32, t: i64) -> bool
-    requires { ⌜ (Ready pieces (now rows)) × (Sized depth curve) × (curve .degree ≤ 3) × (depth ≤ 8) ⌝ }
-    ensures { λ r. ⌜ r ≡ meets (settingOf pieces) t depth curve ⌝ }
+// The corners of the degree are break points.
+fn is_exact(pieces: Pieces, degree: u32) -> bool
+    requires { ⌜ (HasRows (pieces .m)) × (pieces ≡ piecesOf (pieces .m) (pieces .sixths)) ⌝ }
+    ensures { λ r. ⌜ r ≡ exactOf (pieces .sixths) (pieces .m) degree ⌝ }
 {
-    if t < -134217728 {
+    if degree < 3 {
         return true;
     }
-    if 134217728 < t {
-        return true;
+    pieces.less == 0
+}
+
+// The sum of one coordinate of degree 3 at the break point of a corner: that of the corner, less what its second gap has
+// more than the break point.
+fn sum_there(pieces: Pieces, c: [i64; 6], sums: [u64; 2], last: bool) -> u64
+    requires { ⌜ (HasRows (pieces .m)) × (pieces ≡ piecesOf (pieces .m) (pieces .sixths)) × (Boundable c 3)
+        × (sums ≡ sumsOf (pieces .sixths) (pieces .m) 3 c) ⌝ }
+    ensures { λ r. ⌜ r ≡ pointSum (pieces .sixths) (pieces .m) 3 last c ⌝ }
+{
+    let less = pieces.less;
+    if last {
+        sums[1] - less * size(difference_at(c, 0))
+    } else {
+        sums[0] - less * size(difference_at(c, 1))
     }
+}
+
+// What the gaps tell of a node.
+pub enum Verdict {
+    Narrow,
+    Wide,
+    Open,
+}
+
+// What the gaps tell of a node, by how far its lows and highs are apart before rounding: no box is wider than the wider
+// corner is, rounded up, and one more; at the break point of a corner no box is narrower than its sum, rounded up. That
+// of the corner where x is the wider is tried.
+fn verdict_by(pieces: Pieces, curve: Curve, depth: u32, t: i64) -> Verdict
+    requires { ⌜ (HasRows (pieces .m)) × (pieces ≡ piecesOf (pieces .m) (pieces .sixths)) × (Sized depth curve)
+        × (curve .degree ≤ 3) × (depth ≤ 8) × (Small (2 ^ 27) t) ⌝ }
+    ensures { λ r. ⌜ Told (settingOf pieces) t depth curve r ⌝ }
+{
     let square = t * t;
     let degree = curve.degree;
     let xs = curve.x;
@@ -115,15 +141,36 @@ pub fn meets(rows: &[i64], pieces: Pieces, curve: Curve, depth: u32, t: i64) -> 
     let width = crate::spread::whole(larger(x1, x2), more, shift);
     let height = crate::spread::whole(larger(y1, y2), more, shift);
     if !is_longer(width + 1, height + 1, square) {
-        return true;
+        return Verdict::Narrow;
     }
     if is_exact(pieces, degree) {
-        // the corner where x is the wider
         let there = if x1 < x2 { y2 } else { y1 };
         if is_longer(width, crate::spread::whole(there, more, shift), square) {
-            return false;
+            return Verdict::Wide;
         }
-        return boxes_meet(rows, pieces, curve, depth, t, square);
+        return Verdict::Open;
     }
-    boxes_meet(rows, pieces, curve, depth, t, square)
+    let last = x1 < x2;
+    let least_width = crate::spread::whole(sum_there(pieces, xs, x, last), more, shift);
+    let least_height = crate::spread::whole(sum_there(pieces, ys, y, last), more, shift);
+    if is_longer(least_width, least_height, square) {
+        return Verdict::Wide;
+    }
+    Verdict::Open
+}
+
+// Whether a node meets the tolerance, as far as the gaps tell. A tolerance beyond 2^27 is longer than every diagonal, and
+// so no square wraps.
+pub fn verdict_of(pieces: Pieces, curve: Curve, depth: u32, t: i64) -> Verdict
+    requires { ⌜ (HasRows (pieces .m)) × (pieces ≡ piecesOf (pieces .m) (pieces .sixths)) × (Sized depth curve)
+        × (curve .degree ≤ 3) × (depth ≤ 8) ⌝ }
+    ensures { λ r. ⌜ Told (settingOf pieces) t depth curve r ⌝ }
+{
+    if t < -134217728 {
+        return Verdict::Narrow;
+    }
+    if 134217728 < t {
+        return Verdict::Narrow;
+    }
+    verdict_by(pieces, curve, depth, t)
 }

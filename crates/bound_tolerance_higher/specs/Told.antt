@@ -1,21 +1,13 @@
 -- What the gaps tell of a node of degree 4 or 5. Only the contracts of functions inside cite what stands here; nothing
 -- of it is part of a public promise.
-use mathlib.Core.Path.{_≡_}
-use mathlib.Core.Bool.{true, false}
 use mathlib.Core.List.{List, [], _∷_}
 use Prim.Native.Nat.{ℕ, _+_, _-_, _*_, _^_, _≤_, max}
 use lib.IntN.{ℤ, pos, natAbs, _+ℤ_}
 use lib.ListN.{getD}
-use Rattle.setting.specs.Setting.{Setting}
 use Rattle.integers.specs.Squares.{squared}
-use Rattle.curve_nodes.specs.declared.Curve.{Curve}
 use Rattle.curve_nodes.specs.Differences.{difference}
-use Rattle.bound_coordinate.specs.Inside.{Small}
 use Rattle.bound_pieces.specs.declared.Gaps.{Gaps}
-use Rattle.bound_tolerance_higher.specs.declared.Verdict.{Verdict}
-use Rattle.bound_tolerance_higher.specs.declared.Verdict.the-variants.{Narrow, Wide, Open}
 use Rattle.bound_pieces.specs.Inside.{spreadOf, SmallGaps}
-use Rattle.bound_node.specs.Boxes.{meets}
 
 -- the sizes of the first two and the last two second differences
 abbrev pub sizesOf : (d : ℕ) → List ℤ → List ℕ
@@ -55,9 +47,3 @@ pub record SpreadAt (g : Gaps) (s : ℕ) (ns : List ℕ) : Type 0 where
   pub sizes : SmallSizes ns
   pub most : endOf g ns ≤ 2 ^ 36 * 2 ^ s
   pub shallow : s ≤ 24
-
--- what is told of a node at depth k is right; where nothing is told, no square of the tolerance wraps
-abbrev pub Told : Setting → ℤ → ℕ → Curve → Verdict → Type 0
-Told σ T k c Narrow = meets σ T k c ≡ true
-Told σ T k c Wide = meets σ T k c ≡ false
-Told σ T k c Open = Small (2 ^ 27) T

@@ -11,7 +11,8 @@ ghost use Rattle.bound_coordinate.specs.Higher.{HigherComputable};
 ghost use Rattle.bound_pieces.specs.Inside.{spreadOf, piecesOf, settingOf, gapsOf, Ready, higherAcrossBy};
 ghost use Rattle.bound_tolerance_higher.specs.Told.{sizesOf, mostOf, endOf, acrossAbove, acrossOf};
 ghost use Rattle.bound_pieces.specs.Inside.{SmallGaps};
-ghost use Rattle.bound_tolerance_higher.specs.Told.{SmallSizes, Spread, SpreadAt, Told};
+ghost use Rattle.bound_tolerance_higher.specs.Told.{SmallSizes, Spread, SpreadAt};
+ghost use Rattle.bound_tolerance.specs.Told.{Told};
 ghost use Rattle.bound_node.specs.Boxes.{meets};
 use bound_coordinate::higher::Higher;
 use bound_coordinate::terms::difference_at;
@@ -21,6 +22,7 @@ use bound_coordinate_higher::low_at;
 use bound_pieces::Gaps;
 use bound_pieces::Pieces;
 use bound_pieces::larger;
+use bound_tolerance::Verdict;
 use bound_tolerance::is_longer;
 use bound_tolerance::spread::size;
 use curve_nodes::Curve;
@@ -142,13 +144,6 @@ fn is_wide_at(gaps: Gaps, x: [u64; 2], y: [u64; 2], shift: u32, square: i64) -> 
     let width = whole_units(first * x[0] + second * x[1], more, shift);
     let height = whole_units(first * y[0] + second * y[1], more, shift);
     is_longer(width, height, square)
-}
-
-// What the gaps tell of a node.
-pub enum Verdict {
-    Narrow,
-    Wide,
-    Open,
 }
 
 // Whether a node meets the tolerance, as far as the gaps tell: by the most that its lows and highs can be apart, and

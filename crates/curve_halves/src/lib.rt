@@ -11,11 +11,21 @@ pub fn left_values(degree: u32, c: [i64; 6]) -> [i64; 6]
     ensures { λ r. ⌜ r ≡ padded (left degree c) ⌝ }
 {
     match degree {
+        4 => left_quartic(c),
+        5 => left_quintic(c),
+        _ => left_low(degree, c),
+    }
+}
+
+// One coordinate of the left half of a curve of degree 1 to 3.
+pub fn left_low(degree: u32, c: [i64; 6]) -> [i64; 6]
+    requires { ⌜ (1 ≤ degree) × (degree ≤ 3) × Each (2 ^ 44) c ⌝ }
+    ensures { λ r. ⌜ r ≡ padded (left degree c) ⌝ }
+{
+    match degree {
         1 => left_line(c),
         2 => left_quadratic(c),
-        3 => left_cubic(c),
-        4 => left_quartic(c),
-        _ => left_quintic(c),
+        _ => left_cubic(c),
     }
 }
 

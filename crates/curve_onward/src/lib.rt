@@ -12,11 +12,21 @@ pub fn onward_values(degree: u32, k: u32, c: [i64; 6]) -> [i64; 6]
     ensures { λ r. ⌜ r ≡ padded (onward degree k c) ⌝ }
 {
     match degree {
+        4 => onward_quartic(k, c),
+        5 => onward_quintic(k, c),
+        _ => onward_low(degree, k, c),
+    }
+}
+
+// One coordinate of a curve of degree 1 to 3 carried on.
+pub fn onward_low(degree: u32, k: u32, c: [i64; 6]) -> [i64; 6]
+    requires { ⌜ (1 ≤ degree) × (degree ≤ 3) × (k ≤ 7) × Each (2 ^ 44) c ⌝ }
+    ensures { λ r. ⌜ r ≡ padded (onward degree k c) ⌝ }
+{
+    match degree {
         1 => onward_line(k, c),
         2 => onward_quadratic(k, c),
-        3 => onward_cubic(k, c),
-        4 => onward_quartic(k, c),
-        _ => onward_quintic(k, c),
+        _ => onward_cubic(k, c),
     }
 }
 

@@ -20,9 +20,9 @@ use Rattle.curve_nodes.proofs.Coordinates.{node-degree}
 use Rattle.curve_nodes.proofs.Sizes.{node-sized, node-halvable}
 use Rattle.curve_nodes.proofs.Onward.{NextStretch, next-stretch, few-zeros, node-onward}
 use Rattle.bound_node.specs.Boxes.{meets}
-use Rattle.bound_tolerance_higher.specs.declared.Verdict.{Verdict}
-use Rattle.bound_tolerance_higher.specs.declared.Verdict.the-variants.{Narrow, Wide}
-use Rattle.bound_tolerance_higher.specs.Told.{Told}
+use Rattle.bound_tolerance.specs.declared.Verdict.{Verdict}
+use Rattle.bound_tolerance.specs.declared.Verdict.the-variants.{Narrow, Wide}
+use Rattle.bound_tolerance.specs.Told.{Told}
 use Rattle.walk_curve.specs.declared.Part.{Part}
 use Rattle.walk_curve.specs.Inside.{PartOf, Standing, leftPart, AfterOf}
 use Rattle.walk_curve.specs.Walked.{nodeMeets}

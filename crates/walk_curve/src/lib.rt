@@ -7,7 +7,7 @@ ghost use Rattle.curve_nodes.specs.Bounds.{Sized};
 ghost use Rattle.bound_pieces.specs.Inside.{Ready, settingOf};
 ghost use Rattle.walk_curve.specs.Inside.{Suits, Standing, leftPart, AfterOf, walkedOf};
 use bound_pieces::Pieces;
-use bound_tolerance_higher::Verdict;
+use bound_tolerance::Verdict;
 use curve_nodes::Curve;
 
 // Where a walk stands: a node, with the node's own curve. Every step follows from it alone, so no walk keeps a stack.
@@ -44,6 +44,34 @@ impl Part {
         let curve = own.onward(u32::trailing_zeros(next));
         Part { node, curve }
     }
+
+    // The left half of a part of a curve of degree 1 to 3.
+    pub fn left_low(self) -> Part
+        requires { ⌜ Standing self × (self .node < 2 ^ deepest (self .curve .degree)) × (self .curve .degree ≤ 3) ⌝ }
+        ensures { λ r. ⌜ r ≡ leftPart self ⌝ }
+    {
+        let here = self.node;
+        let own = self.curve;
+        let node = 2 * here;
+        let curve = own.left_low();
+        Part { node, curve }
+    }
+
+    // The part after one of a curve of degree 1 to 3; node 1 stands for the end.
+    pub fn after_low(self) -> Part
+        requires { ⌜ Standing self × (self .curve .degree ≤ 3) ⌝ }
+        ensures { λ r. ⌜ AfterOf self r ⌝ }
+    {
+        let last = self.node;
+        let own = self.curve;
+        let node = curve_nodes::after(last);
+        if node == 1 {
+            return Part { node, curve: own };
+        }
+        let next = last + 1;
+        let curve = own.onward_low(u32::trailing_zeros(next));
+        Part { node, curve }
+    }
 }
 
 // What the walk of a curve finds: how many leaves it has, or the first node at the last depth that does not meet the
@@ -75,9 +103,15 @@ fn walk_low(rows: &[i64], pieces: Pieces, curve: Curve, t: i64) -> Walked
     loop {
         let node = part.node;
         let own = part.curve;
-        if bound_tolerance::meets(rows, pieces, own, curve_nodes::depth(node), t) {
+        let depth = curve_nodes::depth(node);
+        let met = match bound_tolerance::verdict_of(pieces, own, depth, t) {
+            Verdict::Narrow => true,
+            Verdict::Wide => false,
+            Verdict::Open => bound_tolerance::boxes_meet(rows, pieces, own, depth, t, t * t),
+        };
+        if met {
             leaves += 1;
-            part = part.after();
+            part = part.after_low();
             if part.node == 1 {
                 return Walked::Leaves(leaves);
             }
@@ -85,7 +119,7 @@ fn walk_low(rows: &[i64], pieces: Pieces, curve: Curve, t: i64) -> Walked
             if 256 <= node {
                 return Walked::WideNode(node);
             }
-            part = part.left();
+            part = part.left_low();
         }
     }
 }

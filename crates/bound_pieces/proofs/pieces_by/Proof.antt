@@ -34,6 +34,12 @@ mul-t15 c =
     let far : s .args .both - s .args .near ≤ 36000 = omega (arith, s .pre .4) in
     omega (arith, mul-le-mul (c .before .times-of .ensures .1) far)
 
+mul-t17 : tie.Need-mul-t17
+mul-t17 c =
+    let s = c .before .before in
+    let less : s .args .both - s .args .near - s .args .other ≤ 36000 = omega (arith, s .pre .4) in
+    omega (arith, mul-le-mul (c .before .times-of .ensures .1) less)
+
 returns : tie.Need-returns
 unfolding piecesBy
 returns c = rw (c .unit-of .ensures .0, c .before .times-of .ensures .0)
@@ -41,4 +47,4 @@ returns c = rw (c .unit-of .ensures .0, c .before .times-of .ensures .0)
 pub pieces-by-spec : {M : Type 1} → statement M
 pieces-by-spec =
     tie.close
-    (tie.spec (λ c. search needs) (λ c κs. search needs) (λ c κs. search needs) mul-divisor div-t12 mul-t13 mul-t14 mul-t15 returns)
+    (tie.spec (λ c. search needs) (λ c κs. search needs) (λ c κs. search needs) mul-divisor div-t12 mul-t13 mul-t14 mul-t15 (λ c. search needs) mul-t17 returns)
