@@ -59,12 +59,12 @@ fn gap_for(pieces: Pieces, degree: u32) -> u64
 // box at depth j is at most bend over 3750 × 4^j wide and high, rounded down, and two more.
 fn leaves_by(bend: u64, t: i64) -> usize
     requires { ⌜ bend ≤ 90000 * 2 ^ 22 ⌝ }
-    ensures { λ r. ⌜ 0 < r → Reaches bend t r ⌝ }
+    ensures { λ r. ⌜ (0 < r → Reaches bend t r) ⌝ }
 {
-    if t < 2 {
+    if t < -134217728 {
         return 0;
     }
-    if 1048576 < t {
+    if 134217728 < t {
         return 0;
     }
     let square = t * t;
@@ -85,7 +85,7 @@ fn leaves_by(bend: u64, t: i64) -> usize
 fn most_leaves(pieces: Pieces, curve: Curve, t: i64) -> usize
     requires { ⌜ (HasRows (pieces .m)) × (pieces ≡ piecesOf (pieces .m) (pieces .sixths)) × (Sized 0 curve)
         × (curve .degree ≤ 3) ⌝ }
-    ensures { λ r. ⌜ 0 < r → Few (settingOf pieces) t curve r ⌝ }
+    ensures { λ r. ⌜ (0 < r → Few (settingOf pieces) t curve r) ⌝ }
 {
     let degree = curve.degree;
     let bend = gap_for(pieces, degree) * largest_size(curve);
@@ -93,10 +93,17 @@ fn most_leaves(pieces: Pieces, curve: Curve, t: i64) -> usize
 }
 
 // Whether the curves of a list without faults surely have no more than `room` leaves, none of them too wide.
-pub fn surely_fit(pieces: Pieces, form: Form, ns: &[i32], t: i64, curves: usize, room: usize) -> bool
+pub fn surely_fit(
+    pieces: Pieces,
+    form: Form,
+    ns: &[i32],
+    t: i64,
+    curves: usize,
+    room: usize,
+) -> bool
     requires { ⌜ (HasRows (pieces .m)) × (pieces ≡ piecesOf (pieces .m) (pieces .sixths))
         × (Readable (settingOf pieces) form (now ns) curves) ⌝ }
-    ensures { λ r. ⌜ r ≡ true → Fits (settingOf pieces) t (curvesIn form (now (ns .entry)) curves) room ⌝ }
+    ensures { λ r. ⌜ (r ≡ true → Fits (settingOf pieces) t (curvesIn form (now (ns .entry)) curves) room) ⌝ }
 {
     let mut left = room;
     let mut at: usize = 0;
