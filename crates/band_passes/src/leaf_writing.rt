@@ -7,6 +7,7 @@ ghost use Rattle.setting.specs.Setting.{recordLength};
 ghost use Rattle.bound_pieces.specs.Inside.{Ready, settingOf};
 ghost use Rattle.walk_curve.specs.Walked.{endsOf};
 ghost use Rattle.band_records.specs.Records.{recordsOf, allRecords};
+ghost use Rattle.band_passes.specs.Leaves.{leavesOf};
 ghost use Rattle.band_passes.specs.Inside.{curvesIn, EndsMeet, Fillable};
 use crate::forms::Form;
 use crate::forms::next_of;
@@ -139,7 +140,7 @@ fn write_higher(
     }
 }
 
-// The records of every leaf of a list's curves, from the front of the lent list on.
+// The records of every leaf of a list's curves, from the front of the lent list on. It returns the place after them.
 pub fn write_all(
     records: &mut [i32],
     rows: &[i64],
@@ -148,10 +149,12 @@ pub fn write_all(
     ns: &[i32],
     t: i64,
     curves: usize,
-)
+) -> usize
     requires { ⌜ (Ready pieces (now rows))
         × (Fillable (settingOf pieces) t form (now ns) curves (length (now records))) ⌝ }
-    ensures { λ _. ⌜ now (records .exit) ≡ sets (now (records .entry)) 0
+    ensures { λ r. ⌜ r
+        ≡ recordLength (settingOf pieces) * leavesOf (settingOf pieces) t (curvesIn form (now (ns .entry)) curves) ⌝ }
+    ensures { λ r. ⌜ now (records .exit) ≡ sets (now (records .entry)) 0
         (allRecords (settingOf pieces) t 0 (curvesIn form (now (ns .entry)) curves)) ⌝ }
 {
     let mut at: usize = 0;
@@ -163,4 +166,5 @@ pub fn write_all(
         place = write_curve(records, place, rows, pieces, k as u32, curve, t);
         k += 1;
     }
+    place
 }
