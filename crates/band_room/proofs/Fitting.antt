@@ -1,4 +1,5 @@
--- The loop over the curves of a list: those done are not too wide, and what is left of the room has the leaves of the others to take.
+-- The loop over the curves of a list: those done are not too wide, and what is left of the room, with one leaf for each of the others, has their leaves
+-- to take.
 use mathlib.Core.Path.{_≡_, refl, sym, _∙_, ap}
 use mathlib.Core.List.{List, [], _∷_}
 use mathlib.Core.Option.{none}
@@ -20,7 +21,7 @@ use Rattle.band_room.specs.Inside.{Few, Fits}
 pub record Fitting (σ : Setting) (T : ℤ) (f : Form) (ns : List ℤ) (n room k at left : ℕ) : Type 0 where
   pub ahead : Rest σ f ns n k at
   pub passing : firstTooWide σ T 0 (curvesIn f ns n) ≡ firstTooWide σ T k (restOf f ns n k at)
-  pub few : leavesOf σ T (curvesIn f ns n) + left ≤ room + leavesOf σ T (restOf f ns n k at)
+  pub few : leavesOf σ T (curvesIn f ns n) + (left + (n - k)) ≤ room + leavesOf σ T (restOf f ns n k at)
 
 leaves-head : (σ : Setting) (T : ℤ) (c : Curve) (cs : List Curve) → leavesOf σ T (c ∷ cs) ≡ length (endsOf σ T c) + leavesOf σ T cs
 unfolding leavesOf
@@ -31,16 +32,17 @@ unfolding firstTooWide leavesOf
 none-left σ T k = (refl, refl)
 
 module _ {σ : Setting} {T : ℤ} {f : Form} {ns : List ℤ} {n room : ℕ} where
-  pub fitting-start : Readable σ f ns n → Fitting σ T f ns n room 0 0 room
-  fitting-start r = record {
+  pub fitting-start : Readable σ f ns n → n ≤ room → Fitting σ T f ns n room 0 0 (room - n)
+  fitting-start r l = record {
     ahead = rest-start r;
     passing = ap (firstTooWide σ T 0) (rest-begins f ns n);
     few = omega (arith, ap (leavesOf σ T) (rest-begins f ns n));
   }
 
   module _ {k at left : ℕ} (p : Fitting σ T f ns n room k at left) where
-    pub fitting-on : k < n → {c : Curve} → c ≡ readAt f ns at → {m : ℕ} → Few σ T c m → m ≤ left → Fitting σ T f ns n room (k + 1) (nextOf f ns at) (left - m)
-    fitting-on h {c} e {m} w l =
+    pub fitting-on : k < n → {c : Curve} → c ≡ readAt f ns at → {m : ℕ} → Few σ T c m → 1 ≤ m → m - 1 ≤ left
+        → Fitting σ T f ns n room (k + 1) (nextOf f ns at) (left - (m - 1))
+    fitting-on h {c} e {m} w some l =
         let x = rest-next (p .ahead) h in
         let here = rw e at w in
         let rest = restOf f ns n (k + 1) (nextOf f ns at) in

@@ -92,7 +92,8 @@ fn most_leaves(pieces: Pieces, curve: Curve, t: i64) -> usize
     leaves_by(bend, t)
 }
 
-// Whether the curves of a list without faults surely have no more than `room` leaves, none of them too wide.
+// Whether the curves of a list without faults surely have no more than `room` leaves, none of them too wide. What is left
+// of the room is counted with one leaf for each curve taken off, so that a list with just that room is soon known.
 pub fn surely_fit(
     pieces: Pieces,
     form: Form,
@@ -105,7 +106,10 @@ pub fn surely_fit(
         × (Readable (settingOf pieces) form (now ns) curves) ⌝ }
     ensures { λ r. ⌜ (r ≡ true → Fits (settingOf pieces) t (curvesIn form (now (ns .entry)) curves) room) ⌝ }
 {
-    let mut left = room;
+    if room < curves {
+        return false;
+    }
+    let mut left = room - curves;
     let mut at: usize = 0;
     let mut k: usize = 0;
     while k < curves {
@@ -118,10 +122,10 @@ pub fn surely_fit(
         if most < 1 {
             return false;
         }
-        if left < most {
+        if left < most - 1 {
             return false;
         }
-        left -= most;
+        left -= most - 1;
         k += 1;
     }
     true

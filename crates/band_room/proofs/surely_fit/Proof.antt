@@ -20,13 +20,16 @@ abbrev μ-loop : tie.MeasureT-loop
 μ-loop pieces form ns t curves room left₀ at₀ k₀ left at k = curves - k
 
 loop-holds : tie.Need-loop-holds Inv-loop μ-loop
-loop-holds c = fitting-start (c .pre .2)
+loop-holds c = fitting-start (c .before .pre .2) (c .if1 .left)
 
 read-at-requires : tie.Need-read-at-requires Inv-loop μ-loop
 read-at-requires c κs = rest-next (c .before .loop .inv .ahead) (c .loop-test .taken) .here .stands
 
 returns : tie.Need-returns Inv-loop μ-loop
 returns c = λ e. absurd (subst T (sym e) tt)
+
+returns-2 : tie.Need-returns-2 Inv-loop μ-loop
+returns-2 c = λ e. absurd (subst T (sym e) tt)
 
 next-of-requires : tie.Need-next-of-requires Inv-loop μ-loop
 next-of-requires c κs = let t = c .before .before .before in rest-next (t .before .loop .inv .ahead) (t .loop-test .taken) .here .stands
@@ -37,17 +40,17 @@ most-leaves-requires c κs =
     let r = e .before .before in
     let t = r .before in
     let x = rest-next (t .before .loop .inv .ahead) (t .loop-test .taken) .here in
-    let p = t .before .before .pre in
-    (p .0, p .1, rw (r .read-at .ensures) (x .sized), e .if1 .left)
-
-returns-2 : tie.Need-returns-2 Inv-loop μ-loop
-returns-2 c = λ e. absurd (subst T (sym e) tt)
+    let p = t .before .before .before .pre in
+    (p .0, p .1, rw (r .read-at .ensures) (x .sized), e .if2 .left)
 
 returns-3 : tie.Need-returns-3 Inv-loop μ-loop
 returns-3 c = λ e. absurd (subst T (sym e) tt)
 
+returns-4 : tie.Need-returns-4 Inv-loop μ-loop
+returns-4 c = λ e. absurd (subst T (sym e) tt)
+
 add-k : tie.Need-add-k Inv-loop μ-loop
-add-k c = omega (arith, c .before .before .before .before .before .before .before .before .before .pre .2 .few)
+add-k c = omega (arith, c .before .before .before .before .before .before .before .before .before .before .pre .2 .few)
 
 loop-again : tie.Need-loop-again Inv-loop μ-loop
 loop-again c =
@@ -56,14 +59,14 @@ loop-again c =
     let n = m .before in
     let r = n .before .before .before in
     let t = r .before in
-    rw (n .next-of .ensures) (fitting-on (t .before .loop .inv) (t .loop-test .taken) (r .read-at .ensures) (m .most-leaves .ensures (some .if2 .left))
-    (c .if3 .left))
+    rw (n .next-of .ensures) (fitting-on (t .before .loop .inv) (t .loop-test .taken) (r .read-at .ensures) (m .most-leaves .ensures (some .if3 .left))
+    (some .if3 .left) (c .if4 .left))
 
-returns-4 : tie.Need-returns-4 Inv-loop μ-loop
-returns-4 c = λ _. rw (toZ-ofZ (c .before .before .fits .t)) at (fitting-done (c .before .loop .inv) (c .loop-test .left))
+returns-5 : tie.Need-returns-5 Inv-loop μ-loop
+returns-5 c = λ _. rw (toZ-ofZ (c .before .before .before .fits .t)) at (fitting-done (c .before .loop .inv) (c .loop-test .left))
 
 pub surely-fit-spec : {M : Type 1} → statement M
 surely-fit-spec =
     tie.close
-    (tie.spec Inv-loop μ-loop loop-holds read-at-requires returns next-of-requires most-leaves-requires returns-2 returns-3 add-k
-    (λ c. omega arith) loop-again returns-4)
+    (tie.spec Inv-loop μ-loop returns loop-holds read-at-requires returns-2 next-of-requires most-leaves-requires returns-3 returns-4 (λ c. omega arith) add-k
+    (λ c. omega arith) loop-again returns-5)

@@ -4,7 +4,8 @@
 //! `operation ENGINE OPERATION INPUT TIMES`. ENGINE is plain, proved or sampled. OPERATION and INPUT are
 //! band with an outline, a number of curves or a depth where it has one, a tolerance and m, as in
 //! nominal:16:3, cubics-64:16:8 and arches-3:44:3, spline:16:3 a B-spline and splined:16:3 its curves as an
-//! outline; foretell with an outline, at any tolerance; judge with the place of
+//! outline; roomy with the same, and a list of as many records as are foretold; foretell with an outline, at any
+//! tolerance; judge with the place of
 //! the points and m, as in near:3, and with a number of curves where each is to have 256 leaves, as in near-4096:3;
 //! points, which judges TIMES points in one call, with the same, and with -scattered behind the place or the number
 //! where the records are to stand in no order, as in near-4096-scattered:3; with the place none it makes TIMES calls
@@ -23,7 +24,8 @@ fn main() -> ExitCode {
     let arguments: Vec<&str> = arguments.iter().map(String::as_str).collect();
     let done = match arguments[..] {
         [engine, operation, input, times] => times.parse().ok().and_then(|times| match operation {
-            "band" => band(engine, input, times),
+            "band" => band(engine, input, times, false),
+            "roomy" => band(engine, input, times, true),
             "foretell" => foretell(engine, input, times),
             "judge" => judge(engine, input, times),
             "points" => judge_points(engine, input, times),
@@ -33,7 +35,7 @@ fn main() -> ExitCode {
         _ => None,
     };
     if done.is_none() {
-        eprintln!("usage: operation plain|proved|sampled band|foretell|judge|points|draw INPUT TIMES");
+        eprintln!("usage: operation plain|proved|sampled band|roomy|foretell|judge|points|draw INPUT TIMES");
         return ExitCode::FAILURE;
     }
     ExitCode::SUCCESS
@@ -65,7 +67,14 @@ fn with_tolerance(input: &str) -> Option<(Vec<i32>, i32, u32)> {
     Some((outline, tolerance.parse().ok()?, m))
 }
 
-fn band(engine: &str, input: &str, times: usize) -> Option<()> {
+/// How many leaves to lend room for so that they need not be counted first: as many as are foretold, and where nothing
+/// is, as many as the curves can have.
+fn roomy(outline: &[i32], tolerance: i32, m: u32, curves: u64) -> Option<usize> {
+    let foretold = contour_band::foretell(outline, tolerance, m, &mut vec![0; curves as usize]).ok()?;
+    Some(foretold.map_or(256 * curves as usize, |foretold| foretold.leaves as usize))
+}
+
+fn band(engine: &str, input: &str, times: usize, lends_more: bool) -> Option<()> {
     let (outline, tolerance, m) = with_tolerance(input)?;
     let (plain_band, proved_band): (PlainBand, ProvedBand) = if input.starts_with("spline:") {
         (plain::spline_band, contour_band::spline_band)
@@ -81,6 +90,9 @@ fn band(engine: &str, input: &str, times: usize) -> Option<()> {
     let mut leaves = vec![0; report.curves as usize];
     for record in records.chunks_exact(record_length(m)) {
         leaves[record[0] as usize] += 1;
+    }
+    if lends_more {
+        records.resize(roomy(&outline, tolerance, m, report.curves)? * record_length(m), 0);
     }
     for _ in 0..times {
         let (outline, records) = (black_box(&outline[..]), black_box(&mut records[..]));
