@@ -92,8 +92,8 @@ fn most_leaves(pieces: Pieces, curve: Curve, t: i64) -> usize
     leaves_by(bend, t)
 }
 
-// Whether the curves of a list without faults surely have no more than `room` leaves, none of them too wide. What is left
-// of the room is counted with one leaf for each curve taken off, so that a list with just that room is soon known.
+// Whether the curves of a list without faults surely have no more than `room` leaves, none of them too wide. What is
+// left of the room is counted with one leaf for each curve taken off, so that a list with just that room is soon known.
 pub fn surely_fit(
     pieces: Pieces,
     form: Form,

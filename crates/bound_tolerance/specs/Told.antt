@@ -1,5 +1,5 @@
--- What the gaps tell of a node. Only the contracts of functions inside cite what stands here; nothing of it is part of a
--- public promise.
+-- What the gaps tell of a node. Only the contracts of functions inside cite what stands here; nothing of it is part of
+-- a public promise.
 use mathlib.Core.Path.{_≡_}
 use mathlib.Core.Bool.{true, false}
 use Prim.Native.Nat.{ℕ, _^_}

@@ -96,8 +96,8 @@ fn is_exact(pieces: Pieces, degree: u32) -> bool
     pieces.less == 0
 }
 
-// The sum of one coordinate of degree 3 at the break point of a corner: that of the corner, less what its second gap has
-// more than the break point.
+// The sum of one coordinate of degree 3 at the break point of a corner: that of the corner, less what its second gap
+// has more than the break point.
 fn sum_there(pieces: Pieces, c: [i64; 6], sums: [u64; 2], last: bool) -> u64
     requires { ⌜ (HasRows (pieces .m)) × (pieces ≡ piecesOf (pieces .m) (pieces .sixths)) × (Boundable c 3)
         × (sums ≡ sumsOf (pieces .sixths) (pieces .m) 3 c) ⌝ }
@@ -159,8 +159,8 @@ fn verdict_by(pieces: Pieces, curve: Curve, depth: u32, t: i64) -> Verdict
     Verdict::Open
 }
 
-// Whether a node meets the tolerance, as far as the gaps tell. A tolerance beyond 2^27 is longer than every diagonal, and
-// so no square wraps.
+// Whether a node meets the tolerance, as far as the gaps tell. A tolerance beyond 2^27 is longer than every diagonal,
+// and so no square wraps.
 pub fn verdict_of(pieces: Pieces, curve: Curve, depth: u32, t: i64) -> Verdict
     requires { ⌜ (HasRows (pieces .m)) × (pieces ≡ piecesOf (pieces .m) (pieces .sixths)) × (Sized depth curve)
         × (curve .degree ≤ 3) × (depth ≤ 8) ⌝ }

@@ -24,8 +24,8 @@ fn sides_fine(leaves: &[i32], at: usize, sides: usize) -> bool
     fine as usize == sides
 }
 
-// Whether every number of the record of m pieces that begins at index `at` is fine. Nothing here branches. As many sides
-// as make fours are looked at together, then the two that are left where m is even.
+// Whether every number of the record of m pieces that begins at index `at` is fine. Nothing here branches. As many
+// sides as make fours are looked at together, then the two that are left where m is even.
 fn record_fine(leaves: &[i32], m: usize, at: usize) -> bool
     requires { ⌜ (HasRows m) × (at + recordLength (lists m) ≤ length (now leaves)) ⌝ }
     ensures { λ r. ⌜ r ≡ recordFine (lists m) (now (leaves .entry)) at ⌝ }
