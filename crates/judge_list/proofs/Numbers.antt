@@ -149,6 +149,30 @@ module _ (σ : Setting) (ns : List ℤ) (at : ℕ) where
           ∙ shifted (inBoxes σ) (boxesFaultAt ns (at + 2) (inBoxes σ)))
 
 -- ---- a record at once
+in-turn : (a b c : Bool) → (a && (b && c)) ≡ ((a && b) && c)
+in-turn true b c = refl
+in-turn false b c = refl
+
+and-true : (a : Bool) → (a && true) ≡ a
+and-true true = refl
+and-true false = refl
+
+-- a + b sides are a of them and then b
+sides-parts : (ns : List ℤ) (at a b : ℕ) → (sidesFine ns at a && sidesFine ns (at + 2 * a) b) ≡ sidesFine ns at (a + b)
+sides-parts ns at a zero = and-true (sidesFine ns at a) ∙ ap (sidesFine ns at) {x = a} {y = a + 0} (omega arith)
+sides-parts ns at a (suc b) =
+    let low : at + 2 * a + 2 * b ≡ at + 2 * (a + b) = omega arith in
+    let high : at + 2 * a + suc (2 * b) ≡ at + suc (2 * (a + b)) = omega arith in
+    let last = sideFine (entry ns (at + 2 * a + 2 * b)) (entry ns (at + 2 * a + suc (2 * b))) in
+    in-turn (sidesFine ns at a) (sidesFine ns (at + 2 * a) b) last
+    ∙ (rw (low, high, sides-parts ns at a b) refl ∙ ap (sidesFine ns at) {x = suc (a + b)} {y = a + suc b} (omega arith))
+
+-- the sides in two parts, after what else is looked at
+pub sides-in-turn : (rest : Bool) (ns : List ℤ) (at a b : ℕ)
+    → ((rest && sidesFine ns at a) && sidesFine ns (at + 2 * a) b) ≡ (rest && sidesFine ns at (a + b))
+sides-in-turn rest ns at a b =
+    sym (in-turn rest (sidesFine ns at a) (sidesFine ns (at + 2 * a) b)) ∙ ap (λ all. rest && all) (sides-parts ns at a b)
+
 module _ (ns : List ℤ) (at : ℕ) where
   abbrev side : ℕ → Bool
   side i = sideFine (entry ns (at + 2 * i)) (entry ns (at + suc (2 * i)))

@@ -45,5 +45,5 @@ pub records-fine-spec : {M : Type 1} → statement M
 records-fine-spec =
     tie.close
     (tie.spec Inv-loop μ-loop (λ c. let h = c .pre .0 .most in search needs) (λ c. let h = c .pre .0 .most in search needs)
-    (λ c. read-none (lists (c .args .m)) (c .args .leaves .now)) (λ c κs. turn c .more) returns
+    (λ c. read-none (lists (c .args .m)) (c .args .leaves .now)) (λ c κs. (c .before .before .pre .0, turn c .more)) returns
     (λ c. let h = turn (c .before .before) .more in search needs) (λ c. omega arith) loop-again returns-2)
