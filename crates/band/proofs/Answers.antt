@@ -10,6 +10,7 @@ use borrow.Author.Tests.{lt-ltb, le-ltb}
 use lib.ListN.{length, length-append, drop}
 use lib.Seq.{sets, sets-eq}
 use lib.IntN.{ℤ, natAbs}
+use lib.Ieee.{Float}
 use Rattle.integers.specs.Entry.{entry}
 use Rattle.setting.specs.Setting.{Setting, listsOf, relimited, piecesFine, recordLength}
 use Rattle.setting.proofs.Pieces.{degree-takes}
@@ -20,6 +21,8 @@ use Rattle.curve_nodes.specs.Bounds.{Sized}
 use Rattle.outline.specs.Curves.{nextAt, curveAt}
 use Rattle.outline.proofs.Faultless.{faultless, curve-takes}
 use Rattle.outline.proofs.Steps.{outline-begins}
+use Rattle.outline_binary64.specs.Lists.{wholes, outlinedBinary64}
+use Rattle.outline_binary64.proofs.Named.{whole-curves}
 use Rattle.outline_splines.specs.Splines.{splineAt, splinesFrom, splineCount, splined}
 use Rattle.outline_splines.proofs.Accepted.{spline-sized, spline-degree, accepted, splines-count, splines-most}
 use Rattle.outline.specs.declared.Checked.the-variants.{Curves, Faulty}
@@ -33,11 +36,11 @@ use Rattle.band_passes.specs.declared.passes.Counted.the-variants.{Total, Stopp
 use Rattle.walk_curve.specs.Walked.{endsOf}
 use Rattle.band_records.specs.Records.{recordsOf, allRecords}
 use Rattle.band_passes.specs.declared.forms.Form.{Form}
-use Rattle.band_passes.specs.declared.forms.Form.the-variants.{Outline, Spline}
+use Rattle.band_passes.specs.declared.forms.Form.the-variants.{Outline, Binary64, Spline}
 use Rattle.band_passes.specs.Leaves.{firstTooWide, leavesOf, nodesOf}
 use Rattle.band.specs.Banding.{bandCurves, writtenBy, bandGiven, writtenGiven}
 use Rattle.band.specs.Inside.{givenOf, settingFor}
-use Rattle.band_passes.specs.Inside.{readAt, nextOf, curvesFrom, curvesIn, AllWalkable, end, more, Readable, countedOf, Fillable}
+use Rattle.band_passes.specs.Inside.{numbersOf, readAt, nextOf, curvesFrom, curvesIn, AllWalkable, end, more, Readable, countedOf, Fillable}
 use Rattle.band_passes.proofs.Reading.{curves-count}
 use Rattle.band_passes.proofs.Counting.{nodes-of-curves, few-leaves}
 use Rattle.band_records.proofs.Lengths.{records-length}
@@ -148,23 +151,29 @@ pub record Read (σ : Setting) (f : Form) (ns : List ℤ) (o : Outlined) (n : �
   pub readable : Readable (listed σ) f ns n
   pub is : o ≡ curves (curvesIn f ns n)
 
-outline-walkable : (m : ℕ) (ns : List ℤ) (n at : ℕ) (cs : List Curve) → outlineFrom n m ns at ≡ curves cs → length cs ≡ n
-    → AllWalkable (listsOf m false) Outline ns n at × (cs ≡ curvesFrom (curveAt ns) (nextAt ns) n at)
-outline-walkable m ns zero at [] e l = (end, refl)
-outline-walkable m ns zero at (c ∷ cs) e l = absurd (omega arith)
-outline-walkable m ns (suc n) at [] e l = absurd (omega arith)
-outline-walkable m ns (suc n) at (c ∷ cs) e l =
+whole-walkable : (m : ℕ) (ns : List ℤ) (n at : ℕ) (cs : List Curve) → outlineFrom n m ns at ≡ curves cs → length cs ≡ n
+    → AllWalkable (listsOf m false) Binary64 ns n at × (cs ≡ curvesFrom (curveAt ns) (nextAt ns) n at)
+whole-walkable m ns zero at [] e l = (end, refl)
+whole-walkable m ns zero at (c ∷ cs) e l = absurd (omega arith)
+whole-walkable m ns (suc n) at [] e l = absurd (omega arith)
+whole-walkable m ns (suc n) at (c ∷ cs) e l =
     let b = outline-begins (suc n) m ns at c cs e in
     let fine = faultless m ns at (b .no-fault) in
-    let rest = outline-walkable m ns n (nextAt ns at) cs
+    let rest = whole-walkable m ns n (nextAt ns at) cs
     (ap (λ k. outlineFrom k m ns (nextAt ns at)) {x = n} {y = suc n - 1} (omega arith) ∙ b .rest) (omega arith) in (
       more (record {
-        stands = (fine .degree, fine .ends);
+        stands = record { degree = fine .degree; ends = fine .ends; fine = fine .fine };
         sized = subst (Sized 0) (b .is) (accepted-head (suc n) m ns at c cs e);
         suits = record { takes = curve-takes fine; units = λ h. refl };
       }) (rest .0),
       ap₂ _∷_ (b .is) (rest .1),
     )
+
+-- a list of integers is asked for less
+outline-walkable : {σ : Setting} {ns : List ℤ} {n at : ℕ} → AllWalkable σ Binary64 ns n at → AllWalkable σ Outline ns n at
+outline-walkable end = end
+outline-walkable (more {at = at} w rest) =
+    more {at = at} (record { stands = (w .stands .degree, w .stands .ends); sized = w .sized; suits = w .suits }) (outline-walkable rest)
 
 spline-walkable : (m : ℕ) (ns : List ℤ) → ((k : ℕ) → natAbs (entry ns k) ≤ 131072) → (n at : ℕ) → at + 2 * n + 6 ≤ length ns
     → AllWalkable (listsOf m true) Spline ns n at
@@ -183,18 +192,26 @@ unfolding splinesFrom
 spline-curves ns zero at = refl
 spline-curves ns (suc n) at = ap (λ cs. splineAt ns at ∷ cs) (spline-curves ns n (at + 2))
 
+-- the curves of an outline, whose numbers stand in a list of integers or were read from one of f64
+wholes-read : (most leaves m : ℕ) (ns : List ℤ) {n : ℕ} → most ≤ 65536 → (cs : List Curve) → outlined most m ns ≡ curves cs → length cs ≡ n
+    → Readable (listsOf m false) Binary64 ns n × (cs ≡ curvesIn Binary64 ns n)
+wholes-read most leaves m ns {n} few cs e count =
+    let from = accepted-within most n m ns 0 cs (outlined-from most m ns cs e) (le-of-eq count) in
+    let w = whole-walkable m ns n 0 cs from count in
+    (record { all = w .0; few = omega (arith, few, accepted-most most m ns cs e, count) }, w .1)
+
 -- one law a form
-pub given-read : (f : Form) (most leaves m : ℕ) (ns : List ℤ) {n : ℕ} → most ≤ 65536 → Curves n ≡ checkedOf (givenOf f most m ns)
-    → Read (settingFor f most leaves m) f ns (givenOf f most m ns) n
-given-read Outline most leaves m ns {n} few e =
+pub given-read : (f : Form) (most leaves m : ℕ) (ns : List ℤ) (xs : List Float) {n : ℕ} → most ≤ 65536 → Curves n ≡ checkedOf (givenOf f most m ns xs)
+    → Read (settingFor f most leaves m) f (numbersOf f ns xs) (givenOf f most m ns xs) n
+given-read Outline most leaves m ns xs {n} few e =
     let a = checked-curves (outlined most m ns) n (sym e) in
-    let from = accepted-within most n m ns 0 (a .cs) (outlined-from most m ns (a .cs) (a .is)) (le-of-eq (a .count)) in
-    let w = outline-walkable m ns n 0 (a .cs) from (a .count) in
-    record {
-      readable = record { all = w .0; few = omega (arith, few, accepted-most most m ns (a .cs) (a .is), a .count) };
-      is = a .is ∙ ap curves (w .1);
-    }
-given-read Spline most leaves m ns {n} few e =
+    let r = wholes-read most leaves m ns few (a .cs) (a .is) (a .count) in
+    record { readable = record { all = outline-walkable (r .0 .all); few = r .0 .few }; is = a .is ∙ ap curves (r .1) }
+given-read Binary64 most leaves m ns xs {n} few e =
+    let a = checked-curves (outlinedBinary64 most m xs) n (sym e) in
+    let r = wholes-read most leaves m (wholes xs) few (a .cs) (whole-curves most m xs (a .cs) (a .is)) (a .count) in
+    record { readable = r .0; is = a .is ∙ ap curves (r .1) }
+given-read Spline most leaves m ns xs {n} few e =
     let a = checked-curves (splined ns) n (sym e) in
     let s = accepted ns (a .cs) (a .is) in
     let count : n ≡ splineCount (length ns) = sym (a .count) ∙ splines-count s in

@@ -1,26 +1,30 @@
--- The checks before the walk, 18, 1 to 6, 17, 20, 24 and 25, refuse with their own numbers: so the answer of banding shows whether a list passed
+-- The checks before the walk, 18, 1 to 6, 17, 20, 21, 24 and 25, refuse with their own numbers: so the answer of banding shows whether a list passed
 -- them.
-use mathlib.Core.Path.{_≡_, refl, ap, subst}
-use mathlib.Core.Bool.{Bool, true, false}
+use mathlib.Core.Path.{_≡_, refl, sym, ap, subst}
+use mathlib.Core.Bool.{Bool, true, false, not, _&&_}
 use mathlib.Core.Logic.{_⊎_, inl, inr, ⊎-elim}
 use mathlib.Core.List.{List, [], _∷_}
 use mathlib.Core.Option.{Option, none, some}
 use Prim.Native.Nat.{ℕ, zero, suc, _≤_}
 use native.Mathlib.Omega.{arith}
-use lib.Dec.{ltb, lit≤}
-use lib.ListN.{length}
+use lib.Dec.{ltb, eqb, lit≤}
+use lib.ListN.{length, getD}
 use lib.IntN.{ℤ}
+use lib.Ieee.{Float, nan}
 use Rattle.setting.specs.Setting.{Setting, piecesFine}
 use Rattle.refusals.specs.declared.Refusal.{Refusal}
 use Rattle.refusals.specs.declared.Refusal.the-variants.{Tolerance, Degree, CutShort, Coordinate, TooManyCurves, EmptyOutline, Gap, Pieces, DegreePieces}
-use Rattle.refusals.specs.declared.Refusal.the-variants.{SplineLength, SplineCoordinate}
-use Rattle.refusals.specs.Refusals.{numberOf}
+use Rattle.refusals.specs.declared.Refusal.the-variants.{NotWhole, SplineLength, SplineCoordinate}
+use Rattle.refusals.specs.Refusals.{numberOf, spotOf}
 use Rattle.curve_nodes.specs.declared.Curve.{Curve}
 use Rattle.outline.specs.Curves.{nextAt, curveAt}
 use Rattle.outline.specs.Faults.{faultAt}
 use Rattle.outline.proofs.Faultless.{Finding, no-degree, few-pieces, cut-short, beyond, gap, none-found, finding}
 use Rattle.outline.specs.Checks.{Outlined, curves, faulty, toleranceFine, withCurve, outlineFrom, outlined}
 use Rattle.band.specs.declared.banding.Banded.the-variants.{Refused}
+use Rattle.binary64.specs.Read.{wholeOf}
+use Rattle.outline_binary64.specs.Lists.{wholes, outlinedBinary64}
+use Rattle.outline_binary64.proofs.Named.{whole-fault}
 use Rattle.outline_splines.specs.Splines.{splinesFrom, splineCount, splineLengthFine, firstFar, splined}
 use Rattle.band.specs.Banding.{bandCurves, bandGiven}
 use Rattle.band.specs.Outcomes.{Clear}
@@ -82,6 +86,19 @@ pub outlined-early : (most m : ℕ) (ns : List ℤ) (r : Refusal) → outlined m
 unfolding outlined
 outlined-early most m [] r e = subst Early (faulty-is e) (early-at-most EmptyOutline (lit≤ tt))
 outlined-early most m (z ∷ ns) r e = outline-early most m (z ∷ ns) 0 r e
+
+-- ---- an outline in binary64: 21 beside those of an outline
+early-not-whole : (i : ℕ) → Early (NotWhole i)
+early-not-whole i = record { not-wide = λ e. omega arith; not-few = λ e. omega arith; not-many = λ e. omega arith }
+
+pub binary64-early : (most m : ℕ) (xs : List Float) (r : Refusal) → outlinedBinary64 most m xs ≡ faulty r → Early r
+binary64-early most m xs r e =
+    let f = whole-fault most m xs r e in
+    subst Early (sym (f .name)) (go (eqb (numberOf (f .own)) 4 && not (wholeOf (getD xs (spotOf (f .own)) nan))) (f .own) (outlined-early most m (wholes xs) (f .own) (f .is)))
+  where
+    go : (b : Bool) (q : Refusal) → Early q → Early (elim b [ true ↦ NotWhole (spotOf q) | false ↦ q ])
+    go true q h = early-not-whole (spotOf q)
+    go false q h = h
 
 -- ---- a list of points: 24 and 25
 early-spline : (n : ℕ) → Early (SplineLength n)

@@ -7,16 +7,19 @@ use Prim.Native.Nat.{ℕ, _≤_, _<_}
 use native.Mathlib.Omega.{arith}
 use lib.ListN.{length}
 use lib.IntN.{ℤ}
-use Rattle.setting.specs.Setting.{Setting, splines, degreePieces}
+use lib.Ieee.{Float}
+use Rattle.setting.specs.Setting.{Setting, lists, splines, degreePieces}
 use Rattle.setting.proofs.Pieces.{degree-takes}
 use Rattle.refusals.specs.declared.Refusal.{Refusal}
 use Rattle.curve_nodes.specs.declared.Curve.{Curve}
 use Rattle.curve_nodes.specs.Bounds.{Sized}
 use Rattle.outline.specs.Checks.{Outlined, curves, faulty, outlined}
 use Rattle.outline.proofs.Accepted.{outlined-from, accepted-most, accepted-some, accepted-all, accepted-pieces}
+use Rattle.outline_binary64.specs.Lists.{wholes, outlinedBinary64}
+use Rattle.outline_binary64.proofs.Named.{whole-curves}
 use Rattle.outline_splines.specs.Splines.{splined}
 use Rattle.outline_splines.proofs.Accepted.{accepted, splines-some, splines-most, splines-sized, splines-cubic}
-use Rattle.band.proofs.Faults.{Early, outlined-early, splined-early}
+use Rattle.band.proofs.Faults.{Early, outlined-early, binary64-early, splined-early}
 
 -- curves that banding takes in a setting
 pub record Taken (σ : Setting) (cs : List Curve) : Type 0 where
@@ -41,6 +44,13 @@ outline-given σ ns = record {
         sized = accepted-all (σ .most) (σ .pieces) ns 0 cs from;
         takes = accepted-pieces (σ .most) (σ .pieces) ns 0 cs from;
       };
+}
+
+-- an outline in binary64 gives the curves of the whole numbers read
+pub binary64-given : (m : ℕ) (xs : List Float) → Given (lists m) (outlinedBinary64 4096 m xs)
+binary64-given m xs = record {
+  early = binary64-early 4096 m xs;
+  taken = λ cs e. outline-given (lists m) (wholes xs) .taken cs (whole-curves 4096 m xs cs e);
 }
 
 pub spline-given : (m : ℕ) (ns : List ℤ) → Given (splines m) (splined ns)

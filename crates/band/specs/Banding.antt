@@ -1,5 +1,6 @@
 -- What banding answers in a setting, and what it leaves in the caller's list (document 01). What a caller gives is a
--- list of curves or the first fault of it: of an outline, or of a B-spline's points (request 13).
+-- list of curves or the first fault of it: of an outline, in integers or in binary64 (request 10), or of a B-spline's
+-- points (request 13).
 use mathlib.Core.Bool.{true, false}
 use mathlib.Core.List.{List, _++_}
 use mathlib.Core.Option.{Option, none, some}
@@ -7,11 +8,13 @@ use Prim.Native.Nat.{ℕ, _*_}
 use lib.Dec.{ltb}
 use lib.ListN.{length, drop}
 use lib.IntN.{ℤ}
-use Rattle.setting.specs.Setting.{Setting, splines, piecesFine, recordLength}
+use lib.Ieee.{Float}
+use Rattle.setting.specs.Setting.{Setting, lists, splines, piecesFine, recordLength}
 use Rattle.refusals.specs.declared.Refusal.{Refusal}
 use Rattle.refusals.specs.declared.Refusal.the-variants.{Tolerance, TooFewRecords, Pieces, TooManyLeaves}
 use Rattle.curve_nodes.specs.declared.Curve.{Curve}
 use Rattle.outline.specs.Checks.{toleranceFine, Outlined, curves, faulty, outlined}
+use Rattle.outline_binary64.specs.Lists.{outlinedBinary64}
 use Rattle.outline_splines.specs.Splines.{splined}
 use Rattle.band.specs.declared.banding.Banded.{Banded}
 use Rattle.band.specs.declared.banding.Banded.the-variants.{Done, Refused}
@@ -60,6 +63,13 @@ banded σ T ns room = bandGiven σ T (outlined (σ .most) (σ .pieces) ns) room
 
 abbrev pub written : Setting → ℤ → List ℤ → List ℤ → List ℤ
 written σ T ns old = writtenGiven σ T (outlined (σ .most) (σ .pieces) ns) old
+
+-- ---- an outline in binary64, and m pieces
+abbrev pub bandedBinary64 : ℕ → ℤ → List Float → ℕ → Banded
+bandedBinary64 m T xs room = bandGiven (lists m) T (outlinedBinary64 4096 m xs) room
+
+abbrev pub writtenBinary64 : ℕ → ℤ → List Float → List ℤ → List ℤ
+writtenBinary64 m T xs old = writtenGiven (lists m) T (outlinedBinary64 4096 m xs) old
 
 -- ---- the points of a B-spline, and m pieces
 abbrev pub bandedSpline : ℕ → ℤ → List ℤ → ℕ → Banded

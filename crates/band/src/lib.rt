@@ -5,6 +5,7 @@ ghost use lib.ListN.{length};
 ghost use Rattle.setting.specs.Setting.{lists, station, limited, piecesFine};
 ghost use Rattle.outline.specs.Inside.{checkedOf};
 ghost use Rattle.band.specs.Banding.{bandGiven, writtenGiven, banded, written, bandedSpline, writtenSpline};
+ghost use Rattle.band.specs.Banding.{bandedBinary64, writtenBinary64};
 ghost use Rattle.band.specs.Inside.{givenOf, settingFor};
 use crate::banding::Banded;
 use crate::outline_band::band_curves;
@@ -51,7 +52,36 @@ pub fn spline_band(points: &[i32], tolerance: i32, m: u32, records: &mut [i32]) 
     ensures { λ r. ⌜ now (records .exit)
         ≡ writtenSpline m tolerance (now (points .entry)) (now (records .entry)) ⌝ }
 {
-    band_list(Form::Spline, points, 4096, 1048576, tolerance, m, records)
+    let none = [0.0];
+    band_list(
+        Form::Spline,
+        points,
+        &none,
+        4096,
+        1048576,
+        tolerance,
+        m,
+        records,
+    )
+}
+
+// The same of an outline of at most 4,096 curves in binary64: degrees and coordinates are f64.
+pub fn binary64_band(outline: &[f64], tolerance: i32, m: u32, records: &mut [i32]) -> Banded
+    ensures { λ r. ⌜ r ≡ bandedBinary64 m tolerance (now (outline .entry)) (length (now (records .entry))) ⌝ }
+    ensures { λ r. ⌜ now (records .exit)
+        ≡ writtenBinary64 m tolerance (now (outline .entry)) (now (records .entry)) ⌝ }
+{
+    let none = [0];
+    band_list(
+        Form::Binary64,
+        &none,
+        outline,
+        4096,
+        1048576,
+        tolerance,
+        m,
+        records,
+    )
 }
 
 // The same of an outline that may have `most` curves and `leaves` leaves.
@@ -69,23 +99,35 @@ pub fn band_most(
     ensures { λ r. ⌜ now (records .exit)
         ≡ written (limited most leaves m) tolerance (now (outline .entry)) (now (records .entry)) ⌝ }
 {
-    band_list(Form::Outline, outline, most, leaves, tolerance, m, records)
+    let none = [0.0];
+    band_list(
+        Form::Outline,
+        outline,
+        &none,
+        most,
+        leaves,
+        tolerance,
+        m,
+        records,
+    )
 }
 
-// The checks of a list, by its form.
-fn check_list(form: Form, ns: &[i32], most: usize, m: u32) -> Checked
-    ensures { λ r. ⌜ r ≡ checkedOf (givenOf form most m (now (ns .entry))) ⌝ }
+// The checks of the list that is read, by its form.
+fn check_list(form: Form, ns: &[i32], xs: &[f64], most: usize, m: u32) -> Checked
+    ensures { λ r. ⌜ r ≡ checkedOf (givenOf form most m (now (ns .entry)) (now (xs .entry))) ⌝ }
 {
     match form {
         Form::Outline => outline_checks::check_outline(ns, most, m),
+        Form::Binary64 => outline_binary64::checks::check_outline(xs, most, m),
         Form::Spline => outline_splines::check_spline(ns),
     }
 }
 
-// The band of a list, by its form, that may have `most` curves and `leaves` leaves.
+// The band of the list that is read, by its form, that may have `most` curves and `leaves` leaves.
 fn band_list(
     form: Form,
     ns: &[i32],
+    xs: &[f64],
     most: usize,
     leaves: usize,
     tolerance: i32,
@@ -94,11 +136,11 @@ fn band_list(
 ) -> Banded
     requires { ⌜ most ≤ 65536 ⌝ }
     ensures { λ r. ⌜ r
-        ≡ bandGiven (settingFor form most leaves m) tolerance (givenOf form most m (now (ns .entry)))
+        ≡ bandGiven (settingFor form most leaves m) tolerance (givenOf form most m (now (ns .entry)) (now (xs .entry)))
         (length (now (records .entry))) ⌝ }
     ensures { λ r. ⌜ now (records .exit)
-        ≡ writtenGiven (settingFor form most leaves m) tolerance (givenOf form most m (now (ns .entry)))
-        (now (records .entry)) ⌝ }
+        ≡ writtenGiven (settingFor form most leaves m) tolerance
+        (givenOf form most m (now (ns .entry)) (now (xs .entry))) (now (records .entry)) ⌝ }
 {
     if !pieces_fine(m) {
         return Banded::Refused(Refusal::Pieces);
@@ -106,11 +148,12 @@ fn band_list(
     if !outline_checks::tolerance_fine(tolerance) {
         return Banded::Refused(Refusal::Tolerance);
     }
-    match check_list(form, ns, most, m) {
+    match check_list(form, ns, xs, most, m) {
         Checked::Faulty(refusal) => Banded::Refused(refusal),
         Checked::Curves(curves) => band_curves(
             form,
             ns,
+            xs,
             tolerance as i64,
             m as usize,
             curves,

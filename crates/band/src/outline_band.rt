@@ -5,7 +5,7 @@ ghost use Rattle.setting.specs.Setting.{listsOf, relimited, HasRows};
 ghost use Rattle.bound_pieces.specs.Inside.{Ready, settingOf};
 ghost use Rattle.band_records.specs.Records.{allRecords};
 ghost use Rattle.band.specs.Banding.{bandCurves, writtenBy};
-ghost use Rattle.band_passes.specs.Inside.{Readable, curvesIn, sixthsOf};
+ghost use Rattle.band_passes.specs.Inside.{numbersOf, Readable, curvesIn, sixthsOf};
 use crate::banding::Banded;
 use band_passes::forms::Form;
 use band_passes::forms::sixths_of;
@@ -22,20 +22,23 @@ fn band_by(
     pieces: Pieces,
     form: Form,
     ns: &[i32],
+    xs: &[f64],
     t: i64,
     curves: usize,
     most: usize,
     records: &mut [i32],
 ) -> Banded
-    requires { ⌜ (Ready pieces (now rows)) × (Readable (settingOf pieces) form (now ns) curves) ⌝ }
+    requires { ⌜ (Ready pieces (now rows))
+        × (Readable (settingOf pieces) form (numbersOf form (now ns) (now xs)) curves) ⌝ }
     ensures { λ r. ⌜ r
-        ≡ bandCurves (relimited (settingOf pieces) curves most) t (curvesIn form (now (ns .entry)) curves)
+        ≡ bandCurves (relimited (settingOf pieces) curves most) t
+        (curvesIn form (numbersOf form (now (ns .entry)) (now (xs .entry))) curves)
         (length (now (records .entry))) ⌝ }
     ensures { λ r. ⌜ now (records .exit)
-        ≡ writtenBy r (allRecords (settingOf pieces) t 0 (curvesIn form (now (ns .entry)) curves))
-        (now (records .entry)) ⌝ }
+        ≡ writtenBy r (allRecords (settingOf pieces) t 0
+        (curvesIn form (numbersOf form (now (ns .entry)) (now (xs .entry))) curves)) (now (records .entry)) ⌝ }
 {
-    match count(rows, pieces, form, ns, t, curves) {
+    match count(rows, pieces, form, ns, xs, t, curves) {
         Counted::Stopped(refusal) => Banded::Refused(refusal),
         Counted::Total(leaves) => {
             if most < leaves {
@@ -46,7 +49,7 @@ fn band_by(
             if records.len() < record_length * leaves {
                 return Banded::Refused(Refusal::TooFewRecords(leaves));
             }
-            write_all(records, rows, pieces, form, ns, t, curves);
+            write_all(records, rows, pieces, form, ns, xs, t, curves);
             let nodes = 2 * leaves - curves;
             Banded::Done {
                 curves,
@@ -62,22 +65,25 @@ fn band_by(
 pub fn band_curves(
     form: Form,
     ns: &[i32],
+    xs: &[f64],
     t: i64,
     m: usize,
     curves: usize,
     most: usize,
     records: &mut [i32],
 ) -> Banded
-    requires { ⌜ (HasRows m) × (Readable (listsOf m (sixthsOf form)) form (now ns) curves) ⌝ }
+    requires { ⌜ (HasRows m)
+        × (Readable (listsOf m (sixthsOf form)) form (numbersOf form (now ns) (now xs)) curves) ⌝ }
     ensures { λ r. ⌜ r
-        ≡ bandCurves (relimited (listsOf m (sixthsOf form)) curves most) t (curvesIn form (now (ns .entry)) curves)
+        ≡ bandCurves (relimited (listsOf m (sixthsOf form)) curves most) t
+        (curvesIn form (numbersOf form (now (ns .entry)) (now (xs .entry))) curves)
         (length (now (records .entry))) ⌝ }
     ensures { λ r. ⌜ now (records .exit)
-        ≡ writtenBy r (allRecords (listsOf m (sixthsOf form)) t 0 (curvesIn form (now (ns .entry)) curves))
-        (now (records .entry)) ⌝ }
+        ≡ writtenBy r (allRecords (listsOf m (sixthsOf form)) t 0
+        (curvesIn form (numbersOf form (now (ns .entry)) (now (xs .entry))) curves)) (now (records .entry)) ⌝ }
 {
     let mut rows = [m as i64; 297];
     bound_row_table::put_rows(&mut rows, m);
     let pieces = bound_pieces::pieces_of(&rows, m, sixths_of(form));
-    band_by(&rows, pieces, form, ns, t, curves, most, records)
+    band_by(&rows, pieces, form, ns, xs, t, curves, most, records)
 }

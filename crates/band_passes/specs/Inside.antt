@@ -7,38 +7,51 @@ use mathlib.Core.Option.{none, some}
 use Prim.Native.Nat.{ℕ, zero, suc, _+_, _*_, _≤_}
 use lib.ListN.{length}
 use lib.IntN.{ℤ}
+use lib.Ieee.{Float}
 use Rattle.setting.specs.Setting.{Setting, recordLength}
 use Rattle.integers.specs.Entry.{entry}
 use Rattle.curve_nodes.specs.declared.Curve.{Curve}
 use Rattle.curve_nodes.specs.Bounds.{Sized}
 use Rattle.outline.specs.Curves.{degreeFine, nextAt, curveAt}
+use Rattle.outline_binary64.specs.Lists.{wholes}
+use Rattle.outline_binary64.specs.Inside.{Stands}
 use Rattle.outline_splines.specs.Splines.{splineAt}
 use Rattle.walk_tree.specs.Tree.{firstFailing}
 use Rattle.walk_curve.specs.Walked.{nodeMeets, endsOf}
 use Rattle.walk_curve.specs.Inside.{Suits}
 use Rattle.band_passes.specs.declared.forms.Form.{Form}
-use Rattle.band_passes.specs.declared.forms.Form.the-variants.{Outline, Spline}
+use Rattle.band_passes.specs.declared.forms.Form.the-variants.{Outline, Binary64, Spline}
 use Rattle.band_passes.specs.declared.passes.Counted.{Counted}
 use Rattle.band_passes.specs.declared.passes.Counted.the-variants.{Total, Stopped}
 use Rattle.band_passes.specs.Leaves.{firstTooWide, leavesOf}
 
--- ---- what a list gives, by its form: the curve at an index, where the next one is, and whether its control values are
+-- ---- the numbers of a list, by its form: those of the list of integers, or the whole numbers read from that of f64
+abbrev pub numbersOf : Form → List ℤ → List Float → List ℤ
+numbersOf Outline ns xs = ns
+numbersOf Binary64 ns xs = wholes xs
+numbersOf Spline ns xs = ns
+
+-- ---- what they give, by their form: the curve at an index, where the next one is, and whether its control values are
 -- sixths
 abbrev pub readAt : Form → List ℤ → ℕ → Curve
 readAt Outline ns at = curveAt ns at
+readAt Binary64 ns at = curveAt ns at
 readAt Spline ns at = splineAt ns at
 
 abbrev pub nextOf : Form → List ℤ → ℕ → ℕ
 nextOf Outline ns at = nextAt ns at
+nextOf Binary64 ns at = nextAt ns at
 nextOf Spline ns at = at + 2
 
 abbrev pub sixthsOf : Form → Bool
 sixthsOf Outline = false
+sixthsOf Binary64 = false
 sixthsOf Spline = true
 
 -- there is a curve to be read
 abbrev pub StandsAt : Form → List ℤ → ℕ → Type 0
 StandsAt Outline ns at = (degreeFine (entry ns at) ≡ true) × (nextAt ns at ≤ length ns)
+StandsAt Binary64 ns at = Stands ns at
 StandsAt Spline ns at = at + 8 ≤ length ns
 
 -- n curves, read one after the other from an index on

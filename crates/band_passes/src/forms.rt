@@ -1,35 +1,25 @@
-// The forms of a list that gives curves, and one curve read from it.
+// The forms of a list that gives curves. Two lists are handed over, and the form says which of them is read: no enum
+// can hold a list.
 ghost use mathlib.Core.Path.{_≡_};
-ghost use Rattle.band_passes.specs.Inside.{readAt, nextOf, sixthsOf, StandsAt};
-use curve_nodes::Curve;
-use outline_reading::curve_values::curve_at;
+ghost use Rattle.band_passes.specs.Inside.{numbersOf, nextOf, sixthsOf, StandsAt};
+use outline_binary64::reading;
 use outline_reading::outline_curves::next_at;
-use outline_splines::spline_at;
 
-// An outline of Bézier curves, or the points of a B-spline.
+// An outline of Bézier curves, in integers or in binary64, or the points of a B-spline.
 pub enum Form {
     Outline,
+    Binary64,
     Spline,
 }
 
-// The curve at index `at`.
-pub fn read_at(form: Form, ns: &[i32], at: usize) -> Curve
-    requires { ⌜ StandsAt form (now ns) at ⌝ }
-    ensures { λ r. ⌜ r ≡ readAt form (now (ns .entry)) at ⌝ }
-{
-    match form {
-        Form::Outline => curve_at(ns, at),
-        Form::Spline => spline_at(ns, at),
-    }
-}
-
-// The index of the next.
-pub fn next_of(form: Form, ns: &[i32], at: usize) -> usize
-    requires { ⌜ StandsAt form (now ns) at ⌝ }
-    ensures { λ r. ⌜ r ≡ nextOf form (now (ns .entry)) at ⌝ }
+// The index of the curve after the one at index `at`.
+pub fn next_of(form: Form, ns: &[i32], xs: &[f64], at: usize) -> usize
+    requires { ⌜ StandsAt form (numbersOf form (now ns) (now xs)) at ⌝ }
+    ensures { λ r. ⌜ r ≡ nextOf form (numbersOf form (now (ns .entry)) (now (xs .entry))) at ⌝ }
 {
     match form {
         Form::Outline => next_at(ns, at),
+        Form::Binary64 => reading::next_at(xs, at),
         Form::Spline => at + 2,
     }
 }
@@ -40,6 +30,7 @@ pub fn sixths_of(form: Form) -> bool
 {
     match form {
         Form::Outline => false,
+        Form::Binary64 => false,
         Form::Spline => true,
     }
 }

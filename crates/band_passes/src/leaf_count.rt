@@ -1,27 +1,43 @@
 // The first pass over the curves of a list: it counts their leaves or finds a node that is still too wide.
 ghost use mathlib.Core.Path.{_≡_};
 ghost use Rattle.bound_pieces.specs.Inside.{Ready, settingOf};
-ghost use Rattle.band_passes.specs.Inside.{Readable, curvesIn, countedOf};
+ghost use Rattle.band_passes.specs.Inside.{numbersOf, Readable, curvesIn, countedOf};
 use crate::forms::Form;
 use crate::forms::next_of;
-use crate::forms::read_at;
 use crate::passes::Counted;
 use bound_pieces::Pieces;
+use outline_binary64::reading;
+use outline_reading::curve_values::curve_at;
+use outline_splines::spline_at;
 use refusals::Refusal;
 use walk_curve::Walked;
 use walk_curve::walk;
 
 // The leaves of a list without faults that has this many curves. The rows lent are those of the number of pieces.
-pub fn count(rows: &[i64], pieces: Pieces, form: Form, ns: &[i32], t: i64, curves: usize) -> Counted
-    requires { ⌜ (Ready pieces (now rows)) × (Readable (settingOf pieces) form (now ns) curves) ⌝ }
-    ensures { λ r. ⌜ r ≡ countedOf (settingOf pieces) t (curvesIn form (now (ns .entry)) curves) ⌝ }
+pub fn count(
+    rows: &[i64],
+    pieces: Pieces,
+    form: Form,
+    ns: &[i32],
+    xs: &[f64],
+    t: i64,
+    curves: usize,
+) -> Counted
+    requires { ⌜ (Ready pieces (now rows))
+        × (Readable (settingOf pieces) form (numbersOf form (now ns) (now xs)) curves) ⌝ }
+    ensures { λ r. ⌜ r ≡ countedOf (settingOf pieces) t
+        (curvesIn form (numbersOf form (now (ns .entry)) (now (xs .entry))) curves) ⌝ }
 {
     let mut leaves: usize = 0;
     let mut at: usize = 0;
     let mut k: usize = 0;
     while k < curves {
-        let curve = read_at(form, ns, at);
-        at = next_of(form, ns, at);
+        let curve = match form {
+            Form::Outline => curve_at(ns, at),
+            Form::Binary64 => reading::curve_at(xs, at),
+            Form::Spline => spline_at(ns, at),
+        };
+        at = next_of(form, ns, xs, at);
         match walk(rows, pieces, curve, t) {
             Walked::WideNode(node) => {
                 return Counted::Stopped(Refusal::TooWide {

@@ -7,15 +7,17 @@ ghost use Rattle.setting.specs.Setting.{recordLength};
 ghost use Rattle.bound_pieces.specs.Inside.{Ready, settingOf};
 ghost use Rattle.walk_curve.specs.Walked.{endsOf};
 ghost use Rattle.band_records.specs.Records.{recordsOf, allRecords};
-ghost use Rattle.band_passes.specs.Inside.{curvesIn, EndsMeet, Fillable};
+ghost use Rattle.band_passes.specs.Inside.{numbersOf, curvesIn, EndsMeet, Fillable};
 use crate::forms::Form;
 use crate::forms::next_of;
-use crate::forms::read_at;
 use band_records::put_record;
 use band_records::put_record_higher;
 use bound_pieces::Pieces;
 use bound_tolerance_higher::Verdict;
 use curve_nodes::Curve;
+use outline_binary64::reading;
+use outline_reading::curve_values::curve_at;
+use outline_splines::spline_at;
 use walk_curve::Part;
 
 // The records of a curve's leaves, from place `at` on. It returns the place after them. The rows lent are those of the
@@ -140,20 +142,26 @@ pub fn write_all(
     pieces: Pieces,
     form: Form,
     ns: &[i32],
+    xs: &[f64],
     t: i64,
     curves: usize,
 )
     requires { ⌜ (Ready pieces (now rows))
-        × (Fillable (settingOf pieces) t form (now ns) curves (length (now records))) ⌝ }
+        × (Fillable (settingOf pieces) t form (numbersOf form (now ns) (now xs)) curves (length (now records))) ⌝ }
     ensures { λ _. ⌜ now (records .exit) ≡ sets (now (records .entry)) 0
-        (allRecords (settingOf pieces) t 0 (curvesIn form (now (ns .entry)) curves)) ⌝ }
+        (allRecords (settingOf pieces) t 0
+        (curvesIn form (numbersOf form (now (ns .entry)) (now (xs .entry))) curves)) ⌝ }
 {
     let mut at: usize = 0;
     let mut place: usize = 0;
     let mut k: usize = 0;
     while k < curves {
-        let curve = read_at(form, ns, at);
-        at = next_of(form, ns, at);
+        let curve = match form {
+            Form::Outline => curve_at(ns, at),
+            Form::Binary64 => reading::curve_at(xs, at),
+            Form::Spline => spline_at(ns, at),
+        };
+        at = next_of(form, ns, xs, at);
         place = write_curve(records, place, rows, pieces, k as u32, curve, t);
         k += 1;
     }

@@ -3,6 +3,7 @@ ghost use mathlib.Core.Path.{_≡_};
 ghost use lib.ListN.{length};
 ghost use Rattle.setting.specs.Setting.{lists, station};
 ghost use Rattle.band.specs.Banding.{banded, written, bandedSpline, writtenSpline};
+ghost use Rattle.band.specs.Banding.{bandedBinary64, writtenBinary64};
 ghost use Rattle.band_foretold.specs.Foretelling.{foretold, depthsWritten};
 ghost use Rattle.band_tightest.specs.Tightest.{tightest};
 ghost use Rattle.judge_points.specs.Points.{pointsJudged, judgedInto};
@@ -85,6 +86,23 @@ pub extern "C" fn contour_spline_band(
         ≡ writtenSpline m tolerance (now (points .entry)) (now (records .entry)) ⌝ }
 {
     let banded = band::spline_band(points, tolerance, m, records);
+    in_numbers(banded)
+}
+
+// The same of an outline in binary64: degrees and coordinates are f64.
+#[no_mangle]
+pub extern "C" fn contour_binary64_band(
+    outline: &[f64],
+    tolerance: i32,
+    m: u32,
+    records: &mut [i32],
+) -> Answer
+    ensures { λ r. ⌜ r
+        ≡ bandAnswerOf (bandedBinary64 m tolerance (now (outline .entry)) (length (now (records .entry)))) ⌝ }
+    ensures { λ r. ⌜ now (records .exit)
+        ≡ writtenBinary64 m tolerance (now (outline .entry)) (now (records .entry)) ⌝ }
+{
+    let banded = band::binary64_band(outline, tolerance, m, records);
     in_numbers(banded)
 }
 

@@ -10,6 +10,7 @@ use native.Mathlib.Omega.{arith}
 use lib.Dec.{lit≤}
 use lib.ListN.{length, take}
 use lib.IntN.{ℤ, pos}
+use lib.Ieee.{Float}
 use Rattle.integers.specs.Entry.{entry}
 use Rattle.curve_nodes.specs.declared.Curve.{Curve}
 use Rattle.curve_halves.specs.Sizes.{Each}
@@ -25,6 +26,7 @@ use Rattle.walk_tree.proofs.Leaves.{end-facts}
 use Rattle.band.specs.declared.banding.Banded.the-variants.{Done}
 use Rattle.band_records.specs.Records.{recordOf, allRecords}
 use Rattle.band.specs.Banding.{bandGiven, writtenGiven, banded, written, bandedSpline, writtenSpline}
+use Rattle.band.specs.Banding.{bandedBinary64, writtenBinary64}
 use Rattle.band_records.specs.Ranges.{SoundList}
 use Rattle.band_passes.specs.Leaves.{leavesOf}
 use Rattle.band_passes.specs.Meeting.{AllMeet}
@@ -32,7 +34,7 @@ use Rattle.walk_depths.specs.Premise.{Flat}
 use Rattle.band_records.proofs.Sound.{record-curve, record-node}
 use Rattle.band_records.proofs.Standing.{Found, every-end-stands, every-record-stands}
 use Rattle.band.proofs.Theorems.{done-given, faultless-rows, records-given, leaves-exactly, every-parameter}
-use Rattle.band.proofs.Given.{Taken, Given, outline-given, spline-given}
+use Rattle.band.proofs.Given.{Taken, Given, outline-given, binary64-given, spline-given}
 use Rattle.band.proofs.ByPieces.{listed}
 use Rattle.band.proofs.Station.{done-listed, written-listed}
 use Rattle.band.proofs.Sound.{curves-leaves, curves-sound}
@@ -44,7 +46,7 @@ use Rattle.judge_list.specs.Checks.{numberFault}
 use Rattle.judge.specs.Judging.{judgingFault, Verdict, Judged}
 use Rattle.judge.proofs.Judgements.{judged-on}
 use Rattle.demand_3.specs.Meeting.{HeldAt}
-use Rattle.demand_3.specs.Demand3.{CurveOf, IsOn, Somewhere, Shallow, Demand3, GivenDemand3, OutlineDemand3, SplineDemand3}
+use Rattle.demand_3.specs.Demand3.{CurveOf, IsOn, Somewhere, Shallow, Demand3, GivenDemand3, OutlineDemand3, Binary64Demand3, SplineDemand3}
 use Rattle.demand_3.proofs.Passing.{coordinate-fine, none-refused}
 use Rattle.demand_3.proofs.Mixtures.{upP, upR, up-some}
 use Rattle.demand_3.proofs.Covers.{nodeBox, box-there, point-held, held-near}
@@ -189,6 +191,12 @@ pub demand-3 : (σ : Setting) (T : ℤ) (ns old : List ℤ) (a b c : ℕ) → ba
     → (x y : ℤ) (answer : Judgement) → Judged σ (take (recordLength σ * b) (written σ T ns old)) x y answer
     → OutlineDemand3 σ T ns (take (recordLength σ * b) (written σ T ns old)) x y answer
 demand-3 σ T ns = given-demand-3 σ T (outline-given σ ns)
+
+-- ---- of an outline in binary64
+pub binary64-demand-3 : (m : ℕ) (T : ℤ) (xs : List Float) (old : List ℤ) (a b c : ℕ) → bandedBinary64 m T xs (length old) ≡ Done a b c
+    → (x y : ℤ) (answer : Judgement) → Judged (lists m) (take (recordLength (lists m) * b) (writtenBinary64 m T xs old)) x y answer
+    → Binary64Demand3 m T xs (take (recordLength (lists m) * b) (writtenBinary64 m T xs old)) x y answer
+binary64-demand-3 m T xs = given-demand-3 (lists m) T (binary64-given m xs)
 
 -- ---- of a B-spline, whose leaves are judged as every leaf list is: judging does not know the scale of control values
 faults-same : (m : ℕ) (rs : List ℤ) (x y : ℤ) → judgingFault (lists m) rs x y ≡ judgingFault (splines m) rs x y

@@ -8,12 +8,14 @@ use native.Mathlib.Nat.{add-zero}
 use native.Mathlib.Omega.{arith}
 use lib.ListN.{length, take}
 use lib.IntN.{ℤ, pos}
+use lib.Ieee.{Float}
 use Rattle.integers.specs.Entry.{entry}
 use Rattle.integers.proofs.Clash.{clash}
 use Rattle.curve_nodes.specs.declared.Curve.{Curve}
 use Rattle.curve_nodes.specs.Points.{Equals}
 use Rattle.setting.specs.Setting.{Setting, lists, splines, scale, recordLength}
 use Rattle.outline.specs.Checks.{Outlined, outlined}
+use Rattle.outline_binary64.specs.Lists.{outlinedBinary64}
 use Rattle.outline_splines.specs.Splines.{splined}
 use Rattle.refusals.specs.declared.Refusal.{Refusal}
 use Rattle.refusals.specs.declared.Refusal.the-variants.{PointX, PointY}
@@ -21,6 +23,7 @@ use Rattle.refusals.specs.Refusals.{numberOf}
 use Rattle.boxes.specs.Ranges.{inRange}
 use Rattle.band.specs.declared.banding.Banded.the-variants.{Done}
 use Rattle.band.specs.Banding.{banded, written, bandedSpline, writtenSpline}
+use Rattle.band.specs.Banding.{bandedBinary64, writtenBinary64}
 use Rattle.judge.specs.declared.judging.Judgement.{Judgement}
 use Rattle.judge.specs.declared.judging.Judgement.the-variants.{On, Off, Refused}
 use Rattle.judge.specs.Judging.{pointFault, listFault, judgingFault, Judged}
@@ -32,7 +35,7 @@ use Rattle.judge_points.proofs.Faults.{points-fine, list-fine}
 use Rattle.judge_points.proofs.Consequences.{answer-of-point}
 use Rattle.demand_3.specs.Demand3.{CurveOf, IsOn, Somewhere, GivenDemand3}
 use Rattle.demand_3.specs.Points.{PointDemand3}
-use Rattle.demand_3.proofs.Demand3.{demand-3-listed, spline-demand-3}
+use Rattle.demand_3.proofs.Demand3.{demand-3-listed, binary64-demand-3, spline-demand-3}
 
 -- ---- 1 in front is said of points judged on alone: a point that is refused has 11 there
 eleven : (x y : ℤ) {r : Refusal} → pointFault x y ≡ some r → numberOf r ≡ 11
@@ -102,6 +105,15 @@ pub points-demand-3 : (σ : Setting) → σ .sixths ≡ false → σ .most ≤ l
 points-demand-3 σ units few T ns old a b c done ps lent n =
     each-point (lists (σ .pieces)) T (outlined (lists (σ .pieces) .most) (σ .pieces) ns) (take (recordLength σ * b) (written σ T ns old)) ps lent n
     (demand-3-listed σ units few T ns old a b c done)
+
+-- ---- those that it wrote for an outline in binary64
+pub binary64-points-demand-3 : (m : ℕ) (T : ℤ) (xs : List Float) (old : List ℤ) (a b c : ℕ) → bandedBinary64 m T xs (length old) ≡ Done a b c
+    → (ps lent : List ℤ) (n : ℕ)
+    → let leaves = take (recordLength (lists m) * b) (writtenBinary64 m T xs old) in pointsJudged (lists m) leaves ps (length lent) ≡ Points n
+    → (i : ℕ) → i < n → PointDemand3 (lists m) T (outlinedBinary64 4096 m xs) leaves ps (judgedInto (lists m) leaves ps lent) i
+binary64-points-demand-3 m T xs old a b c done ps lent n =
+    each-point (lists m) T (outlinedBinary64 4096 m xs) (take (recordLength (lists m) * b) (writtenBinary64 m T xs old)) ps lent n
+    (binary64-demand-3 m T xs old a b c done)
 
 -- ---- and those that it wrote for a B-spline
 pub spline-points-demand-3 : (m : ℕ) (T : ℤ) (ns old : List ℤ) (a b c : ℕ) → bandedSpline m T ns (length old) ≡ Done a b c

@@ -5,12 +5,14 @@ use mathlib.Core.List.{List, _∷_, _++_}
 use Prim.Native.Nat.{ℕ, _+_, _*_, _≤_, _<_}
 use lib.ListN.{length}
 use lib.IntN.{ℤ, pos}
+use lib.Ieee.{Float}
 use Rattle.integers.specs.Entry.{entry}
-use Rattle.setting.specs.Setting.{Setting, splines, scale, recordLength}
+use Rattle.setting.specs.Setting.{Setting, lists, splines, scale, recordLength}
 use Rattle.curve_nodes.specs.declared.Curve.{Curve}
 use Rattle.curve_nodes.specs.Nodes.{depth}
 use Rattle.curve_nodes.specs.Points.{Equals, Within}
 use Rattle.outline.specs.Checks.{Outlined, curves, outlined}
+use Rattle.outline_binary64.specs.Lists.{outlinedBinary64}
 use Rattle.outline_splines.specs.Splines.{splined}
 use Rattle.walk_depths.specs.Premise.{Flat}
 use Rattle.judge.specs.declared.judging.Judgement.{Judgement}
@@ -68,6 +70,10 @@ pub record GivenDemand3 (σ : Setting) (T : ℤ) (o : Outlined) (rs : List ℤ) 
 -- so of the outline ns
 abbrev pub OutlineDemand3 : Setting → ℤ → (ns rs : List ℤ) → (x y : ℤ) → Judgement → Type 0
 OutlineDemand3 σ T ns rs x y answer = GivenDemand3 σ T (outlined (σ .most) (σ .pieces) ns) rs x y answer
+
+-- of the outline in binary64 xs, whose curves are those of the whole numbers read
+abbrev pub Binary64Demand3 : ℕ → ℤ → List Float → (rs : List ℤ) → (x y : ℤ) → Judgement → Type 0
+Binary64Demand3 m T xs rs x y answer = GivenDemand3 (lists m) T (outlinedBinary64 4096 m xs) rs x y answer
 
 -- and of the B-spline of the points ns
 abbrev pub SplineDemand3 : ℕ → ℤ → (ns rs : List ℤ) → (x y : ℤ) → Judgement → Type 0

@@ -52,7 +52,7 @@ fn meets_before(ns: &[i32], at: usize) -> bool
 }
 
 // Check 20: whether a degree takes m pieces.
-fn takes_pieces(degree: u32, m: u32) -> bool
+pub fn takes_pieces(degree: u32, m: u32) -> bool
     ensures { λ r. ⌜ r ≡ degreePieces degree m ⌝ }
 {
     if degree <= 3 {

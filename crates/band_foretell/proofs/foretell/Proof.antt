@@ -1,5 +1,6 @@
 -- Foretelling, from the checks and the depths of the curves.
 use mathlib.Core.Path.{_≡_, sym, _∙_, ap, subst}
+use mathlib.Core.List.{[]}
 use mathlib.Core.Bool.{true}
 use Prim.Native.Nat.{ℕ, _^_, _≤_}
 use borrow.Author.Needs.{needs}
@@ -62,7 +63,7 @@ abbrev read : (k : tie.After-check-outline) {n : ℕ} → Curves n ≡ k .check-
     Read (lists (a .m)) Outline (a .outline .now) (outlined 4096 (a .m) (a .outline .now)) n
 read k e =
     let a = k .before .before .before .before .before .args in
-    given-read Outline 4096 1048576 (a .m) (a .outline .now) (lit≤ tt) (e ∙ k .check-outline .ensures)
+    given-read Outline 4096 1048576 (a .m) (a .outline .now) [] (lit≤ tt) (e ∙ k .check-outline .ensures)
 
 returns-3 : tie.Need-returns-3
 returns-3 c =

@@ -43,8 +43,8 @@ filled {B} z h n = record { under = each n }
 
 put-rows-requires : tie.Need-put-rows-requires
 put-rows-requires c κs =
-    let m = c .before .args .m in
-    let h = c .before .pre .0 in
+    let m = c .before .before .args .m in
+    let h = c .before .before .pre .0 in
     let e : toZ w64 m ≡ pos m = toZ-pos w64 (omega (arith, h .most)) in
     let small : natAbs (toZ w64 m) ≤ 5000 * m = rw e (omega arith) in
     (h, refl, filled (toZ w64 m) small 297)
@@ -53,7 +53,7 @@ band-by-requires : tie.Need-band-by-requires
 band-by-requires c κs =
     let x = c .before .before .before in
     let r = x .before .before .before in
-    let s = r .before .before in
+    let s = r .before .before .before in
     let m = s .args .m in
     let b = x .sixths-of .result in
     let p = c .before .before .pieces-of .ensures in
@@ -63,7 +63,7 @@ returns : tie.Need-returns
 returns c =
     let p = c .before .before .before .before in
     let x = p .before in
-    let s = x .before .before .before .before .before in
+    let s = x .before .before .before .before .before .before in
     let m = s .args .m in
     let b = x .sixths-of .result in
     let e = p .pieces-of .ensures in

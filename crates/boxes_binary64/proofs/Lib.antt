@@ -1,0 +1,4 @@
+pub mod Checked
+pub mod Handed
+pub mod Regain
+pub mod Sums
