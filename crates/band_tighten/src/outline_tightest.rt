@@ -15,8 +15,18 @@ fn too_tight(ns: &[i32], m: usize, curves: usize, most: usize, t: u32) -> bool
     requires { ⌜ (HasRows m) × (Readable (lists m) Outline (now ns) curves) ⌝ }
     ensures { λ r. ⌜ r ≡ tooTight (lists m) (curvesIn Outline (now (ns .entry)) curves) most t ⌝ }
 {
+    let none = [0.0];
     let mut lent = [0i32; 1];
-    match band_curves(Form::Outline, ns, t as i64, m, curves, most, &mut lent) {
+    match band_curves(
+        Form::Outline,
+        ns,
+        &none,
+        t as i64,
+        m,
+        curves,
+        most,
+        &mut lent,
+    ) {
         Banded::Refused(refusal) => refusal.number() != 8,
         Banded::Done {
             curves: _,

@@ -1,6 +1,7 @@
 -- The tightest band, from the checks and from that of the curves.
 use mathlib.Core.Path.{_≡_, sym, _∙_}
 use mathlib.Core.Bool.{true}
+use mathlib.Core.List.{[]}
 use Prim.Native.Nat.{ℕ}
 use borrow.Author.Needs.{needs}
 use borrow.Author.Tests.{not-true, not-false}
@@ -30,7 +31,7 @@ read : (k : tie.After-check-outline) {n : ℕ} → Curves n ≡ k .check-outline
     Read (lists (a .m)) Outline (a .outline .now) (outlined 4096 (a .m) (a .outline .now)) n
 read k e =
     let a = k .before .before .before .args in
-    given-read Outline 4096 1048576 (a .m) (a .outline .now) (lit≤ tt) (e ∙ k .check-outline .ensures)
+    given-read Outline 4096 1048576 (a .m) (a .outline .now) [] (lit≤ tt) (e ∙ k .check-outline .ensures)
 
 tightest-curves-requires : tie.Need-tightest-curves-requires
 tightest-curves-requires c κs =

@@ -19,7 +19,7 @@ returns : tie.Need-returns
 returns c =
     let n = c .before .before in
     let k = n .before .before .before in
-    let s = k .before .before in
+    let s = k .before .before .before in
     let a = s .args in
     let e : toZ w64 (a .t) ≡ pos (a .t) = toZ-pos w64 (omega (arith, s .fits .t)) in
     ap (λ i. not (eqb i 8)) (c .number .ensures)
@@ -29,7 +29,7 @@ returns c =
 returns-2 : tie.Need-returns-2
 returns-2 c =
     let k = c .before .before .before in
-    let s = k .before .before in
+    let s = k .before .before .before in
     let a = s .args in
     let e : toZ w64 (a .t) ≡ pos (a .t) = toZ-pos w64 (omega (arith, s .fits .t)) in
     tight-done (lists (a .m)) (curvesIn Outline (a .ns .now) (a .curves)) (a .most) (a .t) (a .curves) 1 _ _ _
@@ -38,5 +38,5 @@ returns-2 c =
 pub too-tight-spec : {M : Type 1} → statement M
 too-tight-spec =
     tie.close
-    (tie.spec (λ c. search needs) (λ c. search needs) (λ c κs. search needs) (λ c. search needs) (λ c κs. search needs) (λ c. search needs) returns
-    returns-2)
+    (tie.spec (λ c. search needs) (λ c. search needs) (λ c. search needs) (λ c κs. search needs) (λ c. search needs) (λ c κs. search needs)
+    (λ c. search needs) returns returns-2)
