@@ -6,9 +6,13 @@ ghost use Rattle.contour.specs.Tightest.{tightestAnswerOf};
 ghost use Rattle.contour.specs.Points.{pointsAnswerOf};
 ghost use Rattle.contour.specs.Quotes.{quoteAnswerOf};
 ghost use Rattle.contour.specs.Drawings.{drawingOf};
+ghost use Rattle.contour.specs.BoxForms.{unitsOf, formOf, shortOf};
 use band::banding::Banded;
 use band_foretold::foretelling::Foretold;
 use band_tightest::tolerances::Tightest;
+use boxes_binary64::Short;
+use boxes_binary64::ShortAnswer;
+use boxes_binary64::UnitsAnswer;
 use draw::drawing::Drawn;
 use judge::judging::Judgement;
 use judge_points::answers::PointsJudged;
@@ -226,6 +230,103 @@ pub fn quote_in_numbers(quoted: Quoted) -> QuoteAnswer
             refusal: refusal.number(),
             spot: refusal.spot() as u64,
             cents: 0,
+        },
+    }
+}
+
+// A box handed out, in numbers: a refusal's number and spot and zeros, or 0 and 0 and the box in stage units.
+#[repr(C)]
+pub struct BoxUnits {
+    pub refusal: u32,
+    pub spot: u64,
+    pub x_low: f64,
+    pub x_high: f64,
+    pub y_low: f64,
+    pub y_high: f64,
+}
+
+// The numbers of a box handed out.
+pub fn units_in_numbers(handed: UnitsAnswer) -> BoxUnits
+    ensures { λ r. ⌜ r ≡ unitsOf handed ⌝ }
+{
+    match handed {
+        UnitsAnswer::Units(units) => BoxUnits {
+            refusal: 0,
+            spot: 0,
+            x_low: units.x_low,
+            x_high: units.x_high,
+            y_low: units.y_low,
+            y_high: units.y_high,
+        },
+        UnitsAnswer::Refused(refusal) => BoxUnits {
+            refusal: refusal.number(),
+            spot: refusal.spot() as u64,
+            x_low: 0.0,
+            x_high: 0.0,
+            y_low: 0.0,
+            y_high: 0.0,
+        },
+    }
+}
+
+// The short form of a box, in numbers: a refusal's number and spot, kind 0 and zeros, or 0 and 0 and the form, which is
+// of kind 1, a point, whose half width and half height are 0, or of kind 2, a middle.
+#[repr(C)]
+pub struct BoxShort {
+    pub refusal: u32,
+    pub spot: u64,
+    pub kind: u32,
+    pub x: f64,
+    pub y: f64,
+    pub half_width: f64,
+    pub half_height: f64,
+}
+
+// The numbers of a short form.
+fn form_in_numbers(short: Short) -> BoxShort
+    ensures { λ r. ⌜ r ≡ formOf short ⌝ }
+{
+    match short {
+        Short::Point(x, y) => BoxShort {
+            refusal: 0,
+            spot: 0,
+            kind: 1,
+            x,
+            y,
+            half_width: 0.0,
+            half_height: 0.0,
+        },
+        Short::Middle {
+            x,
+            y,
+            half_width,
+            half_height,
+        } => BoxShort {
+            refusal: 0,
+            spot: 0,
+            kind: 2,
+            x,
+            y,
+            half_width,
+            half_height,
+        },
+    }
+}
+
+// The numbers of what the short form is answered with.
+pub fn short_in_numbers(shortened: ShortAnswer) -> BoxShort
+    ensures { λ r. ⌜ r ≡ shortOf shortened ⌝ }
+{
+    match shortened {
+        ShortAnswer::Form(short) => form_in_numbers(short),
+        ShortAnswer::Refused(refusal) => BoxShort {
+            refusal: refusal.number(),
+            spot: refusal.spot() as u64,
+            kind: 0,
+            x: 0.0,
+            y: 0.0,
+            half_width: 0.0,
+            half_height: 0.0,
         },
     }
 }

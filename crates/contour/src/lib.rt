@@ -15,9 +15,12 @@ ghost use Rattle.contour.specs.Tightest.{tightestAnswerOf};
 ghost use Rattle.contour.specs.Points.{pointsAnswerOf};
 ghost use Rattle.contour.specs.Quotes.{quoteAnswerOf};
 ghost use Rattle.contour.specs.Drawings.{drawingOf};
+ghost use Rattle.contour.specs.BoxForms.{UnitsInNumbers, ShortInNumbers};
 ghost use Rattle.engine.specs.Outcomes.{writtenFor};
 ghost use Rattle.contour.specs.Answers.{outcomeAnswerOf, JudgedInNumbers, AnsweredInNumbers};
 use crate::c_answers::Answer;
+use crate::c_answers::BoxShort;
+use crate::c_answers::BoxUnits;
 use crate::c_answers::Drawing;
 use crate::c_answers::ForetoldAnswer;
 use crate::c_answers::JudgingAnswer;
@@ -30,7 +33,9 @@ use crate::c_answers::in_numbers;
 use crate::c_answers::judgement_in_numbers;
 use crate::c_answers::points_in_numbers;
 use crate::c_answers::quote_in_numbers;
+use crate::c_answers::short_in_numbers;
 use crate::c_answers::tightest_in_numbers;
+use crate::c_answers::units_in_numbers;
 use boxes::Box;
 use engine::Outcome;
 use engine::band_and_judge;
@@ -246,4 +251,22 @@ pub extern "C" fn contour_draw(first: Box, second: Box, vertices: &mut [i32]) ->
 {
     let drawn = draw::draw(first, second, vertices);
     drawing_in_numbers(drawn)
+}
+
+// Hands a box out in binary64, in stage units.
+#[no_mangle]
+pub extern "C" fn contour_box_units(b: Box) -> BoxUnits
+    ensures { λ r. ⌜ UnitsInNumbers b r ⌝ }
+{
+    let handed = boxes_binary64::hand_out(b);
+    units_in_numbers(handed)
+}
+
+// The short form of a box in binary64: a point, or the middle with half of the width and of the height.
+#[no_mangle]
+pub extern "C" fn contour_box_short(b: Box) -> BoxShort
+    ensures { λ r. ⌜ ShortInNumbers b r ⌝ }
+{
+    let shortened = boxes_binary64::shorten(b);
+    short_in_numbers(shortened)
 }
