@@ -47,8 +47,15 @@ formOf (Middle x y half-width half-height) =
 
 abbrev pub shortOf : ShortAnswer → BoxShort
 shortOf (Form r) = formOf r
-shortOf (ShortRefused q) =
-    record { refusal = numberOf q; spot = spotOf q; kind = 0; x = nil; y = nil; «half_width» = nil; «half_height» = nil }
+shortOf (ShortRefused q) = record {
+  refusal = numberOf q;
+  spot = spotOf q;
+  kind = 0;
+  x = nil;
+  y = nil;
+  «half_width» = nil;
+  «half_height» = nil;
+}
 
 -- the numbers are those of an answer that handing out the box may give
 pub record UnitsInNumbers (b : Box) (numbers : BoxUnits) : Type 0 where

@@ -3,6 +3,7 @@ ghost use mathlib.Core.Path.{_≡_};
 ghost use lib.ListN.{length};
 ghost use Rattle.setting.specs.Setting.{lists, station};
 ghost use Rattle.band.specs.Banding.{banded, written, bandedSpline, writtenSpline};
+ghost use Rattle.band.specs.Banding.{bandedBinary64, writtenBinary64};
 ghost use Rattle.band_foretold.specs.Foretelling.{foretold, depthsWritten};
 ghost use Rattle.band_tightest.specs.Tightest.{tightest};
 ghost use Rattle.judge_points.specs.Points.{pointsJudged, judgedInto};
@@ -14,11 +15,14 @@ ghost use Rattle.contour.specs.Tightest.{tightestAnswerOf};
 ghost use Rattle.contour.specs.Points.{pointsAnswerOf};
 ghost use Rattle.contour.specs.Quotes.{quoteAnswerOf};
 ghost use Rattle.contour.specs.Drawings.{drawingOf};
+ghost use Rattle.contour.specs.BoxForms.{UnitsInNumbers, ShortInNumbers};
 ghost use Rattle.engine.specs.Outcomes.{writtenFor};
 ghost use Rattle.contour.specs.Answers.{JudgedInNumbers, AnsweredInNumbers};
 use boxes::Box;
 use contour::OutcomeAnswer;
 use contour::c_answers::Answer;
+use contour::c_answers::BoxShort;
+use contour::c_answers::BoxUnits;
 use contour::c_answers::Drawing;
 use contour::c_answers::ForetoldAnswer;
 use contour::c_answers::JudgingAnswer;
@@ -51,6 +55,15 @@ pub fn contour_spline_band(points: &[i32], tolerance: i32, m: u32, records: &mut
         ≡ writtenSpline m tolerance (now (points .entry)) (now (records .entry)) ⌝ }
 {
     contour::contour_spline_band(points, tolerance, m, records)
+}
+
+pub fn contour_binary64_band(outline: &[f64], tolerance: i32, m: u32, records: &mut [i32]) -> Answer
+    ensures { λ r. ⌜ r
+        ≡ bandAnswerOf (bandedBinary64 m tolerance (now (outline .entry)) (length (now (records .entry)))) ⌝ }
+    ensures { λ r. ⌜ now (records .exit)
+        ≡ writtenBinary64 m tolerance (now (outline .entry)) (now (records .entry)) ⌝ }
+{
+    contour::contour_binary64_band(outline, tolerance, m, records)
 }
 
 pub fn contour_foretell(
@@ -119,4 +132,16 @@ pub fn contour_draw(first: Box, second: Box, vertices: &mut [i32]) -> Drawing
     ensures { λ r. ⌜ now (vertices .exit) ≡ drawnInto first second (now (vertices .entry)) ⌝ }
 {
     contour::contour_draw(first, second, vertices)
+}
+
+pub fn contour_box_units(b: Box) -> BoxUnits
+    ensures { λ r. ⌜ UnitsInNumbers b r ⌝ }
+{
+    contour::contour_box_units(b)
+}
+
+pub fn contour_box_short(b: Box) -> BoxShort
+    ensures { λ r. ⌜ ShortInNumbers b r ⌝ }
+{
+    contour::contour_box_short(b)
 }

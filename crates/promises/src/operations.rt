@@ -1,18 +1,22 @@
-// Callers of banding, foretelling, the question for the tightest band, judging and drawing.
+// Callers of banding, foretelling, the question for the tightest band, judging, drawing and handing out.
 ghost use mathlib.Core.Path.{_≡_};
 ghost use lib.ListN.{length};
 ghost use Rattle.setting.specs.Setting.{lists, station};
 ghost use Rattle.band.specs.Banding.{banded, written, bandedSpline, writtenSpline};
+ghost use Rattle.band.specs.Banding.{bandedBinary64, writtenBinary64};
 ghost use Rattle.band_foretold.specs.Foretelling.{foretold, depthsWritten};
 ghost use Rattle.band_tightest.specs.Tightest.{tightest};
 ghost use Rattle.judge.specs.Judging.{Judged};
 ghost use Rattle.judge_points.specs.Points.{pointsJudged, judgedInto};
 ghost use Rattle.quote_price.specs.Quote.{quoted};
 ghost use Rattle.draw.specs.Drawing.{drawn, drawnInto};
+ghost use Rattle.boxes_binary64.specs.Boxes.{HandedOut, Shortened};
 use band::banding::Banded;
 use band_foretold::foretelling::Foretold;
 use band_tightest::tolerances::Tightest;
 use boxes::Box;
+use boxes_binary64::ShortAnswer;
+use boxes_binary64::UnitsAnswer;
 use draw::drawing::Drawn;
 use judge::judging::Judgement;
 use judge_points::answers::PointsJudged;
@@ -40,6 +44,14 @@ pub fn spline_band(points: &[i32], tolerance: i32, m: u32, records: &mut [i32]) 
         ≡ writtenSpline m tolerance (now (points .entry)) (now (records .entry)) ⌝ }
 {
     band::spline_band(points, tolerance, m, records)
+}
+
+pub fn binary64_band(outline: &[f64], tolerance: i32, m: u32, records: &mut [i32]) -> Banded
+    ensures { λ r. ⌜ r ≡ bandedBinary64 m tolerance (now (outline .entry)) (length (now (records .entry))) ⌝ }
+    ensures { λ r. ⌜ now (records .exit)
+        ≡ writtenBinary64 m tolerance (now (outline .entry)) (now (records .entry)) ⌝ }
+{
+    band::binary64_band(outline, tolerance, m, records)
 }
 
 pub fn foretell(outline: &[i32], tolerance: i32, m: u32, depths: &mut [i32]) -> Foretold
@@ -82,4 +94,16 @@ pub fn draw(first: Box, second: Box, vertices: &mut [i32]) -> Drawn
     ensures { λ r. ⌜ now (vertices .exit) ≡ drawnInto first second (now (vertices .entry)) ⌝ }
 {
     draw::draw(first, second, vertices)
+}
+
+pub fn hand_out(b: Box) -> UnitsAnswer
+    ensures { λ r. ⌜ HandedOut b r ⌝ }
+{
+    boxes_binary64::hand_out(b)
+}
+
+pub fn shorten(b: Box) -> ShortAnswer
+    ensures { λ r. ⌜ Shortened b r ⌝ }
+{
+    boxes_binary64::shorten(b)
 }
