@@ -5,3 +5,4 @@ pub mod Meaning
 pub mod Compare
 pub mod Once
 pub mod Quotient
+mod Samples

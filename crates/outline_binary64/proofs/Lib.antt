@@ -2,3 +2,4 @@ pub mod Numbers
 pub mod Found
 pub mod Named
 pub mod Wholes
+mod Samples
