@@ -12,7 +12,7 @@ use outline_reading::outline_curves::next_at;
 use refusals::Refusal;
 
 // Check 4: the first index from `from` up to `end` of a number that is no coordinate.
-fn first_beyond(ns: &[i32], from: usize, end: usize) -> Found
+pub fn first_beyond(ns: &[i32], from: usize, end: usize) -> Found
     requires { ⌜ (from ≤ end) × (end ≤ length (now ns)) ⌝ }
     ensures { λ r. ⌜ r ≡ foundOf (firstBeyond (now (ns .entry)) (end - from) from) ⌝ }
 {
@@ -52,7 +52,7 @@ fn meets_before(ns: &[i32], at: usize) -> bool
 }
 
 // Check 20: whether a degree takes m pieces.
-fn takes_pieces(degree: u32, m: u32) -> bool
+pub fn takes_pieces(degree: u32, m: u32) -> bool
     ensures { λ r. ⌜ r ≡ degreePieces degree m ⌝ }
 {
     if degree <= 3 {
