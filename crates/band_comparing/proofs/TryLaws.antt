@@ -4,10 +4,10 @@ use mathlib.Core.Bool.{Bool, true, false, not}
 use mathlib.Core.List.{List, [], _∷_, _++_}
 use Prim.Native.Nat.{ℕ, zero, suc, _+_, _*_, _≤_, _<_}
 use native.Mathlib.Nat.{le-refl, not-suc-le-zero}
-use native.Mathlib.Numerals.{add-one}
+use native.Mathlib.Numerals.{add-one, add-two}
 use native.Mathlib.Omega.{arith}
 use lib.ListN.{length}
-use lib.IntN.{ℤ}
+use lib.IntN.{ℤ, pos}
 use lib.Signed.{ltZ}
 use Rattle.setting.specs.Setting.{Setting, HasRows, lists, breakPoints}
 use Rattle.integers.specs.Squares.{squared}
@@ -23,7 +23,7 @@ use Rattle.bound_pieces.specs.Inside.{piecesBy, piecesOf, Ready, acrossBy, high
 use Rattle.bound_node.specs.Boxes.{boxAt, meets}
 use Rattle.bound_node.proofs.Narrow.{diagonal}
 use Rattle.bound_tolerance.proofs.ToleranceLaws.{none-next, box-fails, boxes-pass, across-is, higher-across-is}
-use Rattle.band_records.specs.Records.{boxNumbers, boxesTo}
+use Rattle.band_records.specs.Records.{boxNumbers, boxesTo, nodeNumbers}
 use Rattle.band_records.specs.Inside.{boxBy}
 use Rattle.band_records.proofs.Writing.{joinedTo, joined-length, boxes-are, box-is, higher-box-is}
 use Rattle.band_comparing.specs.declared.trying.Tried.{Tried}
@@ -42,6 +42,14 @@ box-narrow e f = rw (e, f)
 pub held-four : (g : List ℤ) (reach at : ℕ) {a b c d a′ b′ c′ d′ : ℤ} {r : ℕ} → a′ ≡ a → b′ ≡ b → c′ ≡ c → d′ ≡ d
     → r ≡ reachOf g reach at (a′ ∷ b′ ∷ c′ ∷ d′ ∷ []) → r ≡ reachOf g reach at (a ∷ b ∷ c ∷ d ∷ [])
 held-four g reach at ea eb ec ed e = e ∙ (λ j. reachOf g reach at (ea j ∷ eb j ∷ ec j ∷ ed j ∷ []))
+
+-- the two numbers of a node before its boxes
+pub node-head : (g : List ℤ) (reach at k n : ℕ) (boxes : List ℤ) {a b : ℤ} {r₁ r₂ : ℕ} → a ≡ pos k → b ≡ pos n → r₁ ≡ reachNumber g reach at a
+    → r₂ ≡ reachNumber g r₁ (at + 1) b → reachOf g r₂ (at + 2) boxes ≡ reachOf g reach at (nodeNumbers k n boxes)
+unfolding reachOf
+node-head g reach at k n boxes ea eb e f =
+    ap (λ q. reachOf g q (at + 2) boxes) (f ∙ ap₂ (λ q z. reachNumber g q (at + 1) z) (e ∙ ap (reachNumber g reach at) ea) eb)
+    ∙ rw (add-one, add-two)
 
 pub told-wide : (b : Bool) (r : ℕ) → Wide ≡ triedOf b r → b ≡ false
 told-wide true r e = clash (cc)

@@ -1,101 +1,126 @@
+-- The walk of a curve that compares. The loop's invariant: the walk stands at this part of the curve, and the numbers given agree so far with the
+-- records of the leaves passed. The measure is the part's rank.
+use mathlib.Core.Path.{_≡_, sym, _∙_, ap}
+use Prim.Native.Nat.{_+_, _*_, _^_, _≤_, _<_}
+use native.Mathlib.Nat.{le-trans}
+use native.Mathlib.Omega.{arith}
+use borrow.Author.Needs.{needs}
+use mir.Syntax.{w64}
+use mir.Val.{toZ}
+use mir.Facts.{toZ-ofZ}
+use Rattle.setting.specs.Setting.{lists, recordLength, deepest}
+use Rattle.setting.proofs.Pieces.{record-length-is}
+use Rattle.walk_curve.proofs.Parts.{part-node, part-degree, part-sized, part-shallow}
+use Rattle.walk_curve.proofs.Walks.{partRank, left-falls, after-falls}
+use Rattle.band_comparing.proofs.SeeLaws.{Seeing, seeing-start, seeing-less, seeing-few, seeing-left, seeing-failed, seeing-after, seeing-done}
 use Rattle.band_comparing.proofs.see_curve.Statement.{statement}
 use Rattle.band_comparing.proofs.see_curve.Tie as tie
-use Rattle.band_comparing.proofs.see_curve.Reads as reads
-use Rattle.band_comparing.proofs.see_curve.Lts as lts
-use Rattle.band_comparing.proofs.last_of.Reads as last-of-reads
-use Rattle.band_comparing.proofs.trying.try_node.Reads as try-node-reads
-use Rattle.walk_curve.proofs.Part.after.Reads as after-reads
-use Rattle.walk_curve.proofs.Part.left.Reads as left-reads
 
 abbrev Inv-loop : tie.InvT-loop
-Inv-loop given reach at rows m scale number t record-length last part₀ place₀ to₀ part place to = ?
+Inv-loop given reach at rows m scale number t record-length last part₀ place₀ to₀ part place to =
+    Seeing (lists m) (toZ w64 t) (part₀ .curve) number given reach at part place to
 
 abbrev μ-loop : tie.MeasureT-loop
-μ-loop given reach at rows m scale number t record-length last part₀ place₀ to₀ part place to = ?
+μ-loop given reach at rows m scale number t record-length last part₀ place₀ to₀ part place to = partRank (part₀ .curve) part
 
--- src/lib.rt:55:29
 mul-record-length : tie.Need-mul-record-length Inv-loop μ-loop
-mul-record-length c = ?
+mul-record-length c = omega (arith, c .pre .3 .has .most)
 
--- src/lib.rt:55:25
 add-record-length : tie.Need-add-record-length Inv-loop μ-loop
-add-record-length c = ?
+add-record-length c = omega (arith, c .pre .3 .has .most)
 
--- src/lib.rt:56:9
-last-of-requires : tie.Need-last-of-requires Inv-loop μ-loop
-last-of-requires c κs = ?
-
--- src/lib.rt:60:5
 loop-holds : tie.Need-loop-holds Inv-loop μ-loop
-loop-holds c = ?
+loop-holds c = seeing-start (c .before .pre .4)
 
--- src/lib.rt:63:15
+-- there is room for all places
+place-few : (l : tie.At-loop Inv-loop μ-loop) → l .loop .place ≤ l .before .before .args .at + 9728
+place-few l = omega (arith, seeing-few (l .loop .inv), l .before .before .pre .3 .has .most)
+
+-- ---- the node
 try-node-requires : tie.Need-try-node-requires Inv-loop μ-loop
-try-node-requires c κs = ?
+try-node-requires c κs =
+    let l = c .before in
+    let s = l .before .before in
+    let p = s .pre in
+    let o = l .loop .inv .walk .of in (
+      omega (arith, seeing-less (l .loop .inv), p .0),
+      omega (arith, place-few l, p .1),
+      p .2,
+      part-node o,
+      o .some,
+      p .3,
+      part-sized o,
+      rw (part-degree o) (p .5),
+      part-shallow o,
+      rw (toZ-ofZ (s .fits .t)) (p .6),
+    )
 
--- src/lib.rt:65:20
-enum-told : tie.Need-enum-told Inv-loop μ-loop
-enum-told c = ?
-
--- src/lib.rt:66:21
+-- ---- a node that is too wide
 returns : tie.Need-returns Inv-loop μ-loop
-returns c = ?
+returns c =
+    let e = c .before in
+    let t = e .before .before in
+    let l = t .before .before in
+    let s = l .before .before in
+    rw (toZ-ofZ (s .fits .t)) at
+    (seeing-failed (l .loop .inv) (sym (e .enum-told .given .1) ∙ t .try-node .ensures) (rw (← (l .before .last-of .ensures)) (c .if1 .taken)))
 
--- src/lib.rt:68:17
+-- it has halves
+halved : (c : tie.Else1 Inv-loop μ-loop)
+    → let l = c .before .before .before .before .before in l .loop .part .node < 2 ^ deepest (l .before .before .args .curve .degree)
+halved c = let l = c .before .before .before .before .before in rw (← (l .before .last-of .ensures)) (c .if1 .left)
+
 left-requires : tie.Need-left-requires Inv-loop μ-loop
-left-requires c κs = ?
+left-requires c κs = let p = c .before .before .before .before .before .loop .inv .walk .of in ((_, p), rw (part-degree p) (halved c))
 
--- src/lib.rt:60:5
 loop-less : tie.Need-loop-less Inv-loop μ-loop
-loop-less c = ?
+loop-less c = rw (c .left .ensures) (left-falls (c .before .before .before .before .before .before .loop .inv .walk) (halved (c .before)))
 
--- src/lib.rt:60:5
 loop-again : tie.Need-loop-again Inv-loop μ-loop
-loop-again c = ?
+loop-again c =
+    let e = c .before .before in
+    let t = e .before .before in
+    let l = t .before .before in
+    rw (c .left .ensures) (seeing-left (l .loop .inv) (sym (e .enum-told .given .1) ∙ t .try-node .ensures) (halved (c .before)))
 
--- src/lib.rt:70:27
-enum-known-n : tie.Need-enum-known-n Inv-loop μ-loop
-enum-known-n c = ?
-
--- src/lib.rt:72:17
+-- ---- a leaf
 add-place : tie.Need-add-place Inv-loop μ-loop
-add-place c = ?
+add-place c =
+    let l = c .before .before .before .before .before in
+    let p = l .before .before .pre in
+    omega (arith, place-few l, p .1, p .3 .has .most)
 
--- src/lib.rt:73:17
 after-requires : tie.Need-after-requires Inv-loop μ-loop
-after-requires c κs = ?
+after-requires c κs = (_, c .before .before .before .before .before .loop .inv .walk .of)
 
--- src/lib.rt:75:21
 returns-2 : tie.Need-returns-2 Inv-loop μ-loop
-returns-2 c = ?
+returns-2 c =
+    let a = c .before .before in
+    let k = a .before in
+    let t = k .before .before .before in
+    let l = t .before .before in
+    let s = l .before .before in
+    rw (toZ-ofZ (s .fits .t)) at
+    (seeing-done (l .loop .inv) (sym (k .before .n .given .1) ∙ t .try-node .ensures) (record-length-is (s .args .m)) (a .after .ensures)
+    (c .if2 .taken))
 
--- src/lib.rt:60:5
 loop-less-2 : tie.Need-loop-less-2 Inv-loop μ-loop
-loop-less-2 c = ?
+loop-less-2 c =
+    let a = c .before .before in
+    after-falls (a .before .before .before .before .before .before .loop .inv .walk) (a .after .ensures) (c .if2 .left)
 
--- src/lib.rt:60:5
 loop-again-2 : tie.Need-loop-again-2 Inv-loop μ-loop
-loop-again-2 c = ?
+loop-again-2 c =
+    let a = c .before .before in
+    let k = a .before in
+    let t = k .before .before .before in
+    let l = t .before .before in
+    let s = l .before .before in
+    seeing-after (l .loop .inv) (sym (k .before .n .given .1) ∙ t .try-node .ensures) (record-length-is (s .args .m)) (a .after .ensures)
+    (c .if2 .left)
 
 pub see-curve-spec : {M : Type 1} → statement M
 see-curve-spec =
     tie.close
-    (tie.spec
-    Inv-loop
-    μ-loop
-    mul-record-length
-    add-record-length
-    last-of-requires
-    loop-holds
-    try-node-requires
-    enum-told
-    returns
-    left-requires
-    loop-less
-    loop-again
-    enum-known-n
-    add-place
-    after-requires
-    returns-2
-    loop-less-2
-    loop-again-2)
+    (tie.spec Inv-loop μ-loop mul-record-length add-record-length (λ c κs. search needs) loop-holds try-node-requires (λ c. search needs)
+    returns left-requires loop-less loop-again (λ c. search needs) add-place after-requires returns-2 loop-less-2 loop-again-2)
