@@ -1,0 +1,1 @@
+-- Laws of exchanging a curve. Each file opens with what it holds.

@@ -1,0 +1,1 @@
+-- Laws of what exchanging answers. Each file opens with what it holds.
