@@ -145,17 +145,17 @@ module _ (m : ℕ) (T : ℤ) (ns : List ℤ) (n : ℕ) (e : Curves n ≡ checked
 
           -- 23
           pub read-other : (reach ≡ count → ⊥) → (i : ℕ) → i ≡ min reach whole → Refused (OtherRecords i) ≡ exchangedRead σ T ns k new count lent
-          read-other no i g =
+          read-other less i g =
               ap (λ j. Refused (OtherRecords j)) (least-is i g)
-              ∙ sym (on (some (min reach (length (recordsFor σ T ns)))) (others-reach count lent (recordsFor σ T ns) reach reach-is no))
+              ∙ sym (on (some (min reach (length (recordsFor σ T ns)))) (others-reach count lent (recordsFor σ T ns) reach reach-is less))
 
           module _ (far : reach ≡ count) where
             pub read-long : (count ≡ whole → ⊥) → (i : ℕ) → i ≡ min reach whole
                 → Refused (OtherRecords i) ≡ exchangedRead σ T ns k new count lent
-            read-long no i g =
+            read-long other i g =
                 ap (λ j. Refused (OtherRecords j)) (least-is i g)
                 ∙ sym (on (some (min reach (length (recordsFor σ T ns))))
-                (others-long count lent (recordsFor σ T ns) reach reach-is far (λ q. no (q ∙ sym whole-is))))
+                (others-long count lent (recordsFor σ T ns) reach reach-is far (λ q. other (q ∙ sym whole-is))))
 
             module _ (just : count ≡ whole) where
               none-other : otherRecords count lent (recordsFor σ T ns) ≡ none
