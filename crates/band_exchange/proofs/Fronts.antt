@@ -1,24 +1,23 @@
 -- The records of one curve among those of others: what stands before and after them, and a list in which they give way to those of another curve.
 use mathlib.Core.Path.{_≡_, refl, sym, _∙_, ap, ap₂, subst}
 use mathlib.Core.List.{List, [], _∷_, _++_, append-assoc}
-use mathlib.Core.Option.{none, some}
-use Prim.Native.Nat.{ℕ, zero, suc, _+_, _-_, _*_, _/_, _≤_, _<_}
+use mathlib.Core.Option.{some}
+use Prim.Native.Nat.{ℕ, suc, _+_, _-_, _*_, _/_, _≤_, _<_}
 use native.Mathlib.Nat.{mul-div-cancel-left}
 use native.Mathlib.Omega.{arith}
 use lib.ListN.{length, take, drop, set, length-append}
-use lib.Seq.{sets, sets-eq, length-sets, take-add, take-take, take-at, drop-at, length-take-le}
+use lib.Seq.{sets, sets-eq, take-add, take-take, take-at, drop-at, length-take-le}
 use lib.IntN.{ℤ}
 use Rattle.setting.specs.Setting.{Setting, recordLength}
 use Rattle.integers.proofs.Stores.{sets-append}
 use Rattle.refusals.specs.declared.Refusal.the-variants.{TooWide, TooFewRecords}
 use Rattle.curve_nodes.specs.declared.Curve.{Curve}
-use Rattle.walk_tree.specs.Tree.{firstFailing}
 use Rattle.walk_curve.specs.declared.Walked.the-variants.{Leaves, WideNode}
-use Rattle.walk_curve.specs.Walked.{nodeMeets, endsOf}
+use Rattle.walk_curve.specs.Walked.{endsOf}
 use Rattle.walk_curve.specs.Inside.{walkedOf}
 use Rattle.band_records.specs.Records.{recordsOf, allRecords}
 use Rattle.band_records.proofs.Lengths.{records-length}
-use Rattle.band_passes.specs.Leaves.{firstTooWide, leavesOf, nodesOf}
+use Rattle.band_passes.specs.Leaves.{leavesOf}
 use Rattle.band_passes.specs.Meeting.{AllMeet}
 use Rattle.band_passes.proofs.Wide.{wide-later, wide-here, none-wide, behind}
 use Rattle.band_passes.proofs.Among.{all-records-length, records-among, leaves-among}

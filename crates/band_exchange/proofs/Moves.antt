@@ -1,12 +1,12 @@
 -- Numbers of a list moved one by one: what a run of stores leaves alone, and one turn of each loop that moves.
-use mathlib.Core.Path.{_≡_, refl, sym, _∙_, ap, subst}
+use mathlib.Core.Path.{_≡_, refl, sym, _∙_, ap}
 use mathlib.Core.List.{List, [], _∷_, _++_}
-use Prim.Native.Nat.{ℕ, zero, suc, _+_, _-_, _≤_, _<_}
+use Prim.Native.Nat.{ℕ, suc, _+_, _-_, _≤_, _<_}
 use native.Mathlib.Nat.{add-zero}
 use native.Mathlib.Numerals.{add-one}
 use native.Mathlib.Omega.{arith}
-use lib.ListN.{length, getD, take, drop, set, length-drop, length-set, take-append-drop}
-use lib.Seq.{sets, length-sets, take-suc, drop-cons, getD-drop, getD-set-other, set-comm, length-take-le, sets-eq, take-add}
+use lib.ListN.{length, take, drop, set, length-drop, take-append-drop}
+use lib.Seq.{sets, take-suc, drop-cons, getD-drop, getD-set-other, set-comm, length-take-le, sets-eq, take-add}
 use lib.IntN.{ℤ, pos}
 use Rattle.integers.specs.Entry.{entry}
 use Rattle.integers.proofs.Stores.{sets-append}

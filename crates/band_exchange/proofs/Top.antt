@@ -3,7 +3,7 @@ use mathlib.Core.Path.{_≡_, refl, sym, _∙_, ap, ap₂}
 use mathlib.Core.Bool.{Bool, true}
 use mathlib.Core.List.{List}
 use mathlib.Core.Option.{Option, none, some}
-use Prim.Native.Nat.{ℕ, suc, _+_, _*_, _/_, _^_, _≤_, _<_, min}
+use Prim.Native.Nat.{ℕ, suc, _*_, _/_, _^_, _≤_, _<_, min}
 use native.Mathlib.Omega.{arith}
 use borrow.Author.Tests.{lt-ltb, le-ltb}
 use lib.Dec.{eqb, eqb→eq}
@@ -32,7 +32,6 @@ use Rattle.band_passes.proofs.Wide.{none-wide}
 use Rattle.band_passes.proofs.Among.{all-records-length}
 use Rattle.band_passes.proofs.Counting.{few-leaves}
 use Rattle.band_comparing.specs.declared.Stand.{Stand}
-use Rattle.band_comparing.specs.declared.Compared.{Compared}
 use Rattle.band_comparing.specs.declared.Compared.the-variants.{Stopped, Through}
 use Rattle.band_comparing.specs.Inside.{reachOf, standOf, comparedOf}
 use Rattle.band.specs.declared.banding.Banded.{Banded}

@@ -15,7 +15,7 @@ use Rattle.integers.specs.Entry.{entry}
 use Rattle.refusals.specs.declared.Refusal.{Refusal}
 use Rattle.curve_nodes.specs.declared.Curve.{Curve}
 use Rattle.outline.specs.Curves.{degreeFine, nextAt, curveAt}
-use Rattle.outline.specs.Checks.{Outlined, curves, faulty, outlineFrom, outlined}
+use Rattle.outline.specs.Checks.{curves, outlineFrom, outlined}
 use Rattle.outline.specs.Places.{placeOf}
 use Rattle.outline.proofs.Degrees.{degree-most}
 use Rattle.outline.proofs.Faultless.{faultless}
@@ -29,7 +29,6 @@ use Rattle.outline_changed.proofs.Changed.{rest-at, old, old-begins, outlinedOr
 use Rattle.walk_curve.specs.Walked.{endsOf}
 use Rattle.band_records.specs.Records.{allRecords}
 use Rattle.band_passes.specs.Leaves.{curvesOf, leavesOf}
-use Rattle.band_passes.specs.Meeting.{AllMeet}
 use Rattle.band_passes.specs.Inside.{Readable, end, more}
 use Rattle.band_passes.specs.declared.forms.Form.the-variants.{Outline}
 use Rattle.band_passes.proofs.Among.{leaves-among}

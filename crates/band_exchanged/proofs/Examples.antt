@@ -5,7 +5,7 @@ use Prim.Native.Nat.{ℕ}
 use lib.ListN.{replicate}
 use lib.IntN.{ℤ, pos}
 use Rattle.setting.specs.Setting.{lists}
-use Rattle.refusals.specs.declared.Refusal.the-variants.{NoSuchCurve, OtherRecords, Gap, Degree, TooFewRecords}
+use Rattle.refusals.specs.declared.Refusal.the-variants.{NoSuchCurve, OtherRecords, Gap}
 use Rattle.band.specs.declared.banding.Banded.{Banded}
 use Rattle.band.specs.declared.banding.Banded.the-variants.{Done, Refused}
 use Rattle.band_exchanged.specs.Exchange.{exchanged, exchangedList}

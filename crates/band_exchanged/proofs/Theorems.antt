@@ -1,6 +1,6 @@
 -- What an answer of exchanging means: where it is accepted, the numbers given were the outline's records, and answer and list are those of banding
 -- the changed outline, so that demand 3 holds of it; a refusal alters nothing.
-use mathlib.Core.Path.{_≡_, refl, sym, _∙_, ap, subst}
+use mathlib.Core.Path.{_≡_, refl, sym, _∙_, ap}
 use mathlib.Core.Bool.{Bool, true, false}
 use mathlib.Core.List.{List}
 use mathlib.Core.Option.{Option, none, some}

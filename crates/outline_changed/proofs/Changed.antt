@@ -28,6 +28,7 @@ use Rattle.outline.specs.Places.{placeOf}
 use Rattle.outline.proofs.Degrees.{degree-most}
 use Rattle.outline.proofs.Faultless.{fault-degree, fault-pieces, faultless}
 use Rattle.outline.proofs.Steps.{Begins, outline-begins, outline-ends, outline-ended, outline-step, outline-faulty}
+use Rattle.outline_changed.specs.Changed.{changed}
 use Rattle.outline_changed.specs.Inside.{samePoint, ownFault, meetsOld, meetsNext, changedFault}
 use Rattle.outline_changed.proofs.OwnFaults.{own-fine}
 use Rattle.outline_changed.proofs.Transfer.{fault-beyond, Sound, sound, sound-none, sound-gap, same-degree, same-next, same-curve, same-sound}
@@ -156,7 +157,7 @@ module _ (left m : ℕ) (ns new : List ℤ) (k : ℕ) (cs : List Curve) (accepte
       (ap (outlineFrom (left - k - 1) m whole) (new-next m ns new at next inside behind long fine)
       ∙ after-new m ns new at next inside behind long fine (left - k - 1) (drop (suc k) cs) rest))
 
-  pub changed-outline : outlineFrom left m whole 0
+  pub changed-outline : outlineFrom left m (changed ns k new) 0
       ≡ outlinedOr (changedFault m ns at next new) (take k cs ++ curveAt new 0 ∷ drop (suc k) cs)
   unfolding changedFault
   changed-outline = front ∙ go (ownFault m new at) refl

@@ -1,7 +1,6 @@
 -- The checks of the changed outline, and its records: each return is a case of banding it.
 use mathlib.Core.Path.{_≡_, refl, sym, _∙_}
 use mathlib.Core.Option.{none}
-use native.Mathlib.Omega.{arith}
 use borrow.Author.Needs.{needs}
 use mir.Facts.{toZ-ofZ}
 use Rattle.outline_changed.specs.Inside.{changedFault}

@@ -1,9 +1,7 @@
 -- Check 7 of the outline, then 22 and 23, then the rest.
 use mathlib.Core.Path.{_≡_, refl, sym, _∙_}
-use Prim.Native.Nat.{_≤_, min}
 use native.Mathlib.Omega.{arith}
 use borrow.Author.Needs.{needs}
-use lib.ListN.{length}
 use mir.Facts.{toZ-ofZ}
 use Rattle.setting.specs.Setting.{lists}
 use Rattle.band_comparing.specs.declared.Compared.the-variants.{Through}

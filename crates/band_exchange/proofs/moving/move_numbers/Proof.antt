@@ -1,5 +1,5 @@
 -- Numbers moved: nowhere, towards the front, or towards the end.
-use mathlib.Core.Path.{_≡_, sym, _∙_, ap}
+use mathlib.Core.Path.{sym, _∙_, ap}
 use borrow.Author.Needs.{needs}
 use Rattle.band_exchange.specs.Inside.{movedTo}
 use Rattle.band_exchange.proofs.Moves.{moved-nowhere}

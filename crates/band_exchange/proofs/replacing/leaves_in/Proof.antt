@@ -1,5 +1,5 @@
 -- The leaves of a curve, as banding of it alone says them.
-use mathlib.Core.Path.{_≡_, sym, _∙_, ap}
+use mathlib.Core.Path.{_≡_, sym, _∙_}
 use native.Mathlib.Omega.{arith}
 use borrow.Author.Needs.{needs}
 use mir.Facts.{toZ-ofZ}
@@ -24,8 +24,11 @@ cast-t15 : tie.Need-cast-t15
 cast-t15 c =
     let k = c .before .before .before in
     let a = k .before .before .before .before .before .before .args in
-    omega (arith, c .before .before .spot .ensures,
-      alone-node (a .m) (a .t) (curveAt (a .curve .now) 0) 1 (k .before .refusal .given .0 .0) (refused k) (wide c))
+    omega (
+      arith,
+      c .before .before .spot .ensures,
+      alone-node (a .m) (a .t) (curveAt (a .curve .now) 0) 1 (k .before .refusal .given .0 .0) (refused k) (wide c),
+    )
 
 returns : tie.Need-returns
 returns c =

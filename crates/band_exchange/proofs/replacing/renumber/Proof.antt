@@ -1,6 +1,6 @@
 -- Records renumbered one by one. The loop's invariant: what is left to do, from the record at hand on, is what there was to do from the first
 -- on. The measure is how many records are left.
-use mathlib.Core.Path.{_≡_, refl, sym, _∙_, ap, ap₂}
+use mathlib.Core.Path.{_≡_, refl, sym, _∙_, ap}
 use Prim.Native.Nat.{suc, _+_, _-_, _*_, _≤_}
 use native.Mathlib.Nat.{mul-le-mul-left}
 use native.Mathlib.Omega.{arith}

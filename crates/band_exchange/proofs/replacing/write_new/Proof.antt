@@ -1,13 +1,13 @@
 -- A curve banded by itself into its own part of the list, and its records renumbered.
-use mathlib.Core.Path.{_≡_, sym, _∙_, ap, ap₂}
-use Prim.Native.Nat.{_+_, _-_, _*_, _≤_}
+use mathlib.Core.Path.{_≡_, _∙_, ap, ap₂}
+use Prim.Native.Nat.{_+_, _-_, _*_}
 use native.Mathlib.Omega.{arith}
 use borrow.Author.Needs.{needs}
 use lib.ListN.{length, take, drop, length-drop}
 use lib.Seq.{sets, length-sets, length-take-le}
 use mir.Facts.{toZ-ofZ}
 use borrow.Rule.Slice.PartMut.{putMid}
-use Rattle.setting.specs.Setting.{lists, recordLength}
+use Rattle.setting.specs.Setting.{lists}
 use Rattle.setting.proofs.Pieces.{record-length-is}
 use Rattle.outline.specs.Curves.{curveAt}
 use Rattle.walk_curve.specs.Walked.{endsOf}
@@ -54,8 +54,13 @@ put c =
     let rs = recordsOf (lists (a .m)) 0 q (endsOf (lists (a .m)) (a .t) q) in
     ap (putMid (a .place) (a .over - a .place) (a .records .now)) (own c)
     ∙ part-written (a .records .now) rs (a .place) (a .over) (start s) (s .pre .4)
-    (omega (arith, s .pre .3, own-long (a .m) (a .t) q (a .n) (s .pre .2) (take (a .over - a .place) (drop (a .place) (a .records .now)))
-    (omega (arith, part-long s, s .pre .3)), part-long s))
+    (omega (
+      arith,
+      s .pre .3,
+      own-long (a .m) (a .t) q (a .n) (s .pre .2) (take (a .over - a .place) (drop (a .place) (a .records .now)))
+          (omega (arith, part-long s, s .pre .3)),
+      part-long s,
+    ))
 
 put-long : (c : tie.After-band-curves) →
     let a = c .before .before .args in
