@@ -58,11 +58,11 @@ module _ (σ : Setting) (T : ℤ) (ns : List ℤ) (k : ℕ) (new : List ℤ) (co
     pub accepted-own : (take count lent ≡ recordsFor σ T ns) × (count ≡ length (recordsFor σ T ns)) × (count ≤ length lent)
     accepted-own = others-are count lent (recordsFor σ T ns) (all .own)
 
-    -- banding accepts the changed outline with the same report
+    -- banding accepts the changed outline with this report
     pub accepted-new : banded σ T (changed ns k new) (length lent) ≡ Done a b c
     accepted-new = all .is
 
-    -- and leaves the same list
+    -- and leaves this list
     pub accepted-list : exchangedList σ T ns k new count lent ≡ written σ T (changed ns k new) lent
     unfolding exchangedList writtenGiven
     accepted-list = ap (λ q. writtenBy q (recordsFor σ T (changed ns k new)) lent) (e ∙ sym accepted-new)
