@@ -1,5 +1,5 @@
 /* The C interface of the contour band engine: banding an outline, in integers or in binary64, or a B-spline, foretelling an
- * outline's leaves, finding the tightest band that fits, judging points, quoting leaves, drawing the hull of two boxes,
+ * outline's leaves, finding the tightest band that fits, exchanging one curve of a banded outline, judging points, quoting leaves, drawing the hull of two boxes,
  * handing out a box in binary64.
  *
  * An outline is Bezier curves of degree 1 to 5, each from where the one before it ends. Banding puts a narrow band of straight
@@ -51,8 +51,8 @@
  * count numbers, not bytes, and every length and all contents are taken.
  *
  * Threads: any number of calls may run at once as long as no list that one of them writes to (the records, the depths, the
- * answers, the vertices) is lent to another. Lists that are only read (the outline, a spline's points, the leaves, the
- * points) may be shared. */
+ * answers, the vertices) is lent to another. Lists that are only read (the outline, a new curve, a spline's points, the
+ * leaves, the points) may be shared. */
 #ifndef CONTOUR_BAND_H
 #define CONTOUR_BAND_H
 
@@ -83,6 +83,9 @@ extern "C" {
 #define CONTOUR_BAND_COORDINATE_MAX 1048576
 #define CONTOUR_BAND_CURVES_MAX 4096
 
+/* How many numbers a curve has that is exchanged for another: a degree, and x and y of six points. */
+#define CONTOUR_BAND_CURVE 13
+
 /* What a B-spline's list of points may have: how many numbers, two for each point, and coordinates in stage units. */
 #define CONTOUR_BAND_SPLINE_LENGTH_MIN 8
 #define CONTOUR_BAND_SPLINE_LENGTH_MAX 8198
@@ -108,6 +111,9 @@ extern "C" {
 #define CONTOUR_BAND_QUOTE_RECORDS_MAX 1048576
 #define CONTOUR_BAND_QUOTE_STACK 17408
 
+/* How many bytes of stack an exchange takes at most, whatever it is given, which rust/contour-band/tests/stack.c measures. */
+#define CONTOUR_BAND_EXCHANGE_STACK 12288
+
 /* The largest number of a box and of a point, in sixteenths of a stage unit; its negative is the least. */
 #define CONTOUR_BAND_FARTHEST 536870912
 
@@ -117,7 +123,7 @@ extern "C" {
 /* The refusals, each with its condition and its spot. They stand in the order in which an operation tries them: banding 18, 1
  * to 8, 17 and 20 (5, 2, 20, 3, 4 and 17 curve by curve), and 19 for the bench station alone; banding in binary64 those of
  * banding but for 19, and 21 of each coordinate before 4; banding a B-spline 18, 1, 24, 25, 7 and 8; foretelling those of
- * banding but for 7 and 19; the tightest band those of banding but for 1, 7, 8 and 19; judging 18 and 9 to 11, a list of
+ * banding but for 7 and 19; the tightest band those of banding but for 1, 7, 8 and 19; exchanging a curve those of banding but for 8 and 19, then 22 and 23, then those of banding the changed outline; judging 18 and 9 to 11, a list of
  * points 18, 9, 10, 101 and then 8, and 11 is the answer to a point; a quote 18, 9, 26 and 10; banding and judging together
  * those of banding and then 11, drawing 12 and 13, a box in binary64 12. A refusal leaves every lent list as it was.
  * contour_refusal_text has each in words. */
@@ -139,6 +145,10 @@ enum contour_band_refusal {
     CONTOUR_BAND_TOO_WIDE = 7,         /* a box at the last depth, 8, or 4 for degrees 4 and 5, has a longer diagonal than the
                                         * tolerance; 512 * curve + node, for the first */
     CONTOUR_BAND_TOO_MANY_LEAVES = 19, /* the bench station's outline has more than 128 leaves; the number of leaves */
+    CONTOUR_BAND_NO_SUCH_CURVE = 22,   /* the curve to exchange is not in the outline; its number */
+    CONTOUR_BAND_OTHER_RECORDS = 23,   /* the records given are not those of the outline, see contour_exchange; the first index
+                                        * at which they differ, or the least of their count, records_length and the count of
+                                        * the outline's */
     CONTOUR_BAND_TOO_FEW_RECORDS = 8,  /* records_length is less than (6 + 4 * m) * leaves; the number of leaves. Of points:
                                         * answers_length is less than 3 * points; the number of points. Of foretelling:
                                         * depths_length is less than the curves; the number of curves */
@@ -276,6 +286,31 @@ struct contour_band_tightest {
  * The call walks the outline's curves at most 21 times, as contour_band does with a records_length of 0.
  * Stack: CONTOUR_BAND_STATION_STACK bytes are enough, whatever is given. */
 struct contour_band_tightest contour_tightest(const int32_t *outline, size_t outline_length, uint32_t m, size_t leaves);
+
+/* Exchanges one curve of an outline whose records are there, and gives the records and the report of the changed outline.
+ *
+ * outline, tolerance, m: as for contour_band.
+ * number: which curve of the outline gives way, from 0.
+ * curve: CONTOUR_BAND_CURVE numbers, the degree of the new curve and x and y of its points, in stage units, as they stand in an
+ *     outline. Those past its degree are not read, and may be any numbers.
+ * given: how many numbers the outline's records have, CONTOUR_BAND_RECORD(m) for each of its leaves.
+ * records: at its front the records that contour_band wrote for the outline with this tolerance and m. What stands past them is
+ *     not looked at.
+ *
+ * Accepted: the answer and the records are those of contour_band for the changed outline: the outline's numbers with those of
+ * the new curve in the place of those of the old one. Records of other curves keep their numbers and only move. The numbers
+ * past the new records stay as they were, old records included.
+ * Refused: every number of the records stays as it was. First come the refusals of contour_band for the outline, 8 left out;
+ * then 22; then 23, where one of the first given numbers is not that of the outline's records, or given is not their count, or
+ * is above records_length; then the refusals of contour_band for the changed outline, whose indexes are those in the changed
+ * list: a new degree moves the curves after it, and 17 may fall on the curve after the new one. records_length is what 8 goes
+ * by, so the records may have to be lent with room for more leaves than the outline has.
+ *
+ * The call computes the outline's records anew, to compare them, and then those of the new curve alone.
+ * Stack: CONTOUR_BAND_EXCHANGE_STACK bytes are enough, whatever is given. */
+struct contour_band_answer contour_exchange(const int32_t *outline, size_t outline_length, int32_t tolerance, uint32_t m,
+                                            size_t number, const int32_t curve[CONTOUR_BAND_CURVE], size_t given,
+                                            int32_t *records, size_t records_length);
 
 /* What judging answers. */
 struct contour_band_judgement {
@@ -486,6 +521,12 @@ static inline const char *contour_refusal_text(uint32_t refusal) {
         return "the leaf list of a quote has more than 1048576 records; the spot is the list's length";
     case CONTOUR_BAND_NOT_WHOLE:
         return "a coordinate is no whole number; the spot is its index in the outline";
+    case CONTOUR_BAND_NO_SUCH_CURVE:
+        return "the outline has no curve of this number; the spot is the number";
+    case CONTOUR_BAND_OTHER_RECORDS:
+        return "the records given are not the outline's, or their count passes the list; the spot is the first "
+               "index that differs, or the least of the count, the list's length and the length of the outline's "
+               "records";
     case CONTOUR_BAND_ODD_POINTS:
         return "the list of points has an odd count of numbers; the spot is the count";
     default:

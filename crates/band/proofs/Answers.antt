@@ -7,7 +7,7 @@ use Prim.Native.Nat.{ℕ, zero, suc, _+_, _-_, _*_, _^_, _≤_, _<_}
 use native.Mathlib.Nat.{zero-add, mul-le-mul, le-of-eq}
 use native.Mathlib.Omega.{arith}
 use borrow.Author.Tests.{lt-ltb, le-ltb}
-use lib.ListN.{length, length-append, drop}
+use lib.ListN.{length, drop}
 use lib.Seq.{sets, sets-eq}
 use lib.IntN.{ℤ, natAbs}
 use lib.Ieee.{Float}
@@ -43,8 +43,8 @@ use Rattle.band.specs.Inside.{givenOf, settingFor}
 use Rattle.band_passes.specs.Inside.{numbersOf, readAt, nextOf, curvesFrom, curvesIn, AllWalkable, end, more, Readable, countedOf, Fillable}
 use Rattle.band_passes.proofs.Reading.{curves-count}
 use Rattle.band_passes.proofs.Counting.{nodes-of-curves, few-leaves}
-use Rattle.band_records.proofs.Lengths.{records-length}
 use Rattle.band_passes.specs.Meeting.{AllMeet}
+use Rattle.band_passes.proofs.Among.{all-records-length}
 use Rattle.band_passes.proofs.Wide.{none-wide}
 use Rattle.band.proofs.Cases.{many-said, few-said, done-said}
 use Rattle.band.proofs.ByPieces.{listed, all-records-same, counted-same, band-curves-same}
@@ -59,17 +59,6 @@ counted-stopped none l r e = let z : _≡_ {A = ℕ} 0 1 = cc in absurd (omega a
 counted-stopped (some q) l r e = cc
 
 -- ---- what stands in the list afterwards
-pub all-records-length : (σ : Setting) (T : ℤ) (k : ℕ) (cs : List Curve) → length (allRecords σ T k cs) ≡ recordLength σ * leavesOf σ T cs
-unfolding allRecords leavesOf
-all-records-length σ T k [] = omega arith
-all-records-length σ T k (c ∷ cs) =
-    omega (
-      arith,
-      length-append (recordsOf σ k c (endsOf σ T c)) (allRecords σ T (suc k) cs),
-      records-length σ k c (endsOf σ T c),
-      all-records-length σ T (suc k) cs,
-    )
-
 front-written : (l rs : List ℤ) → length rs ≤ length l → sets l 0 rs ≡ rs ++ drop (length rs) l
 front-written l rs h = sets-eq rs l 0 (omega (arith, h)) ∙ ap (λ n. rs ++ drop n l) (zero-add (length rs))
 

@@ -36,7 +36,8 @@ use Rattle.walk_tree.proofs.Failing.{none-passing}
 use Rattle.band.proofs.Sound.{curves-leaves, curves-sound}
 use Rattle.band.proofs.Faults.{Early, banded-curves, faultless-or}
 use Rattle.band.proofs.Given.{Given, outline-given}
-use Rattle.band.proofs.Answers.{all-records-length, written-refused}
+use Rattle.band_passes.proofs.Among.{all-records-length}
+use Rattle.band.proofs.Answers.{written-refused}
 use Rattle.band.proofs.Cases.{wide-said, many-said, few-said, done-said, said-wide, said-many, said-few, said-done}
 
 -- ---- the answer of banding, behind the checks before the walk

@@ -2,6 +2,7 @@
 pub mod Wide
 pub mod Counting
 pub mod Reading
+pub mod Among
 -- Laws of the first pass.
 pub mod CountPasses
 -- Laws of the second pass.

@@ -103,7 +103,7 @@ module _ (σ : Setting) (T : ℤ) where
       ))
       (either (firstFailing (nodeMeets σ T c) (endsOf σ T c)))
 
-  behind : (s : ℕ) (front cs : List Curve) → AllMeet σ T front → firstTooWide σ T s (front ++ cs) ≡ firstTooWide σ T (s + length front) cs
+  pub behind : (s : ℕ) (front cs : List Curve) → AllMeet σ T front → firstTooWide σ T s (front ++ cs) ≡ firstTooWide σ T (s + length front) cs
   behind s [] cs h = ap (λ m. firstTooWide σ T m cs) {x = s} {y = s + 0} (omega arith)
   behind s (c ∷ front) cs h =
       wide-later s c (front ++ cs) (passing-none (nodeMeets σ T c) (endsOf σ T c) (meet-head h)) ∙ behind (suc s) front cs (meet-rest h)

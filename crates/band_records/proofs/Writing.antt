@@ -55,7 +55,7 @@ joinedTo zero f = []
 joinedTo (suc n) f = joinedTo n f ++ f n
 
 module _ (f : ℕ → List ℤ) (four : (i : ℕ) → length (f i) ≡ 4) where
-  joined-length : (n : ℕ) → length (joinedTo n f) ≡ 4 * n
+  pub joined-length : (n : ℕ) → length (joinedTo n f) ≡ 4 * n
   joined-length zero = refl
   joined-length (suc n) = length-append (joinedTo n f) (f n) ∙ ap₂ _+_ (joined-length n) (four n) ∙ four-more n
     where
@@ -116,7 +116,7 @@ module _ (a b c d : ℕ → ℤ) where
 
 -- ---- from the terms to the curve
 module _ (σ : Setting) (k : ℕ) (c : Curve) {f : ℕ → List ℤ} (box-is : (i : ℕ) → i ≤ σ .pieces → f i ≡ boxNumbers (boxAt σ k c i)) where
-  boxes-are : (n : ℕ) → n ≤ breakPoints σ → joinedTo n f ≡ boxesTo σ n k c
+  pub boxes-are : (n : ℕ) → n ≤ breakPoints σ → joinedTo n f ≡ boxesTo σ n k c
   boxes-are zero h = refl
   boxes-are (suc n) h = ap₂ _++_ (boxes-are n (omega arith)) (box-is n (le-of-suc-le-suc h))
 

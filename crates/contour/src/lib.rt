@@ -6,6 +6,7 @@ ghost use Rattle.band.specs.Banding.{banded, written, bandedSpline, writtenSpli
 ghost use Rattle.band.specs.Banding.{bandedBinary64, writtenBinary64};
 ghost use Rattle.band_foretold.specs.Foretelling.{foretold, depthsWritten};
 ghost use Rattle.band_tightest.specs.Tightest.{tightest};
+ghost use Rattle.band_exchanged.specs.Exchange.{exchanged, exchangedList};
 ghost use Rattle.judge_points.specs.Points.{pointsJudged, judgedInto};
 ghost use Rattle.quote_price.specs.Quote.{quoted};
 ghost use Rattle.draw.specs.Drawing.{drawn, drawnInto};
@@ -137,6 +138,27 @@ pub extern "C" fn contour_tightest(outline: &[i32], m: u32, leaves: usize) -> Ti
 {
     let tightest = band_tighten::tightest_band(outline, m, leaves);
     tightest_in_numbers(tightest)
+}
+
+// Exchanges one curve of an outline whose records stand at the front of the list, `given` numbers of them, for another:
+// its degree and six points, of which those past the degree are not read.
+#[no_mangle]
+pub extern "C" fn contour_exchange(
+    outline: &[i32],
+    tolerance: i32,
+    m: u32,
+    number: usize,
+    curve: &[i32; 13],
+    given: usize,
+    records: &mut [i32],
+) -> Answer
+    ensures { λ r. ⌜ r ≡ bandAnswerOf (exchanged (lists m) tolerance (now (outline .entry)) number
+        (now (curve .entry)) given (now (records .entry))) ⌝ }
+    ensures { λ r. ⌜ now (records .exit) ≡ exchangedList (lists m) tolerance (now (outline .entry)) number
+        (now (curve .entry)) given (now (records .entry)) ⌝ }
+{
+    let exchanged = band_exchange::exchange(outline, tolerance, m, number, *curve, given, records);
+    in_numbers(exchanged)
 }
 
 // Judges the point (x, y), in sixteenths, against a list of leaf records of m pieces.

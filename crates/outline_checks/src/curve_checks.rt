@@ -12,7 +12,7 @@ use outline_reading::outline_curves::next_at;
 use refusals::Refusal;
 
 // Check 4: the first index from `from` up to `end` of a number that is no coordinate.
-fn first_beyond(ns: &[i32], from: usize, end: usize) -> Found
+pub fn first_beyond(ns: &[i32], from: usize, end: usize) -> Found
     requires { ⌜ (from ≤ end) × (end ≤ length (now ns)) ⌝ }
     ensures { λ r. ⌜ r ≡ foundOf (firstBeyond (now (ns .entry)) (end - from) from) ⌝ }
 {

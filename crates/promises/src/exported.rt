@@ -6,6 +6,7 @@ ghost use Rattle.band.specs.Banding.{banded, written, bandedSpline, writtenSpli
 ghost use Rattle.band.specs.Banding.{bandedBinary64, writtenBinary64};
 ghost use Rattle.band_foretold.specs.Foretelling.{foretold, depthsWritten};
 ghost use Rattle.band_tightest.specs.Tightest.{tightest};
+ghost use Rattle.band_exchanged.specs.Exchange.{exchanged, exchangedList};
 ghost use Rattle.judge_points.specs.Points.{pointsJudged, judgedInto};
 ghost use Rattle.quote_price.specs.Quote.{quoted};
 ghost use Rattle.draw.specs.Drawing.{drawn, drawnInto};
@@ -85,6 +86,23 @@ pub fn contour_tightest(outline: &[i32], m: u32, leaves: usize) -> TightestAnswe
     ensures { λ r. ⌜ r ≡ tightestAnswerOf (tightest (lists m) (now (outline .entry)) leaves) ⌝ }
 {
     contour::contour_tightest(outline, m, leaves)
+}
+
+pub fn contour_exchange(
+    outline: &[i32],
+    tolerance: i32,
+    m: u32,
+    number: usize,
+    curve: &[i32; 13],
+    given: usize,
+    records: &mut [i32],
+) -> Answer
+    ensures { λ r. ⌜ r ≡ bandAnswerOf (exchanged (lists m) tolerance (now (outline .entry)) number
+        (now (curve .entry)) given (now (records .entry))) ⌝ }
+    ensures { λ r. ⌜ now (records .exit) ≡ exchangedList (lists m) tolerance (now (outline .entry)) number
+        (now (curve .entry)) given (now (records .entry)) ⌝ }
+{
+    contour::contour_exchange(outline, tolerance, m, number, curve, given, records)
 }
 
 pub fn contour_judge(leaves: &[i32], m: u32, x: i32, y: i32) -> JudgingAnswer

@@ -1,4 +1,5 @@
-// Callers of banding, foretelling, the question for the tightest band, judging, drawing and handing out.
+// Callers of banding, foretelling, the question for the tightest band, exchanging a curve, judging, drawing and handing
+// out.
 ghost use mathlib.Core.Path.{_≡_};
 ghost use lib.ListN.{length};
 ghost use Rattle.setting.specs.Setting.{lists, station};
@@ -6,6 +7,7 @@ ghost use Rattle.band.specs.Banding.{banded, written, bandedSpline, writtenSpli
 ghost use Rattle.band.specs.Banding.{bandedBinary64, writtenBinary64};
 ghost use Rattle.band_foretold.specs.Foretelling.{foretold, depthsWritten};
 ghost use Rattle.band_tightest.specs.Tightest.{tightest};
+ghost use Rattle.band_exchanged.specs.Exchange.{exchanged, exchangedList};
 ghost use Rattle.judge.specs.Judging.{Judged};
 ghost use Rattle.judge_points.specs.Points.{pointsJudged, judgedInto};
 ghost use Rattle.quote_price.specs.Quote.{quoted};
@@ -66,6 +68,23 @@ pub fn tightest_band(outline: &[i32], m: u32, leaves: usize) -> Tightest
     ensures { λ r. ⌜ r ≡ tightest (lists m) (now (outline .entry)) leaves ⌝ }
 {
     band_tighten::tightest_band(outline, m, leaves)
+}
+
+pub fn exchange(
+    outline: &[i32],
+    tolerance: i32,
+    m: u32,
+    number: usize,
+    curve: [i32; 13],
+    given: usize,
+    records: &mut [i32],
+) -> Banded
+    ensures { λ r. ⌜ r
+        ≡ exchanged (lists m) tolerance (now (outline .entry)) number curve given (now (records .entry)) ⌝ }
+    ensures { λ r. ⌜ now (records .exit)
+        ≡ exchangedList (lists m) tolerance (now (outline .entry)) number curve given (now (records .entry)) ⌝ }
+{
+    band_exchange::exchange(outline, tolerance, m, number, curve, given, records)
 }
 
 pub fn judge(leaves: &[i32], m: u32, x: i32, y: i32) -> Judgement

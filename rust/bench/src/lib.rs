@@ -2,6 +2,7 @@
 
 #![forbid(unsafe_code)]
 
+pub mod changes;
 pub mod outlines;
 pub mod pairs;
 pub mod points;

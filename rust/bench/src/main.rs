@@ -5,6 +5,7 @@
 
 mod banding;
 mod drawing;
+mod exchanging;
 mod foretelling;
 mod growth;
 mod judging;
@@ -14,10 +15,11 @@ mod tightest;
 mod times;
 
 /// The tables, in order.
-const TABLES: [(&str, fn()); 8] = [
+const TABLES: [(&str, fn()); 9] = [
     ("banding", banding::run),
     ("foretelling", foretelling::run),
     ("tightest", tightest::run),
+    ("exchanging", exchanging::run),
     ("judging", judging::run),
     ("quoting", quoting::run),
     ("drawing", drawing::run),

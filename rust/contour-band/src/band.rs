@@ -213,7 +213,7 @@ pub fn binary64_band(
 }
 
 /// An answer in numbers as a report or a refusal.
-fn report(answer: library::Answer) -> Result<Report, Refusal> {
+pub(crate) fn report(answer: library::Answer) -> Result<Report, Refusal> {
     if answer.refusal != 0 {
         return Err(Refusal::new(answer.refusal, answer.spot));
     }

@@ -64,6 +64,7 @@
 
 mod band;
 mod cover;
+mod exchange;
 mod foretell;
 mod judge;
 mod leaf;
@@ -77,6 +78,7 @@ mod units;
 
 pub use band::{band, binary64_band, spline_band, station_band, Report, STATION_CURVES, STATION_LEAVES};
 pub use cover::{draw, VERTEX_ROOM};
+pub use exchange::{exchange, CURVE_LENGTH};
 pub use foretell::{foretell, Foretold};
 pub use judge::{band_and_judge, judge, judge_points, Judgement, Outcome, FARTHEST};
 pub use leaf::{leaves, record_length, Bounds, BoxBounds, Leaf};

@@ -187,6 +187,18 @@ extern "C" {
 
     fn contour_tightest(outline: *const i32, outline_length: usize, m: u32, leaves: usize) -> Tightest;
 
+    fn contour_exchange(
+        outline: *const i32,
+        outline_length: usize,
+        tolerance: i32,
+        m: u32,
+        number: usize,
+        curve: *const i32,
+        given: usize,
+        records: *mut i32,
+        records_length: usize,
+    ) -> Answer;
+
     fn contour_judge(leaves: *const i32, leaves_length: usize, m: u32, x: i32, y: i32) -> Judgement;
 
     fn contour_judge_points(
@@ -287,6 +299,32 @@ pub fn tightest(outline: &[i32], m: u32, leaves: usize) -> Tightest {
     // Safety: the slice gives a valid, aligned part of memory, and the function is proved to stay
     // inside it for all contents and lengths.
     unsafe { contour_tightest(outline.as_ptr(), outline.len(), m, leaves) }
+}
+
+/// The answer for an outline of which one curve is exchanged. Writes to `records` as the header says.
+pub fn exchange(
+    outline: &[i32],
+    tolerance: i32,
+    m: u32,
+    number: usize,
+    curve: &[i32; 13],
+    given: usize,
+    records: &mut [i32],
+) -> Answer {
+    // Safety: as for `band`; the function is proved to read of the new curve nothing but its 13 numbers.
+    unsafe {
+        contour_exchange(
+            outline.as_ptr(),
+            outline.len(),
+            tolerance,
+            m,
+            number,
+            curve.as_ptr(),
+            given,
+            records.as_mut_ptr(),
+            records.len(),
+        )
+    }
 }
 
 /// The judgement of a point against a list of leaf records.
@@ -477,6 +515,33 @@ mod tests {
         assert_eq!(box_short([8, 8, -24, -24].into()), short(0, 0, 1, 0.5, -1.5));
         let middle = Short { half_width: 0.03125, ..short(0, 0, 2, 0.03125, -1.5) };
         assert_eq!(box_short([0, 1, -24, -24].into()), middle);
+    }
+
+    #[test]
+    fn an_exchange_answers_for_the_old_outline_and_then_for_the_new_one() {
+        let refused = |refusal, spot| Answer { refusal, spot, curves: 0, leaves: 0, nodes: 0 };
+        // Curve A, and its chord: one leaf each.
+        let outline = [3, 0, 0, 10, 30, 20, 30, 30, 0, 1, 30, 0, 0, 0];
+        let mut records = [-1; 3 * 18];
+        assert_eq!(band(&outline, 44, 3, &mut records).leaves, 2);
+        let before = records;
+        let bow = [2, 30, 0, 15, -40, 0, 0, 7, 7, 7, 7, 7, 7];
+        let mut ask =
+            |m, number, curve, given| exchange(&outline, 44, m, number, &curve, given, &mut records);
+        assert_eq!(ask(9, 2, bow, 35), refused(18, 0));
+        assert_eq!(ask(3, 2, bow, 35), refused(22, 2));
+        assert_eq!(ask(3, usize::MAX, bow, 35), refused(22, u64::MAX));
+        assert_eq!(ask(3, 1, [6; 13], 35), refused(23, 35));
+        assert_eq!(ask(3, 1, [6; 13], 37), refused(23, 36));
+        assert_eq!(ask(3, 1, [6; 13], 36), refused(2, 9));
+        assert_eq!(ask(3, 0, [1, 0, 0, 3, 0, 7, 7, 7, 7, 7, 7, 7, 7], 36), refused(17, 5));
+        assert_eq!(ask(3, 1, [2, 30, 0, 15, -800, 0, 0, 7, 7, 7, 7, 7, 7], 36), refused(8, 9));
+        assert_eq!(records, before);
+        let report = exchange(&outline, 44, 3, 1, &bow, 36, &mut records);
+        let mut anew = [-1; 3 * 18];
+        let changed = [&outline[..9], &bow[..7]].concat();
+        assert_eq!(report, band(&changed, 44, 3, &mut anew));
+        assert_eq!((records, report.leaves), (anew, 2));
     }
 
     #[test]

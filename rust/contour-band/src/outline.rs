@@ -80,6 +80,17 @@ impl Outline {
         Ok(self)
     }
 
+    /// Exchanges a curve for one that fits in its place.
+    pub(crate) fn replace(&mut self, curve: usize, points: &[[i32; 2]]) {
+        let start = self.starts[curve];
+        let end = self.starts.get(curve + 1).copied().unwrap_or(self.numbers.len());
+        let new: Vec<i32> = [&[points.len() as i32 - 1], &points.concat()[..]].concat();
+        for later in &mut self.starts[curve + 1..] {
+            *later = *later - end + start + new.len();
+        }
+        self.numbers.splice(start..end, new);
+    }
+
     /// Where the last curve ends, and the next one begins; `None` without a curve.
     ///
     /// ```

@@ -2,9 +2,11 @@
 
 use crate::band::{band, binary64_band, spline_band, Report};
 use crate::cover::{draw, VERTEX_ROOM};
+use crate::exchange::exchange;
 use crate::judge::{judge, judge_points, Judgement};
 use crate::leaf::{leaves, record_length, Leaf};
 use crate::quote::{quote, Cents};
+use crate::outline::Outline;
 use crate::refusal::Refusal;
 use crate::tightest::tightest;
 
@@ -238,6 +240,53 @@ impl Band {
     pub fn quote(&self) -> Cents {
         quote(&self.records, self.pieces)
             .expect("the records of a band pass, and are no more than a quote takes")
+    }
+
+    /// Exchanges one curve of the outline that the band is of, and changes the band and the outline alike. The leaves of other
+    /// curves are moved and not computed anew.
+    ///
+    /// ```
+    /// use contour_band::{Band, Outline, Refusal};
+    ///
+    /// let mut outline = Outline::new();
+    /// outline.curve(&[[0, 0], [10, 30], [20, 30], [30, 0]])?.curve(&[[30, 0], [0, 0]])?;
+    /// let mut band = Band::new(&outline, 44, 3)?;
+    /// // The arch becomes higher, and then has two leaves.
+    /// let report = band.exchange(&mut outline, 0, &[[0, 0], [10, 60], [20, 60], [30, 0]])?;
+    /// assert_eq!((report.curves, report.leaves), (2, 3));
+    /// assert_eq!(band, Band::new(&outline, 44, 3)?);
+    /// // A curve that does not meet its neighbours is refused, and nothing changes.
+    /// let refused = band.exchange(&mut outline, 0, &[[0, 0], [31, 0]]);
+    /// assert_eq!(refused, Err(Refusal::Gap { index: 5 }));
+    /// assert_eq!(band, Band::new(&outline, 44, 3)?);
+    /// # Ok::<(), Refusal>(())
+    /// ```
+    ///
+    /// # Errors
+    ///
+    /// The refusals of [`exchange`], but for [`Refusal::TooFewRecords`]. The band and the outline are then as they were.
+    pub fn exchange(
+        &mut self,
+        outline: &mut Outline,
+        curve: usize,
+        points: &[[i32; 2]],
+    ) -> Result<Report, Refusal> {
+        let mut new = [0; 13];
+        new[0] = points.len() as i32 - 1;
+        for (number, given) in new[1..].iter_mut().zip(points.iter().flatten()) {
+            *number = *given;
+        }
+        let given = self.records.len();
+        // No curve has more than 256 leaves.
+        self.records.resize(given + 256 * record_length(self.pieces), 0);
+        let records = &mut self.records[..];
+        let exchanged = exchange(outline.numbers(), self.tolerance, self.pieces, curve, new, given, records);
+        self.report = exchanged.unwrap_or(self.report);
+        self.records.truncate(self.report.leaves * record_length(self.pieces));
+        exchanged.map(|report| {
+            outline.replace(curve, points);
+            report
+        })
     }
 
     /// Judges a point, in sixteenths of a stage unit.

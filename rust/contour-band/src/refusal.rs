@@ -79,6 +79,17 @@ pub enum Refusal {
         /// The first such node of the walk: 256 to 511, or 16 to 31 where the curve's degree is 4 or 5.
         node: u32,
     },
+    /// 22: the curve that is to be exchanged is not in the outline.
+    NoSuchCurve {
+        /// The number that was given.
+        number: usize,
+    },
+    /// 23: the records given are not those of the outline, or their count passes the list.
+    OtherRecords {
+        /// The first index at which they differ; where none does, the least of the count given, the list's length and the
+        /// count of the outline's records.
+        index: usize,
+    },
     /// 8: the lent list has fewer numbers than the leaves, the points or the curves need.
     TooFewRecords {
         /// How many leaves the outline has; each needs [`record_length`](crate::record_length) numbers. Of a list of
@@ -180,6 +191,7 @@ impl Refusal {
             | Refusal::TooFewPieces { index }
             | Refusal::NotWhole { index }
             | Refusal::SplineCoordinate { index } => index as u64,
+            Refusal::NoSuchCurve { number } => number as u64,
             Refusal::CutShort { length }
             | Refusal::LeafListLength { length }
             | Refusal::SplineLength { length }
@@ -260,6 +272,8 @@ impl Refusal {
             25 => "a coordinate of a B-spline's point is not -131072 to 131072; the spot is its index in the list",
             26 => "the leaf list of a quote has more than 1048576 records; the spot is the list's length",
             21 => "a coordinate is no whole number; the spot is its index in the outline",
+            22 => "the outline has no curve of this number; the spot is the number",
+            23 => "the records given are not the outline's, or their count passes the list; the spot is the first index that differs, or the least of the count, the list's length and the length of the outline's records",
             101 => "the list of points has an odd count of numbers; the spot is the count",
             number => unreachable!("no refusal has the number {number}"),
         }

@@ -100,6 +100,8 @@ const REFUSALS: &[Refusal] = &[
     Refusal::SplineCoordinate { index: 0 },
     Refusal::TooManyRecords { length: 0 },
     Refusal::NotWhole { index: 0 },
+    Refusal::NoSuchCurve { number: 0 },
+    Refusal::OtherRecords { index: 0 },
     Refusal::OddPoints { length: 0 },
 ];
 

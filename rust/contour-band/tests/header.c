@@ -1,4 +1,5 @@
-/* A C caller of the header: bands curve A, in binary64 too, and B-splines, foretells leaves, finds tightest bands, judges points,
+/* A C caller of the header: bands curve A, in binary64 too, and B-splines, foretells leaves, finds tightest bands, exchanges curves, judges
+ * points,
  * one by one and as a list, quotes leaves, draws two boxes, hands out boxes in binary64, and prints the answers, to be compared by
  * header.rs. */
 #include "contour_band.h"
@@ -156,6 +157,41 @@ static void tightest(size_t length, uint32_t m, size_t leaves) {
     printf("%u %llu %u\n", (unsigned)found.refusal, (unsigned long long)found.spot, (unsigned)found.tolerance);
 }
 
+/* Exchanges a curve of curve A and its chord, in a list of so many numbers, their records in front; the first and the last number
+ * of each record are printed, and what stands behind the records where there is room. */
+static void exchange(size_t number, const int32_t *curve, size_t given, size_t length) {
+    const int32_t bow[14] = {3, 0, 0, 10, 30, 20, 30, 30, 0, 1, 30, 0, 0, 0};
+    int32_t records[3 * CONTOUR_BAND_RECORD(M) + 1];
+    for (int i = 0; i <= 3 * CONTOUR_BAND_RECORD(M); i++) {
+        records[i] = -1;
+    }
+    contour_band(bow, 14, 44, M, records, 2 * CONTOUR_BAND_RECORD(M));
+    print(contour_exchange(bow, 14, 44, M, number, curve, given, records, length));
+    for (int i = 0; i < 3; i++) {
+        printf("  %d %d", (int)records[i * CONTOUR_BAND_RECORD(M)], (int)records[(i + 1) * CONTOUR_BAND_RECORD(M) - 1]);
+    }
+    printf("  %d\n", (int)records[3 * CONTOUR_BAND_RECORD(M)]);
+}
+
+/* A line for curve A, and an arch twice as high, which has two leaves; then the refusals. */
+static void exchanges(void) {
+    const int32_t line[CONTOUR_BAND_CURVE] = {1, 0, 0, 30, 0, INT32_MIN, INT32_MIN, 7, 7, 7, 7, 7, 7};
+    const int32_t high[CONTOUR_BAND_CURVE] = {3, 0, 0, 10, 60, 20, 60, 30, 0, INT32_MAX, INT32_MAX, 7, 7};
+    const int32_t apart[CONTOUR_BAND_CURVE] = {1, 0, 0, 30, 1};
+    const int32_t sextic[CONTOUR_BAND_CURVE] = {CONTOUR_BAND_DEGREE_MAX + 1};
+    const size_t own = 2 * CONTOUR_BAND_RECORD(M), room = 3 * CONTOUR_BAND_RECORD(M);
+    exchange(0, line, own, own);
+    exchange(0, high, own, room + 1);
+    exchange(0, high, own, room - 1);
+    exchange(2, high, own, room);
+    exchange(SIZE_MAX, high, own, room);
+    exchange(0, high, own - 1, room);
+    exchange(0, high, SIZE_MAX, room);
+    exchange(0, high, own, own - 1);
+    exchange(0, apart, own, room);
+    exchange(1, sextic, own, room);
+}
+
 /* Quotes so many numbers of a list, as records of m pieces. */
 static void quote(const int32_t *leaves, size_t leaves_length, uint32_t m) {
     struct contour_band_quote quote = contour_quote(leaves, leaves_length, m);
@@ -256,6 +292,7 @@ int main(void) {
     tightest(13, M, 2);
     tightest(0, M, 2);
     tightest(0, CONTOUR_BAND_PIECES_MAX + 1, 2);
+    exchanges();
     quotes();
 
     const struct contour_band_box near = {0, 1, 0, 1}, far = {3, 4, 3, 4};

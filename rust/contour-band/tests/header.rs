@@ -99,6 +99,26 @@ const EXPECTED: &str = "\
 3 13 0
 6 0 0
 18 0 0
+0 0 2 2 2
+  0 0  1 0  -1 -1  -1
+0 0 2 3 4
+  0 739  0 19  1 0  -1
+8 3 0 0 0
+  0 38  1 0  -1 -1  -1
+22 2 0 0 0
+  0 38  1 0  -1 -1  -1
+22 18446744073709551615 0 0 0
+  0 38  1 0  -1 -1  -1
+23 35 0 0 0
+  0 38  1 0  -1 -1  -1
+23 36 0 0 0
+  0 38  1 0  -1 -1  -1
+23 35 0 0 0
+  0 38  1 0  -1 -1  -1
+17 5 0 0 0
+  0 38  1 0  -1 -1  -1
+2 9 0 0 0
+  0 38  1 0  -1 -1  -1
 0 0 158
 0 0 315
 0 0 394
@@ -158,17 +178,18 @@ fn a_c_program_gets_the_same_answers() {
 }
 
 /// What the header says of the stack of a call: of the station's, for curves of each degree, of a list in binary64, of a
-/// B-spline's, refused or banded, with the most leaves or few, and of the tightest band's; of judging a list of points; and of a quote.
+/// B-spline's, refused or banded, with the most leaves or few, and of the tightest band's; of an exchange, from every degree to
+/// every degree; of judging a list of points; and of a quote.
 #[test]
 fn calls_take_little_stack() {
     let printed = printed(&c::root().join("rust/contour-band/tests/stack.c"), "stack");
     let mut most = [0; 5];
-    let (mut binary64, mut splines, mut tightest, mut points, mut quotes) = (0, 0, 0, 0, 0);
+    let (mut binary64, mut splines, mut tightest, mut exchanges, mut points, mut quotes) = (0, 0, 0, 0, 0, 0);
     for line in printed.lines() {
         let (call, numbers) = line.split_once(' ').expect("a word and numbers are printed");
         let numbers: Vec<i32> = numbers.split(' ').map(|n| n.parse().expect("a number is printed")).collect();
         match (call, &numbers[..]) {
-            ("promised", promised) => assert_eq!(promised, [6_144, 34_816, 17_408]),
+            ("promised", promised) => assert_eq!(promised, [6_144, 34_816, 17_408, 12_288]),
             ("station", &[degree, bytes]) => {
                 assert!(bytes <= 6_144, "{bytes} bytes of stack at degree {degree}");
                 let at = usize::try_from(degree).expect("a degree is printed") - 1;
@@ -186,6 +207,10 @@ fn calls_take_little_stack() {
                 assert!(bytes <= 6_144, "{bytes} bytes of stack");
                 tightest = bytes.max(tightest);
             }
+            ("exchange", &[bytes]) => {
+                assert!(bytes <= 12_288, "{bytes} bytes of stack");
+                exchanges = bytes.max(exchanges);
+            }
             ("points", &[bytes]) => {
                 assert!(bytes <= 34_816, "{bytes} bytes of stack");
                 points = bytes.max(points);
@@ -199,12 +224,12 @@ fn calls_take_little_stack() {
     }
     println!(
         "the most bytes of stack: the station's by degree {most:?}, in binary64 {binary64}, a B-spline's {splines}, \
-        the tightest band's {tightest}, judging points {points}, a quote {quotes}"
+        the tightest band's {tightest}, an exchange {exchanges}, judging points {points}, a quote {quotes}"
     );
     // Some outline of each degree is walked: a refusal before the walk takes less than 300 bytes.
     assert!(
-        most.iter().chain([&binary64, &splines, &tightest, &points, &quotes]).all(|bytes| *bytes > 1_024),
-        "{most:?} {binary64} {splines} {tightest} {points} {quotes}"
+        most.iter().chain([&binary64, &splines, &tightest, &exchanges, &points, &quotes]).all(|bytes| *bytes > 1_024),
+        "{most:?} {binary64} {splines} {tightest} {exchanges} {points} {quotes}"
     );
 }
 

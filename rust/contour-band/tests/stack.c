@@ -1,4 +1,4 @@
-/* How much stack contour_station_band, contour_binary64_band, contour_spline_band, contour_tightest, contour_judge_points and
+/* How much stack contour_station_band, contour_binary64_band, contour_spline_band, contour_tightest, contour_exchange, contour_judge_points and
  * contour_quote take: each call runs on a stack of its own, filled with one byte beforehand, and what it did not touch is counted
  * from the far end. Prints the bytes that the header promises, then a line for each call, the station's with its degree, to be
  * compared by header.rs. */
@@ -21,6 +21,10 @@ static size_t outline_length, records_length;
 static int32_t tolerance;
 static uint32_t m;
 
+/* What an exchange is given, with an outline of three curves: the middle one gives way. */
+static int32_t new_curve[CONTOUR_BAND_CURVE], room[3 * 256 * CONTOUR_BAND_RECORD(CONTOUR_BAND_PIECES_MAX)];
+static size_t given;
+
 /* What judging is given, with m: one record more than there are runs. */
 static int32_t leaves[2049 * CONTOUR_BAND_RECORD(CONTOUR_BAND_PIECES_MAX)];
 static const int32_t points[12] = {0, 0, 3, 1, 2049, 1, CONTOUR_BAND_FARTHEST, 0, CONTOUR_BAND_FARTHEST + 1, 0,
@@ -41,6 +45,10 @@ static void spline(void) { contour_spline_band(outline, outline_length, toleranc
 
 /* With as many leaves as there are numbers to lend. */
 static void tightest(void) { contour_tightest(outline, outline_length, m, records_length); }
+
+static void exchange(void) {
+    contour_exchange(outline, outline_length, tolerance, m, 1, new_curve, given, room, sizeof room / sizeof *room);
+}
 
 static void judge_points(void) {
     contour_judge_points(leaves, leaves_length, m, points, points_length, answers, sizeof answers / sizeof *answers);
@@ -138,6 +146,28 @@ static void measure_splines(void) {
     }
 }
 
+/* Three curves of a degree, the middle one exchanged for one of each degree, with its records, and with one number too few. */
+static void measure_exchanges(void) {
+    const int32_t far[] = {0, 1, 800, CONTOUR_BAND_COORDINATE_MAX};
+    const int32_t tolerances[] = {1, 3, 100, CONTOUR_BAND_TOLERANCE_MAX};
+    for (m = CONTOUR_BAND_PIECES_MIN; m <= CONTOUR_BAND_PIECES_MAX; m++) {
+        for (int i = 0; i < 5 * 5 * 4 * 4 * 4; i++) {
+            const int degree = 1 + i / 5 % 5;
+            curves(1, degree, far[i / 25 % 4]);
+            memcpy(new_curve, outline, outline_length * sizeof *outline);
+            curves(3, 1 + i % 5, far[i / 100 % 4]);
+            tolerance = tolerances[i / 400];
+            const struct contour_band_answer band =
+                contour_band(outline, outline_length, tolerance, m, room, sizeof room / sizeof *room);
+            given = CONTOUR_BAND_RECORD(m) * band.leaves;
+            printf("exchange %d\n", touched(exchange) - touched(nothing));
+            contour_band(outline, outline_length, tolerance, m, room, sizeof room / sizeof *room);
+            given--;
+            printf("exchange %d\n", touched(exchange) - touched(nothing));
+        }
+    }
+}
+
 static void measure_points(void) {
     const int counts[] = {0, 1, 2, 64, 65, 2048, 2049};
     for (m = CONTOUR_BAND_PIECES_MIN; m <= CONTOUR_BAND_PIECES_MAX; m++) {
@@ -162,7 +192,8 @@ static void measure_quotes(void) {
 }
 
 int main(void) {
-    printf("promised %d %d %d\n", CONTOUR_BAND_STATION_STACK, CONTOUR_BAND_POINTS_STACK, CONTOUR_BAND_QUOTE_STACK);
+    printf("promised %d %d %d %d\n", CONTOUR_BAND_STATION_STACK, CONTOUR_BAND_POINTS_STACK, CONTOUR_BAND_QUOTE_STACK,
+           CONTOUR_BAND_EXCHANGE_STACK);
     /* A program's first call of a function may be the loader's too. */
     m = 1;
     tolerance = 100;
@@ -171,10 +202,12 @@ int main(void) {
     touched(binary64);
     touched(spline);
     touched(tightest);
+    touched(exchange);
     touched(judge_points);
     touched(quote);
     measure_station();
     measure_splines();
+    measure_exchanges();
     measure_points();
     measure_quotes();
     return 0;

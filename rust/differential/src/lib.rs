@@ -8,6 +8,7 @@ pub mod binary64;
 pub mod covers;
 pub mod curves;
 pub mod drawing;
+pub mod exchanging;
 pub mod foretelling;
 pub mod judging;
 pub mod leaf_lists;

@@ -60,6 +60,15 @@ pub fn band_most(
     for_pieces!(m, band_units)(&curves, most.leaves, tolerance, records)
 }
 
+/// What banding an outline reports and the records that it writes, for a caller whose list is never too short: every check
+/// but 8.
+pub fn banded(outline: &[i32], tolerance: i32, m: u32) -> Result<(Report, Vec<i32>), Refusal> {
+    check_pieces(m)?;
+    outline::check_tolerance(tolerance)?;
+    let curves = outline::curves(outline, outline::MOST_CURVES, m)?;
+    for_pieces!(m, records_of)(&curves, tolerance)
+}
+
 /// Bands the uniform cubic B-spline of a list of points, x and y of each, as [`band`] does an outline.
 pub fn spline_band(points: &[i32], tolerance: i32, m: u32, records: &mut [i32]) -> Result<Report, Refusal> {
     check_pieces(m)?;
@@ -116,10 +125,16 @@ fn band_curves<const B: usize, const U: i64>(
     }
     let length = record_length(B as u32 - 1);
     let room = records.get_mut(..length * leaves).ok_or(Refusal::TooFewRecords { leaves })?;
-    for (record, leaf) in room.chunks_exact_mut(length).zip(&walk.leaves) {
-        leaf.write(record);
-    }
-    Ok(Report { curves: curves.len() as u64, leaves: leaves as u64, nodes: walk.nodes })
+    walk.write(room);
+    Ok(walk.report(curves.len()))
+}
+
+/// The report and the records of curves whose control values are stage units. Check 7.
+fn records_of<const B: usize>(curves: &[Curve], tolerance: i32) -> Result<(Report, Vec<i32>), Refusal> {
+    let walk = walked::<B, 1>(curves, tolerance)?;
+    let mut records = vec![0; record_length(B as u32 - 1) * walk.leaves.len()];
+    walk.write(&mut records);
+    Ok((walk.report(curves.len()), records))
 }
 
 /// How many leaves curves have whose control values are stage units, with B break points to a leaf. Check 7.
@@ -144,6 +159,18 @@ struct Walk<const B: usize, const U: i64> {
 }
 
 impl<const B: usize, const U: i64> Walk<B, U> {
+    /// What was counted, of so many curves.
+    fn report(&self, curves: usize) -> Report {
+        Report { curves: curves as u64, leaves: self.leaves.len() as u64, nodes: self.nodes }
+    }
+
+    /// Writes the records of the leaves to a list that has room for just these.
+    fn write(&self, room: &mut [i32]) {
+        for (record, leaf) in room.chunks_exact_mut(record_length(B as u32 - 1)).zip(&self.leaves) {
+            leaf.write(record);
+        }
+    }
+
     /// Visits a node, and below it the left half before the right half.
     fn visit(&mut self, number: usize, curve: &Curve, node: usize, depth: u32) -> Result<(), Refusal> {
         self.nodes += 1;

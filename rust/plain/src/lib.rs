@@ -3,7 +3,8 @@
 //!
 //! [`band`] encloses an outline of Bézier curves in boxes, with m pieces to a leaf, and [`station_band`] a small
 //! one; [`spline_band`] encloses a B-spline, [`binary64_band`] an outline in binary64. [`foretell`] says beforehand how many leaves there can be, and [`tightest`]
-//! at which tolerance there are first no more than so many. [`judge`] says whether a point lies on what they cover,
+//! at which tolerance there are first no more than so many. [`exchange`] puts another curve in the place of one of a banded
+//! outline. [`judge`] says whether a point lies on what they cover,
 //! [`band_and_judge`] does both, and [`draw`] draws the hull of two boxes. [`box_units`] and [`box_short`] give a box in
 //! binary64. [`text::answer`] is the text program. The
 //! modules follow the documents: the checks of an outline, of a degree and of m, the curves of a B-spline, halving, the
@@ -24,6 +25,7 @@ mod enclosure;
 mod exact;
 #[cfg(test)]
 mod examples;
+mod exchange;
 mod foretell;
 mod form;
 mod hull;
@@ -40,6 +42,7 @@ mod tightest;
 
 pub use band::{band, binary64_band, spline_band, station_band, Report};
 pub use binary64::{box_short, box_units, Short};
+pub use exchange::exchange;
 pub use foretell::{foretell, Foretold};
 pub use hull::draw;
 pub use judge::{band_and_judge, judge, judge_points, Judgement};

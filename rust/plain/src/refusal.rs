@@ -102,6 +102,16 @@ pub enum Refusal {
         /// Where it stands in the outline.
         index: usize,
     },
+    /// 22: the curve to exchange is not in the outline.
+    NoSuchCurve {
+        /// The number that was given.
+        number: usize,
+    },
+    /// 23: the records given are not those of the outline, or are more than the list has.
+    OtherRecords {
+        /// Where they first differ, or the shortest of their count, the list and the outline's own records.
+        index: usize,
+    },
     /// 24: a B-spline's list of points has an odd count of numbers, too few or too many.
     SplineLength {
         /// The length of the list.
@@ -149,6 +159,8 @@ impl Refusal {
             Refusal::TooManyLeaves { .. } => 19,
             Refusal::TooFewPieces { .. } => 20,
             Refusal::NotWhole { .. } => 21,
+            Refusal::NoSuchCurve { .. } => 22,
+            Refusal::OtherRecords { .. } => 23,
             Refusal::SplineLength { .. } => 24,
             Refusal::SplineCoordinate { .. } => 25,
             Refusal::TooManyRecords { .. } => 26,
@@ -168,7 +180,9 @@ impl Refusal {
             | Refusal::Gap { index }
             | Refusal::TooFewPieces { index }
             | Refusal::NotWhole { index }
+            | Refusal::OtherRecords { index }
             | Refusal::SplineCoordinate { index } => index,
+            Refusal::NoSuchCurve { number } => number,
             Refusal::CutShort { length }
             | Refusal::LeafListLength { length }
             | Refusal::SplineLength { length }

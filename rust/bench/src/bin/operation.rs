@@ -5,8 +5,11 @@
 //! band with an outline, a number of curves or a depth where it has one, a tolerance and m, as in
 //! nominal:16:3, cubics-64:16:8 and arches-3:44:3, spline:16:3 a B-spline and splined:16:3 its curves as an
 //! outline; binary64, which bands an outline in binary64; count with an outline, into an empty list; foretell with an outline, at any tolerance; tightest with an outline,
-//! a number of leaves and m, as in cubics-64:128:3; judge with the place of
-//! the points and m, as in near:3, and with a number of curves where each is to have 256 leaves, as in near-4096:3;
+//! a number of leaves and m, as in cubics-64:128:3; exchange with a place, an outline, a tolerance and m, as in
+//! middle/cubics-64:16:3, where the place is first, middle or last for the curve that is changed, or line for the middle
+//! one made a line: there and back by turns, so TIMES is even; its engine may be anew, the proved engine's band of the
+//! changed outline into an exact list, or check, an exchange that is refused with 23 at its last number; judge with the
+//! place of the points and m, as in near:3, and with a number of curves where each is to have 256 leaves, as in near-4096:3;
 //! points, which judges TIMES points in one call, with the same, and with -scattered behind the place or the number
 //! where the records are to stand in no order, as in near-4096-scattered:3; with the place none it makes TIMES calls
 //! without a point; quote with a number of records, at most 256 of a curve, and m, as in 1048576:3, and with -scattered
@@ -16,7 +19,7 @@
 
 use bench::points::{Leaves, Point, POINTS};
 use bench::sampled::{self, Packing, M};
-use bench::{outlines, pairs, points};
+use bench::{changes, outlines, pairs, points};
 use contour_band::{record_length, Refusal, FARTHEST};
 use std::hint::black_box;
 use std::process::ExitCode;
@@ -31,6 +34,7 @@ fn main() -> ExitCode {
             "count" => count(engine, input, times),
             "foretell" => foretell(engine, input, times),
             "tightest" => tightest(engine, input, times),
+            "exchange" => exchange(engine, input, times),
             "judge" => judge(engine, input, times),
             "points" => judge_points(engine, input, times),
             "quote" => quote(engine, input, times),
@@ -41,7 +45,8 @@ fn main() -> ExitCode {
     };
     if done.is_none() {
         eprintln!(
-            "usage: operation plain|proved|sampled|check band|binary64|count|foretell|tightest|judge|points|quote|draw INPUT TIMES"
+            "usage: operation plain|proved|sampled|check|anew band|binary64|count|foretell|tightest|exchange|judge|points|quote|draw \
+            INPUT TIMES"
         );
         return ExitCode::FAILURE;
     }
@@ -160,6 +165,41 @@ fn tightest(engine: &str, input: &str, times: usize) -> Option<()> {
         assert_eq!(again, found);
     }
     println!("{}", found.unwrap_or(1_048_576));
+    Some(())
+}
+
+/// Exchanges one curve and exchanges it back, by turns, so many times in all; or bands the outline that results anew; or
+/// gives one number too few, which is refused with 23 after the whole comparison.
+fn exchange(engine: &str, input: &str, times: usize) -> Option<()> {
+    let (place, rest) = input.split_once('/')?;
+    let (outline, tolerance, m) = with_tolerance(rest)?;
+    let mut change = changes::change(place, &outline, tolerance, m)?;
+    for turn in 0..times {
+        let (from, to) = (turn % 2, (turn + 1) % 2);
+        let (outline, number, given) =
+            (black_box(&change.outlines[from][..]), change.number, change.given[from]);
+        let (curve, records) = (black_box(change.curves[to]), black_box(&mut change.records[..]));
+        match engine {
+            "plain" => {
+                plain::exchange(outline, tolerance, m, number, curve, given, records).map(|_| ()).ok()?
+            }
+            "proved" => contour_band::exchange(outline, tolerance, m, number, curve, given, records)
+                .map(|_| ())
+                .ok()?,
+            "anew" => {
+                let (outline, room) = (black_box(&change.outlines[to][..]), &mut records[..change.given[to]]);
+                contour_band::band(outline, tolerance, m, room).map(|_| ()).ok()?
+            }
+            // The records stay those of the first outline.
+            "check" => {
+                let (first, given) = (black_box(&change.outlines[0][..]), change.given[0] - 1);
+                let refused = contour_band::exchange(first, tolerance, m, number, curve, given, records);
+                assert_eq!(refused, Err(Refusal::OtherRecords { index: given }));
+            }
+            _ => return None,
+        }
+    }
+    println!("{}", change.given[1] / record_length(m));
     Some(())
 }
 

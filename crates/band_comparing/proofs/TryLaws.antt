@@ -1,0 +1,141 @@
+-- A node tried: what each of its boxes says, taken together.
+use mathlib.Core.Path.{_≡_, refl, sym, _∙_, ap, ap₂}
+use mathlib.Core.Bool.{Bool, true, false, not}
+use mathlib.Core.List.{List, [], _∷_, _++_}
+use Prim.Native.Nat.{ℕ, zero, suc, _+_, _*_, _≤_, _<_}
+use native.Mathlib.Nat.{le-refl, not-suc-le-zero}
+use native.Mathlib.Numerals.{add-one, add-two}
+use native.Mathlib.Omega.{arith}
+use lib.ListN.{length}
+use lib.IntN.{ℤ, pos}
+use lib.Signed.{ltZ}
+use Rattle.setting.specs.Setting.{Setting, HasRows, lists, breakPoints}
+use Rattle.integers.specs.Squares.{squared}
+use Rattle.integers.proofs.Clash.{clash}
+use Rattle.curve_nodes.specs.declared.Curve.{Curve}
+use Rattle.curve_nodes.specs.Bounds.{Sized}
+use Rattle.bound_row_table.specs.Inside.{Copied}
+use Rattle.bound_coordinate.specs.declared.terms.Terms.{Terms}
+use Rattle.bound_coordinate.specs.Terms.{termsOf}
+use Rattle.bound_coordinate.specs.declared.higher.Higher.{Higher}
+use Rattle.bound_coordinate.specs.Higher.{higherOf}
+use Rattle.bound_pieces.specs.Inside.{piecesBy, piecesOf, Ready, acrossBy, higherAcrossBy}
+use Rattle.bound_node.specs.Boxes.{boxAt, meets}
+use Rattle.bound_node.proofs.Narrow.{diagonal}
+use Rattle.bound_tolerance.proofs.ToleranceLaws.{none-next, box-fails, boxes-pass, across-is, higher-across-is}
+use Rattle.band_records.specs.Records.{boxNumbers, boxesTo, nodeNumbers}
+use Rattle.band_records.specs.Inside.{boxBy}
+use Rattle.band_records.proofs.Writing.{joinedTo, joined-length, boxes-are, box-is, higher-box-is}
+use Rattle.band_comparing.specs.declared.trying.Tried.{Tried}
+use Rattle.band_comparing.specs.declared.trying.Tried.the-variants.{Wide, Narrow}
+use Rattle.band_comparing.specs.Inside.{reachNumber, reachOf, triedOf, higherBoxBy}
+use Rattle.band_comparing.proofs.ReachLaws.{reach-less, reach-parts}
+
+-- ---- what an answer says
+pub box-wide : {b : Bool} (r : ℕ) → b ≡ true → Wide ≡ triedOf (not b) r
+box-wide r e = rw e
+
+pub box-narrow : {b : Bool} {r s : ℕ} → b ≡ false → s ≡ r → Narrow s ≡ triedOf (not b) r
+box-narrow e f = rw (e, f)
+
+-- four numbers, as the code holds them
+pub held-four : (g : List ℤ) (reach at : ℕ) {a b c d a′ b′ c′ d′ : ℤ} {r : ℕ} → a′ ≡ a → b′ ≡ b → c′ ≡ c → d′ ≡ d
+    → r ≡ reachOf g reach at (a′ ∷ b′ ∷ c′ ∷ d′ ∷ []) → r ≡ reachOf g reach at (a ∷ b ∷ c ∷ d ∷ [])
+held-four g reach at ea eb ec ed e = e ∙ (λ j. reachOf g reach at (ea j ∷ eb j ∷ ec j ∷ ed j ∷ []))
+
+-- the two numbers of a node before its boxes
+pub node-head : (g : List ℤ) (reach at k n : ℕ) (boxes : List ℤ) {a b : ℤ} {r₁ r₂ : ℕ} → a ≡ pos k → b ≡ pos n → r₁ ≡ reachNumber g reach at a
+    → r₂ ≡ reachNumber g r₁ (at + 1) b → reachOf g r₂ (at + 2) boxes ≡ reachOf g reach at (nodeNumbers k n boxes)
+unfolding reachOf
+node-head g reach at k n boxes ea eb e f =
+    ap (λ q. reachOf g q (at + 2) boxes) (f ∙ ap₂ (λ q z. reachNumber g q (at + 1) z) (e ∙ ap (reachNumber g reach at) ea) eb)
+    ∙ rw (add-one, add-two)
+
+pub told-wide : (b : Bool) (r : ℕ) → Wide ≡ triedOf b r → b ≡ false
+told-wide true r e = clash (cc)
+told-wide false r e = refl
+
+pub told-narrow : (b : Bool) (r s : ℕ) → Narrow s ≡ triedOf b r → (b ≡ true) × (s ≡ r)
+told-narrow true r s e = (refl, cc)
+told-narrow false r s e = clash (cc)
+
+pub not-true : {b : Bool} → not b ≡ true → b ≡ false
+not-true {b} e = go b e
+  where
+    go : (t : Bool) → not t ≡ true → t ≡ false
+    go true f = clash (cc)
+    go false f = refl
+
+pub not-false : {b : Bool} → not b ≡ false → b ≡ true
+not-false {b} e = go b e
+  where
+    go : (t : Bool) → not t ≡ false → t ≡ true
+    go true f = refl
+    go false f = clash (cc)
+
+-- ---- the boxes before break point i are narrow, and the numbers agree so far
+pub record Going (g : List ℤ) (reach at : ℕ) (across : ℕ → ℤ) (square : ℤ) (box : ℕ → List ℤ) (i to : ℕ) : Type 0 where
+  pub narrow : (j : ℕ) → j < i → ltZ square (across j) ≡ false
+  pub is : to ≡ reachOf g reach at (joinedTo i box)
+
+module _ (g : List ℤ) (reach at : ℕ) (across : ℕ → ℤ) (square : ℤ) (box : ℕ → List ℤ) where
+  pub going-start : Going g reach at across square box 0 reach
+  unfolding reachOf
+  going-start = record { narrow = λ j l. absurd (not-suc-le-zero l); is = refl }
+
+  module _ (four : (i : ℕ) → length (box i) ≡ 4) {i to : ℕ} (h : Going g reach at across square box i to) where
+    pub going-less : to ≤ reach
+    going-less = omega (arith, h .is, reach-less g reach at (joinedTo i box))
+
+    pub going-on : (n : ℕ) → Narrow n ≡ triedOf (not (ltZ square (across i))) (reachOf g to (at + 4 * i) (box i))
+        → Going g reach at across square box (i + 1) n
+    going-on n e =
+        let t = told-narrow (not (ltZ square (across i))) (reachOf g to (at + 4 * i) (box i)) n e in
+        record {
+          narrow = none-next (λ j. ltZ square (across j)) i (h .narrow) (not-true (t .0));
+          is = t .1 ∙ ap₂ (λ p q. reachOf g p (at + q) (box i)) (h .is) (sym (joined-length box four i))
+              ∙ sym (reach-parts g reach at (joinedTo i box) (box i)) ∙ ap (λ n. reachOf g reach at (joinedTo n box)) (sym (add-one i));
+        }
+
+-- ---- the node: its boxes are those that the loop found
+module _ (σ : Setting) (T : ℤ) (k : ℕ) (c : Curve) {across : ℕ → ℤ} {square : ℤ} {box : ℕ → List ℤ}
+    (across-is : (i : ℕ) → i ≤ σ .pieces → across i ≡ diagonal σ k c i) (square-is : square ≡ squared T)
+    (box-is : (i : ℕ) → i ≤ σ .pieces → box i ≡ boxNumbers (boxAt σ k c i)) (g : List ℤ) (reach at : ℕ) where
+  pub going-wide : (i r : ℕ) → i ≤ σ .pieces → Wide ≡ triedOf (not (ltZ square (across i))) r
+      → Wide ≡ triedOf (meets σ T k c) (reachOf g reach at (boxesTo σ (breakPoints σ) k c))
+  going-wide i r h e =
+      let w = not-false (told-wide (not (ltZ square (across i))) r e) in
+      ap (λ b. triedOf b (reachOf g reach at (boxesTo σ (breakPoints σ) k c))) (sym (box-fails σ k c across across-is T square-is i h w))
+
+  pub going-done : {i to : ℕ} → Going g reach at across square box i to → i ≡ breakPoints σ
+      → Narrow to ≡ triedOf (meets σ T k c) (reachOf g reach at (boxesTo σ (breakPoints σ) k c))
+  going-done {i} {to} h e =
+      ap Narrow (h .is ∙ ap (λ n. reachOf g reach at (joinedTo n box)) e ∙ ap (reachOf g reach at) (boxes-are σ k c box-is (breakPoints σ) (le-refl (breakPoints σ))))
+      ∙ ap (λ b. triedOf b (reachOf g reach at (boxesTo σ (breakPoints σ) k c)))
+      (sym (boxes-pass σ k c across across-is T square-is (λ j l. h .narrow j (omega (arith, e)))))
+
+-- ---- with m pieces and control values in units
+pub ready-of : {m : ℕ} {rows : List ℤ} → HasRows m → Copied m rows → Ready (piecesOf m false) rows
+unfolding piecesOf piecesBy
+ready-of h copied = record { has = h; is = refl; copied = copied }
+
+one-time : (m : ℕ) → m ≡ m * 1
+one-time m = omega arith
+
+module _ {m k : ℕ} {rows : List ℤ} (h : HasRows m) (copied : Copied m rows) {c : Curve} (sized : Sized k c) where
+  module _ (few : c .degree ≤ 3) {x y : Terms} (ex : x ≡ termsOf m (c .degree) (c .x)) (ey : y ≡ termsOf m (c .degree) (c .y)) where
+    pub low-across : (i : ℕ) → i ≤ m → acrossBy m (c .degree * k) rows x y i ≡ diagonal (lists m) k c i
+    unfolding piecesOf piecesBy
+    low-across i hi = ap (λ q. acrossBy q (c .degree * k) rows x y i) (one-time m) ∙ across-is (ready-of h copied) sized few ex ey i hi
+
+    pub low-box : (i : ℕ) → i ≤ m → boxBy m (c .degree * k) rows x y i ≡ boxNumbers (boxAt (lists m) k c i)
+    low-box i hi = ap (λ q. boxBy q (c .degree * k) rows x y i) (one-time m) ∙ box-is (lists m) h k c sized copied few ex ey i hi
+
+  module _ (many : 3 < c .degree) (three : 3 ≤ m) {x y : Higher} (ex : x ≡ higherOf m (c .degree) (c .degree * k) (c .x))
+      (ey : y ≡ higherOf m (c .degree) (c .degree * k) (c .y)) where
+    pub high-across : (i : ℕ) → i ≤ m → higherAcrossBy m (c .degree * k) rows x y i ≡ diagonal (lists m) k c i
+    unfolding piecesOf piecesBy
+    high-across i hi = higher-across-is (ready-of h copied) sized many three refl ex ey i hi
+
+    pub high-box : (i : ℕ) → i ≤ m → higherBoxBy m (c .degree * k) rows x y i ≡ boxNumbers (boxAt (lists m) k c i)
+    high-box i hi = higher-box-is (lists m) h k c sized copied many refl three ex ey i hi

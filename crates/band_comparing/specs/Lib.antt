@@ -1,0 +1,2 @@
+-- Definitions of the pass that compares records; all are only for contracts within the engine.
+pub mod Inside
