@@ -1,6 +1,6 @@
 /* The C interface of the contour band engine: banding an outline, in integers or in binary64, or a B-spline, foretelling an
- * outline's leaves, finding the tightest band that fits, exchanging one curve of a banded outline, judging points, quoting leaves, drawing the hull of two boxes,
- * handing out a box in binary64.
+ * outline's leaves, finding the tightest band that fits, exchanging one curve of a banded outline, judging points, quoting
+ * leaves, drawing the hull of two boxes, handing out a box in binary64.
  *
  * An outline is Bezier curves of degree 1 to 5, each from where the one before it ends. Banding puts a narrow band of straight
  * pieces round it: a leaf, which is a stretch of a curve, has m pieces, a box at each of their m + 1 ends, and on each piece a
@@ -123,10 +123,11 @@ extern "C" {
 /* The refusals, each with its condition and its spot. They stand in the order in which an operation tries them: banding 18, 1
  * to 8, 17 and 20 (5, 2, 20, 3, 4 and 17 curve by curve), and 19 for the bench station alone; banding in binary64 those of
  * banding but for 19, and 21 of each coordinate before 4; banding a B-spline 18, 1, 24, 25, 7 and 8; foretelling those of
- * banding but for 7 and 19; the tightest band those of banding but for 1, 7, 8 and 19; exchanging a curve those of banding but for 8 and 19, then 22 and 23, then those of banding the changed outline; judging 18 and 9 to 11, a list of
- * points 18, 9, 10, 101 and then 8, and 11 is the answer to a point; a quote 18, 9, 26 and 10; banding and judging together
- * those of banding and then 11, drawing 12 and 13, a box in binary64 12. A refusal leaves every lent list as it was.
- * contour_refusal_text has each in words. */
+ * banding but for 7 and 19; the tightest band those of banding but for 1, 7, 8 and 19; exchanging a curve those of banding
+ * but for 8 and 19, then 22 and 23, then those of banding the changed outline; judging 18 and 9 to 11, a list of points 18, 9,
+ * 10, 101 and then 8, and 11 is the answer to a point; a quote 18, 9, 26 and 10; banding and judging together those of banding
+ * and then 11, drawing 12 and 13, a box in binary64 12. A refusal leaves every lent list as it was. contour_refusal_text has
+ * each in words. */
 enum contour_band_refusal {
     CONTOUR_BAND_ACCEPTED = 0,         /* nothing is refused; 0 */
     CONTOUR_BAND_PIECES = 18,          /* m is not 1 to 8; 0 */

@@ -29,6 +29,8 @@ contour_binary64_band 6 0
 contour_foretell 6 0
 contour_foretell 8 1
 contour_tightest 6 0
+contour_exchange 6 0
+contour_exchange 23 0
 contour_judge 9 0
 contour_judge_points 9 0
 contour_judge_points 9 0

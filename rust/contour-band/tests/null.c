@@ -13,6 +13,7 @@ int main(void) {
     const int32_t outline[9] = {3, 0, 0, 10, 30, 20, 30, 30, 0};
     const int32_t spline[8] = {0, 0, 10, 30, 20, 30, 30, 0};
     const int32_t leaves[CONTOUR_BAND_RECORD(M)] = {0, 1};
+    const int32_t curve[CONTOUR_BAND_CURVE] = {3, 0, 0, 10, 60, 20, 60, 30, 0};
     const int32_t point[2] = {0, 0};
     const struct contour_band_box box = {0, 0, 0, 0};
     PRINT(contour_band, NULL, 0, 44, M, NULL, 0);
@@ -25,6 +26,8 @@ int main(void) {
     PRINT(contour_foretell, NULL, 0, 44, M, NULL, 0);
     PRINT(contour_foretell, outline, 9, 44, M, NULL, 0);
     PRINT(contour_tightest, NULL, 0, M, 1);
+    PRINT(contour_exchange, NULL, 0, 44, M, 0, curve, 0, NULL, 0);
+    PRINT(contour_exchange, outline, 9, 44, M, 0, curve, 0, NULL, 0);
     PRINT(contour_judge, NULL, 0, M, 0, 0);
     PRINT(contour_judge_points, NULL, 0, M, NULL, 0, NULL, 0);
     PRINT(contour_judge_points, NULL, 0, M, point, 2, NULL, 0);
