@@ -3,8 +3,8 @@ use mathlib.Core.Path.{_≡_, refl, sym, _∙_, ap, ap₂, subst}
 use mathlib.Core.Bool.{true, false}
 use mathlib.Core.List.{List, [], _∷_, _++_}
 use mathlib.Core.Option.{Option, none, some}
-use Prim.Native.Nat.{ℕ, zero, suc, _+_, _-_, _*_, _^_, _≤_, _<_}
-use native.Mathlib.Nat.{zero-add, mul-le-mul, le-of-eq}
+use Prim.Native.Nat.{ℕ, zero, suc, _+_, _-_, _*_, _/_, _^_, _≤_, _<_}
+use native.Mathlib.Nat.{zero-add, mul-le-mul, le-refl, le-trans, le-of-eq, mul-div-le, mul-div-cancel-left}
 use native.Mathlib.Omega.{arith}
 use borrow.Author.Tests.{lt-ltb, le-ltb}
 use lib.ListN.{length, drop}
@@ -43,6 +43,7 @@ use Rattle.band.specs.Inside.{givenOf, settingFor}
 use Rattle.band_passes.specs.Inside.{numbersOf, readAt, nextOf, curvesFrom, curvesIn, AllWalkable, end, more, Readable, countedOf, Fillable}
 use Rattle.band_passes.proofs.Reading.{curves-count}
 use Rattle.band_passes.proofs.Counting.{nodes-of-curves, few-leaves}
+use Rattle.band_room.specs.Inside.{Fits}
 use Rattle.band_passes.specs.Meeting.{AllMeet}
 use Rattle.band_passes.proofs.Among.{all-records-length}
 use Rattle.band_passes.proofs.Wide.{none-wide}
@@ -134,6 +135,38 @@ module _ (σ : Setting) {f : Form} {ns : List ℤ} {n : ℕ} (r : Readable σ f 
       let cs = curvesIn f ns n in
       let τ = relimited σ n limit in
       subst (λ k. Done k m (2 * m - k) ≡ bandCurves τ T cs room) read-count (answer-done τ T cs e taken h)
+
+-- where no leaf is too wide, the first pass counts them all
+pub all-counted : (σ : Setting) (T : ℤ) (cs : List Curve) → firstTooWide σ T 0 cs ≡ none → Total (leavesOf σ T cs) ≡ countedOf σ T cs
+unfolding countedOf
+all-counted σ T cs e = sym (ap (λ (o : Option Refusal). elim o [ some r ↦ Stopped r | none ↦ Total (leavesOf σ T cs) ]) e)
+
+total-counted : (σ : Setting) (T : ℤ) (cs : List Curve) {n : ℕ} → Total n ≡ countedOf σ T cs → (firstTooWide σ T 0 cs ≡ none) × (n ≡ leavesOf σ T cs)
+unfolding countedOf
+total-counted σ T cs {n} e = counted-leaves (firstTooWide σ T 0 cs) (leavesOf σ T cs) n e
+
+-- the curves have so many leaves, none too wide, and all have their place: as the first pass counts, or as is sure without it
+pub record Placed (σ : Setting) (T : ℤ) (cs : List Curve) (most room : ℕ) : Type 0 where
+  pub is : Total (leavesOf σ T cs) ≡ countedOf σ T cs
+  pub taken : leavesOf σ T cs ≤ most
+  pub enough : recordLength σ * leavesOf σ T cs ≤ room
+
+module _ (σ : Setting) (T : ℤ) (cs : List Curve) {most room : ℕ} where
+  pub placed-counted : {n : ℕ} → Total n ≡ countedOf σ T cs → n ≤ most → recordLength σ * n ≤ room → Placed σ T cs most room
+  placed-counted e h l =
+      let w = total-counted σ T cs e in
+      record { is = all-counted σ T cs (w .0); taken = omega (arith, h, w .1); enough = omega (arith, l, ap (λ n. recordLength σ * n) (w .1)) }
+
+  pub placed-sure : {q : ℕ} → Fits σ T cs q → {L : ℕ} → L ≡ recordLength σ → q ≤ room / L → q ≤ most → Placed σ T cs most room
+  placed-sure {q} f {L} e a b = record {
+    is = all-counted σ T cs (f .passing);
+    taken = le-trans (f .few) b;
+    enough = le-trans (mul-le-mul (le-refl (recordLength σ)) (le-trans (f .few) a)) (rw e (mul-div-le room (recordLength σ)));
+  }
+
+-- the place after all records, divided by the length of one
+pub leaves-divided : (σ : Setting) (m : ℕ) {place n : ℕ} → 6 + 4 * m ≡ recordLength σ → place ≡ recordLength σ * n → place / (6 + 4 * m) ≡ n
+leaves-divided σ m {place} {n} e p = rw (e, p) (mul-div-cancel-left n (omega (arith, e)))
 
 -- the curves that were given can be read, and are those given
 pub record Read (σ : Setting) (f : Form) (ns : List ℤ) (o : Outlined) (n : ℕ) : Type 0 where

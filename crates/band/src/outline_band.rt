@@ -1,5 +1,6 @@
 // The band of a list without faults: checks 7, 19 and 8, and the records.
 ghost use mathlib.Core.Path.{_≡_};
+ghost use Prim.Native.Nat.{_≤_};
 ghost use lib.ListN.{length};
 ghost use Rattle.setting.specs.Setting.{listsOf, relimited, HasRows};
 ghost use Rattle.bound_pieces.specs.Inside.{Ready, settingOf};
@@ -12,11 +13,19 @@ use band_passes::forms::sixths_of;
 use band_passes::leaf_count::count;
 use band_passes::leaf_writing::write_all;
 use band_passes::passes::Counted;
+use band_room::surely_fit;
 use bound_pieces::Pieces;
 use refusals::Refusal;
 
+// The smaller of two numbers.
+fn smaller(a: usize, b: usize) -> usize
+    ensures { λ r. ⌜ (r ≤ a) × (r ≤ b) ⌝ }
+{
+    if a < b { a } else { b }
+}
+
 // Checks 7, 19 and 8, and the records, of a list without faults that has this many curves and may have `most` leaves.
-// The rows lent are those of the number of pieces.
+// The rows lent are those of the number of pieces. Where the leaves surely have room they are not counted first.
 fn band_by(
     rows: &[i64],
     pieces: Pieces,
@@ -38,25 +47,30 @@ fn band_by(
         ≡ writtenBy r (allRecords (settingOf pieces) t 0
         (curvesIn form (numbersOf form (now (ns .entry)) (now (xs .entry))) curves)) (now (records .entry)) ⌝ }
 {
-    match count(rows, pieces, form, ns, xs, t, curves) {
-        Counted::Stopped(refusal) => Banded::Refused(refusal),
-        Counted::Total(leaves) => {
-            if most < leaves {
-                return Banded::Refused(Refusal::TooManyLeaves(leaves));
+    let m = pieces.m;
+    let record_length = 6 + 4 * m;
+    let room = smaller(records.len() / record_length, most);
+    if !surely_fit(pieces, form, ns, xs, t, curves, room) {
+        match count(rows, pieces, form, ns, xs, t, curves) {
+            Counted::Stopped(refusal) => {
+                return Banded::Refused(refusal);
             }
-            let m = pieces.m;
-            let record_length = 6 + 4 * m;
-            if records.len() < record_length * leaves {
-                return Banded::Refused(Refusal::TooFewRecords(leaves));
-            }
-            write_all(records, rows, pieces, form, ns, xs, t, curves);
-            let nodes = 2 * leaves - curves;
-            Banded::Done {
-                curves,
-                leaves,
-                nodes,
+            Counted::Total(leaves) => {
+                if most < leaves {
+                    return Banded::Refused(Refusal::TooManyLeaves(leaves));
+                }
+                if records.len() < record_length * leaves {
+                    return Banded::Refused(Refusal::TooFewRecords(leaves));
+                }
             }
         }
+    }
+    let leaves = write_all(records, rows, pieces, form, ns, xs, t, curves) / record_length;
+    let nodes = 2 * leaves - curves;
+    Banded::Done {
+        curves,
+        leaves,
+        nodes,
     }
 }
 

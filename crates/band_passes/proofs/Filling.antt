@@ -20,6 +20,7 @@ use Rattle.band_passes.specs.Meeting.{AllMeet}
 use Rattle.walk_tree.proofs.Failing.{passing-none}
 use Rattle.band_passes.proofs.Wide.{none-wide, meet-head, meet-rest}
 use Rattle.band_passes.proofs.Reading.{Rest, restOf, rest-start, rest-begins, rest-next, rest-done}
+use Rattle.band_passes.proofs.Among.{all-records-length}
 use Rattle.band_records.proofs.Lengths.{records-length}
 
 more-leaves : (σ : Setting) (T : ℤ) (c : Curve) (cs : List Curve) → leavesOf σ T (c ∷ cs) ≡ length (endsOf σ T c) + leavesOf σ T cs
@@ -67,6 +68,11 @@ module _ {σ : Setting} {T : ℤ} {form : Form} {ns : List ℤ} {n : ℕ} {l : L
     filled-done h = f .list ∙ ap (sets l 0)
         (sym (f .split ∙ ap (λ cs. f .done ++ allRecords σ T k cs) (rest-done form ns n k at h) ∙ ap (λ xs. f .done ++ xs) (no-records σ T k)
         ∙ append-nil (f .done)))
+
+    pub filled-place : n ≤ k → place ≡ recordLength σ * leavesOf σ T (curvesIn form ns n)
+    filled-place h = f .here ∙ ap length
+        (sym (f .split ∙ ap (λ cs. f .done ++ allRecords σ T k cs) (rest-done form ns n k at h) ∙ ap (λ xs. f .done ++ xs) (no-records σ T k)
+        ∙ append-nil (f .done))) ∙ all-records-length σ T 0 (curvesIn form ns n)
 
     module _ (h : k < n) where
       abbrev c : Curve

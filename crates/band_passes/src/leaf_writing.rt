@@ -7,6 +7,7 @@ ghost use Rattle.setting.specs.Setting.{recordLength};
 ghost use Rattle.bound_pieces.specs.Inside.{Ready, settingOf};
 ghost use Rattle.walk_curve.specs.Walked.{endsOf};
 ghost use Rattle.band_records.specs.Records.{recordsOf, allRecords};
+ghost use Rattle.band_passes.specs.Leaves.{leavesOf};
 ghost use Rattle.band_passes.specs.Inside.{numbersOf, curvesIn, EndsMeet, Fillable};
 use crate::forms::Form;
 use crate::forms::next_of;
@@ -141,7 +142,7 @@ fn write_higher(
     }
 }
 
-// The records of every leaf of a list's curves, from the front of the lent list on.
+// The records of every leaf of a list's curves, from the front of the lent list on. It returns the place after them.
 pub fn write_all(
     records: &mut [i32],
     rows: &[i64],
@@ -151,10 +152,12 @@ pub fn write_all(
     xs: &[f64],
     t: i64,
     curves: usize,
-)
+) -> usize
     requires { ⌜ (Ready pieces (now rows))
         × (Fillable (settingOf pieces) t form (numbersOf form (now ns) (now xs)) curves (length (now records))) ⌝ }
-    ensures { λ _. ⌜ now (records .exit) ≡ sets (now (records .entry)) 0
+    ensures { λ r. ⌜ r ≡ recordLength (settingOf pieces) * leavesOf (settingOf pieces) t
+        (curvesIn form (numbersOf form (now (ns .entry)) (now (xs .entry))) curves) ⌝ }
+    ensures { λ r. ⌜ now (records .exit) ≡ sets (now (records .entry)) 0
         (allRecords (settingOf pieces) t 0
         (curvesIn form (numbersOf form (now (ns .entry)) (now (xs .entry))) curves)) ⌝ }
 {
@@ -171,4 +174,5 @@ pub fn write_all(
         place = write_curve(records, place, rows, pieces, k as u32, curve, t);
         k += 1;
     }
+    place
 }

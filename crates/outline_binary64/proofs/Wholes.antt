@@ -29,6 +29,7 @@ use Rattle.binary64.proofs.Meaning.{read-number}
 use Rattle.outline_binary64.specs.Lists.{numberFor, wholes, named, withNamed, outlinedBinary64}
 use Rattle.outline_binary64.specs.Wholes.{Numbers, none as no-numbers, more}
 use Rattle.outline_binary64.proofs.Numbers.{wholes-length}
+use Rattle.outline_binary64.proofs.Named.{NamedFault, whole-fault}
 
 wholes-are : {xs : List Float} {zs : List ℤ} → Numbers xs zs → wholes xs ≡ zs
 wholes-are no-numbers = refl
@@ -48,9 +49,10 @@ each-whole no-numbers i h = absurd (not-suc-le-zero h)
 each-whole (more x z n ns) zero h = some-whole x z (read-number x z n)
 each-whole (more x z n ns) (suc i) h = each-whole ns i (le-of-suc-le-suc h)
 
--- ---- 4 is said of a number of the list
-abbrev Inside : ℕ → Refusal → Type 0
-Inside n r = numberOf r ≡ 4 → spotOf r < n
+-- ---- of a list of integers 4 is said of a number of the list, and 21 never
+record Inside (n : ℕ) (r : Refusal) : Type 0 where
+  four : numberOf r ≡ 4 → spotOf r < n
+  no-21 : numberOf r ≡ 21 → ⊥
 
 fault-inside : (m : ℕ) (ns : List ℤ) (at : ℕ) (r : Refusal) → faultAt m ns at ≡ some r → Inside (length ns) r
 unfolding faultAt
@@ -58,8 +60,8 @@ fault-inside m ns at r =
     go (degreeFine (entry ns at)) (degreePieces (degreeAt ns at) m) (ltb (length ns) (nextAt ns at)) refl
     (firstBeyond ns (coordinates (degreeAt ns at)) (at + 1)) refl (meetsBefore ns at)
   where
-    other : (q : Refusal) → (numberOf q ≡ 4 → ⊥) → _≡_ {A = Option Refusal} (some q) (some r) → Inside (length ns) r
-    other q never e = subst (Inside (length ns)) {x = q} {y = r} (cc) (λ f. absurd (never f))
+    other : (q : Refusal) → (numberOf q ≡ 4 → ⊥) → (numberOf q ≡ 21 → ⊥) → _≡_ {A = Option Refusal} (some q) (some r) → Inside (length ns) r
+    other q no-4 no-21 e = subst (Inside (length ns)) {x = q} {y = r} (cc) (record { four = λ f. absurd (no-4 f); no-21 = no-21 })
 
     go : (b p l : Bool) → ltb (length ns) (nextAt ns at) ≡ l → (o : Option ℕ) → firstBeyond ns (coordinates (degreeAt ns at)) (at + 1) ≡ o → (t : Bool)
         → _≡_ {A = Option Refusal} (elim b [
@@ -74,13 +76,16 @@ fault-inside m ns at r =
                     ]
               ]
         ]) (some r) → Inside (length ns) r
-    go false p l f o g t e = other (Degree at) (λ n. omega arith) e
-    go true false l f o g t e = other (DegreePieces at) (λ n. omega arith) e
-    go true true true f o g t e = other (CutShort (length ns)) (λ n. omega arith) e
+    go false p l f o g t e = other (Degree at) (λ n. omega arith) (λ n. omega arith) e
+    go true false l f o g t e = other (DegreePieces at) (λ n. omega arith) (λ n. omega arith) e
+    go true true true f o g t e = other (CutShort (length ns)) (λ n. omega arith) (λ n. omega arith) e
     go true true false f (some i) g t e =
         subst (Inside (length ns)) {x = Coordinate i} {y = r} (cc)
-        (λ n. omega (arith, ltb-false (length ns) (nextAt ns at) f, bad-below (λ k. coordinateFine (entry ns k)) (coordinates (degreeAt ns at)) (at + 1) i g))
-    go true true false f none g false e = other (Gap at) (λ n. omega arith) e
+        (record {
+          four = λ n. omega (arith, ltb-false (length ns) (nextAt ns at) f, bad-below (λ k. coordinateFine (entry ns k)) (coordinates (degreeAt ns at)) (at + 1) i g);
+          no-21 = λ n. omega arith;
+        })
+    go true true false f none g false e = other (Gap at) (λ n. omega arith) (λ n. omega arith) e
     go true true false f none g true e = clash (cc)
 
 outline-inside : (left m : ℕ) (ns : List ℤ) (at : ℕ) (r : Refusal) → outlineFrom left m ns at ≡ faulty r → Inside (length ns) r
@@ -88,7 +93,7 @@ unfolding outlineFrom
 outline-inside zero m ns at r = go (ltb at (length ns))
   where
     go : (b : Bool) → elim b [ true ↦ faulty (TooManyCurves at) | false ↦ curves [] ] ≡ faulty r → Inside (length ns) r
-    go true e = subst (Inside (length ns)) {x = TooManyCurves at} {y = r} (cc) (λ n. absurd (omega arith))
+    go true e = subst (Inside (length ns)) {x = TooManyCurves at} {y = r} (cc) (record { four = λ n. absurd (omega arith); no-21 = λ n. omega arith })
     go false e = clash (cc)
 outline-inside (suc left) m ns at r =
     go (ltb at (length ns)) (faultAt m ns at) (outlineFrom left m ns (nextAt ns at)) (fault-inside m ns at) (outline-inside left m ns (nextAt ns at) r)
@@ -102,7 +107,7 @@ outline-inside (suc left) m ns at r =
 
 outlined-inside : (most m : ℕ) (ns : List ℤ) (r : Refusal) → outlined most m ns ≡ faulty r → Inside (length ns) r
 unfolding outlined
-outlined-inside most m [] r e = subst (Inside 0) {x = EmptyOutline} {y = r} (cc) (λ n. absurd (omega arith))
+outlined-inside most m [] r e = subst (Inside 0) {x = EmptyOutline} {y = r} (cc) (record { four = λ n. absurd (omega arith); no-21 = λ n. omega arith })
 outlined-inside most m (z ∷ ns) r e = outline-inside most m (z ∷ ns) 0 r e
 
 -- ---- the same answer
@@ -120,9 +125,38 @@ as-integers most m {xs} {zs} n =
         choose false e = refl
 
         go : (b : Bool) → eqb (numberOf r) 4 ≡ b → elim (b && not (wholeOf (getD xs (spotOf r) nan))) [ true ↦ NotWhole (spotOf r) | false ↦ r ] ≡ r
-        go true e = choose (not (wholeOf (getD xs (spotOf r) nan))) (ap not (each-whole n (spotOf r) (h (eqb-true (numberOf r) 4 e))))
+        go true e = choose (not (wholeOf (getD xs (spotOf r) nan))) (ap not (each-whole n (spotOf r) (h .four (eqb-true (numberOf r) 4 e))))
         go false e = refl
 
     same : (o : Outlined) → ((r : Refusal) → o ≡ faulty r → Inside (length xs) r) → withNamed xs o ≡ o
     same (curves cs) h = refl
     same (faulty r) h = ap faulty (own-name r (h r refl))
+
+-- ---- 4 names a whole number, and 21 none
+module _ (most m : ℕ) (xs : List Float) (i : ℕ) where
+  pub beyond-whole : outlinedBinary64 most m xs ≡ faulty (Coordinate i) → wholeOf (getD xs i nan) ≡ true
+  beyond-whole e =
+      let f = whole-fault most m xs (Coordinate i) e in
+      go (f .own) (eqb (numberOf (f .own)) 4) (wholeOf (getD xs (spotOf (f .own)) nan)) refl refl (sym (f .name))
+    where
+      go : (r : Refusal) (b w : Bool) → eqb (numberOf r) 4 ≡ b → wholeOf (getD xs (spotOf r) nan) ≡ w
+          → elim (b && not w) [ true ↦ NotWhole (spotOf r) | false ↦ r ] ≡ Coordinate i → wholeOf (getD xs i nan) ≡ true
+      go r true true e f h = subst (λ q. wholeOf (getD xs (spotOf q) nan) ≡ true) h f
+      go r true false e f h = clash (cc)
+      go r false w e f h = absurd (true≢false (subst (λ q. eqb (numberOf q) 4 ≡ false) h e))
+
+  pub not-whole : outlinedBinary64 most m xs ≡ faulty (NotWhole i) → wholeOf (getD xs i nan) ≡ false
+  not-whole e =
+      let f = whole-fault most m xs (NotWhole i) e in
+      go (f .own) (outlined-inside most m (wholes xs) (f .own) (f .is) .no-21) (eqb (numberOf (f .own)) 4) (wholeOf (getD xs (spotOf (f .own)) nan)) refl
+      (sym (f .name))
+    where
+      go : (r : Refusal) → (numberOf r ≡ 21 → ⊥) → (b w : Bool) → wholeOf (getD xs (spotOf r) nan) ≡ w
+          → elim (b && not w) [ true ↦ NotWhole (spotOf r) | false ↦ r ] ≡ NotWhole i → wholeOf (getD xs i nan) ≡ false
+      go r never b false f h = go-false b h
+        where
+          go-false : (b : Bool) → elim (b && true) [ true ↦ NotWhole (spotOf r) | false ↦ r ] ≡ NotWhole i → wholeOf (getD xs i nan) ≡ false
+          go-false true h = subst (λ q. wholeOf (getD xs q nan) ≡ false) {x = spotOf r} {y = i} (ap spotOf h) f
+          go-false false h = absurd (never (ap numberOf h))
+      go r never true true f h = absurd (never (ap numberOf h))
+      go r never false true f h = absurd (never (ap numberOf h))

@@ -13,7 +13,7 @@ use Rattle.curve_nodes.specs.declared.Curve.{Curve}
 use Rattle.band_passes.specs.declared.forms.Form.{Form}
 use Rattle.band_passes.specs.Inside.{numbersOf, readAt, StandsAt}
 use Rattle.band_passes.proofs.Reading.{rest-next}
-use Rattle.band_passes.proofs.Filling.{Filled, filled-start, filled-length, filled-ready, filled-room, filled-on, filled-done}
+use Rattle.band_passes.proofs.Filling.{Filled, filled-start, filled-length, filled-ready, filled-room, filled-on, filled-done, filled-place}
 use Rattle.band_passes.proofs.leaf_writing.write_all.Statement.{statement}
 use Rattle.band_passes.proofs.leaf_writing.write_all.Tie as tie
 
@@ -80,7 +80,11 @@ same-length : tie.Need-same-length Inv-loop μ-loop
 same-length c = filled-length (c .before .loop .inv)
 
 returns : tie.Need-returns Inv-loop μ-loop
-returns c = rw (toZ-ofZ (c .before .before .before .fits .t)) at (filled-done (c .before .loop .inv) (c .loop-test .left))
+returns c =
+    let f = c .before .loop .inv in (
+      rw (toZ-ofZ (c .before .before .before .fits .t)) at (filled-place f (c .loop-test .left)),
+      rw (toZ-ofZ (c .before .before .before .fits .t)) at (filled-done f (c .loop-test .left)),
+    )
 
 pub write-all-spec : {M : Type 1} → statement M
 write-all-spec =
