@@ -4,8 +4,9 @@
 //! `operation ENGINE OPERATION INPUT TIMES`. ENGINE is plain, proved or sampled. OPERATION and INPUT are
 //! band with an outline, a number of curves or a depth where it has one, a tolerance and m, as in
 //! nominal:16:3, cubics-64:16:8 and arches-3:44:3, spline:16:3 a B-spline and splined:16:3 its curves as an
-//! outline; binary64, which bands an outline in binary64; count with an outline, into an empty list; foretell with an outline, at any tolerance; tightest with an outline,
-//! a number of leaves and m, as in cubics-64:128:3; exchange with a place, an outline, a tolerance and m, as in
+//! outline; roomy with the same, and a list of as many records as are foretold; binary64, which bands an outline in
+//! binary64; count with an outline, into an empty list; foretell with an outline, at any tolerance; tightest with an
+//! outline, a number of leaves and m, as in cubics-64:128:3; exchange with a place, an outline, a tolerance and m, as in
 //! middle/cubics-64:16:3, where the place is first, middle or last for the curve that is changed, or line for the middle
 //! one made a line: there and back by turns, so TIMES is even; its engine may be anew, the proved engine's band of the
 //! changed outline into an exact list, or check, an exchange that is refused with 23 at its last number; judge with the
@@ -29,7 +30,8 @@ fn main() -> ExitCode {
     let arguments: Vec<&str> = arguments.iter().map(String::as_str).collect();
     let done = match arguments[..] {
         [engine, operation, input, times] => times.parse().ok().and_then(|times| match operation {
-            "band" => band(engine, input, times),
+            "band" => band(engine, input, times, false),
+            "roomy" => band(engine, input, times, true),
             "binary64" => binary64(engine, input, times),
             "count" => count(engine, input, times),
             "foretell" => foretell(engine, input, times),
@@ -45,8 +47,8 @@ fn main() -> ExitCode {
     };
     if done.is_none() {
         eprintln!(
-            "usage: operation plain|proved|sampled|check|anew band|binary64|count|foretell|tightest|exchange|judge|points|quote|draw \
-            INPUT TIMES"
+            "usage: operation plain|proved|sampled|check|anew band|roomy|binary64|count|foretell|tightest|exchange|judge|\
+            points|quote|draw INPUT TIMES"
         );
         return ExitCode::FAILURE;
     }
@@ -79,7 +81,14 @@ fn with_tolerance(input: &str) -> Option<(Vec<i32>, i32, u32)> {
     Some((outline, tolerance.parse().ok()?, m))
 }
 
-fn band(engine: &str, input: &str, times: usize) -> Option<()> {
+/// How many leaves to lend room for so that they need not be counted first: as many as are foretold, and where nothing
+/// is, as many as the curves can have.
+fn roomy(outline: &[i32], tolerance: i32, m: u32, curves: usize) -> Option<usize> {
+    let foretold = contour_band::foretell(outline, tolerance, m, &mut vec![0; curves]).ok()?;
+    Some(foretold.map_or(256 * curves, |foretold| foretold.leaves))
+}
+
+fn band(engine: &str, input: &str, times: usize, lends_more: bool) -> Option<()> {
     let (outline, tolerance, m) = with_tolerance(input)?;
     let (plain_band, proved_band): (PlainBand, ProvedBand) = if input.starts_with("spline:") {
         (plain::spline_band, contour_band::spline_band)
@@ -95,6 +104,9 @@ fn band(engine: &str, input: &str, times: usize) -> Option<()> {
     let mut leaves = vec![0; report.curves];
     for record in records.chunks_exact(record_length(m)) {
         leaves[record[0] as usize] += 1;
+    }
+    if lends_more {
+        records.resize(roomy(&outline, tolerance, m, report.curves)? * record_length(m), 0);
     }
     for _ in 0..times {
         let (outline, records) = (black_box(&outline[..]), black_box(&mut records[..]));
