@@ -85,7 +85,7 @@ fn exchange_in(
         (now (records .entry)) ⌝ }
 {
     let mut rows = [m as i64; 297];
-    bound_row_table::put_rows_again(&mut rows, m);
+    bound_row_table::comparing::put_compared(&mut rows, m);
     let scale = 5040 / m;
     exchange_rows(
         &rows,

@@ -10,6 +10,7 @@ ghost use Rattle.curve_halves.specs.Sizes.{Each};
 ghost use Rattle.bound_rows.specs.Table.{table, rowFrom};
 ghost use Rattle.bound_row_table.specs.Inside.{numberAt, Put, PutRows, Copied};
 
+pub mod comparing;
 pub mod table;
 
 use crate::table::table;
@@ -33,8 +34,8 @@ fn put_row(rows: &mut [i64], at: usize, entries: &[i16], from: usize, m: usize)
     }
 }
 
-// Those of n second differences, 27 places each, from place `at` on.
-fn put_degree(rows: &mut [i64], at: usize, entries: &[i16], from: usize, n: usize, m: usize)
+// m times the rows of n second differences, 27 places each, from place `at` on.
+pub fn put_degree(rows: &mut [i64], at: usize, entries: &[i16], from: usize, n: usize, m: usize)
     requires { ⌜ (now entries ≡ table) × (from + n * (2 * (m + 1)) ≤ length (now entries)) × (m ≤ 8)
         × (at + 27 * n ≤ length (now rows)) ⌝ }
     ensures { λ _. ⌜ PutRows at n m from (now (rows .entry)) (now (rows .exit)) ⌝ }
@@ -47,7 +48,7 @@ fn put_degree(rows: &mut [i64], at: usize, entries: &[i16], from: usize, n: usiz
 }
 
 // Zeros, for the second differences that a degree does not have.
-fn put_zeros(rows: &mut [i64], at: usize)
+pub fn put_zeros(rows: &mut [i64], at: usize)
     requires { ⌜ at + 27 ≤ length (now rows) ⌝ }
     ensures { λ _. ⌜ Put at 27 (λ p. pos 0) (now (rows .entry)) (now (rows .exit)) ⌝ }
 {
@@ -58,26 +59,9 @@ fn put_zeros(rows: &mut [i64], at: usize)
     }
 }
 
-// The rows of m pieces, 27 places for each second difference: those of degree 3, that of degree 2, zeros, and where m
-// pieces have them, those of degrees 4 and 5.
+// The rows of m pieces, 27 places for each second difference: two of degree 3, one of degree 2, zeros, and where there
+// are rows of m pieces for them, three of degree 4 and four of degree 5.
 pub fn put_rows(rows: &mut [i64], m: usize)
-    requires { ⌜ (HasRows m) × (length (now rows) ≡ 297) × (Each (5000 * m) (now rows)) ⌝ }
-    ensures { λ _. ⌜ Copied m (now (rows .exit)) ⌝ }
-{
-    let table = table();
-    let fewer = (m - 1) * (m + 2);
-    put_degree(rows, 0, &table, 88 + 2 * fewer, 2, m);
-    put_degree(rows, 54, &table, fewer, 1, m);
-    put_zeros(rows, 81);
-    if 3 <= m {
-        put_degree(rows, 108, &table, 264 + 3 * (fewer - 10), 3, m);
-        put_degree(rows, 189, &table, 498 + 4 * (fewer - 10), 4, m);
-    }
-}
-
-// The same rows, for the pass that compares records. The compiler puts `put_rows` into its one caller; with a second
-// caller it would not, and banding would take 2 % more instructions.
-pub fn put_rows_again(rows: &mut [i64], m: usize)
     requires { ⌜ (HasRows m) × (length (now rows) ≡ 297) × (Each (5000 * m) (now rows)) ⌝ }
     ensures { λ _. ⌜ Copied m (now (rows .exit)) ⌝ }
 {

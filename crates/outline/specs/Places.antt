@@ -1,5 +1,4 @@
--- Where each curve of an outline begins, and an outline with a curve too many (check 5). No contract cites these; a
--- theorem of the checks does.
+-- Where each curve of an outline begins, and an outline with a curve too many (check 5).
 use mathlib.Core.Path.{_≡_}
 use mathlib.Core.List.{List}
 use mathlib.Core.Option.{none}

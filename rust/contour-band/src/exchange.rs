@@ -5,6 +5,11 @@ use crate::library;
 use crate::refusal::Refusal;
 
 /// How many numbers a new curve has: a degree, and x and y of six points.
+///
+/// ```
+/// let line: [i32; contour_band::CURVE_LENGTH] = [1, 0, 0, 30, -7, 0, 0, 0, 0, 0, 0, 0, 0];
+/// assert_eq!(line[1..5], [0, 0, 30, -7]);
+/// ```
 pub const CURVE_LENGTH: usize = 13;
 
 /// Puts another curve in the place of curve `number` of an outline whose records are there, and gives the records and the

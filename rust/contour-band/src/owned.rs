@@ -5,8 +5,8 @@ use crate::cover::{draw, VERTEX_ROOM};
 use crate::exchange::exchange;
 use crate::judge::{judge, judge_points, Judgement};
 use crate::leaf::{leaves, record_length, Leaf};
-use crate::quote::{quote, Cents};
 use crate::outline::Outline;
+use crate::quote::{quote, Cents};
 use crate::refusal::Refusal;
 use crate::tightest::tightest;
 

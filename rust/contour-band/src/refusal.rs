@@ -165,6 +165,8 @@ impl Refusal {
             Refusal::TooManyLeaves { .. } => 19,
             Refusal::TooFewPieces { .. } => 20,
             Refusal::NotWhole { .. } => 21,
+            Refusal::NoSuchCurve { .. } => 22,
+            Refusal::OtherRecords { .. } => 23,
             Refusal::SplineLength { .. } => 24,
             Refusal::SplineCoordinate { .. } => 25,
             Refusal::TooManyRecords { .. } => 26,
@@ -190,6 +192,7 @@ impl Refusal {
             | Refusal::Gap { index }
             | Refusal::TooFewPieces { index }
             | Refusal::NotWhole { index }
+            | Refusal::OtherRecords { index }
             | Refusal::SplineCoordinate { index } => index as u64,
             Refusal::NoSuchCurve { number } => number as u64,
             Refusal::CutShort { length }
@@ -231,6 +234,8 @@ impl Refusal {
             19 => Refusal::TooManyLeaves { leaves: place },
             20 => Refusal::TooFewPieces { index: place },
             21 => Refusal::NotWhole { index: place },
+            22 => Refusal::NoSuchCurve { number: place },
+            23 => Refusal::OtherRecords { index: place },
             24 => Refusal::SplineLength { length: place },
             25 => Refusal::SplineCoordinate { index: place },
             26 => Refusal::TooManyRecords { length: place },
@@ -268,12 +273,12 @@ impl Refusal {
             18 => "m, the number of pieces of a leaf, is not 1 to 8",
             19 => "the outline has more than 128 leaves, which the bench station does not take; the spot is how many it has",
             20 => "a curve of degree 4 or 5 takes 3 to 8 pieces a leaf, and m is below 3; the spot is the index of its degree in the outline",
-            24 => "a B-spline has x and y of 4 to 4099 points, which is an even count of numbers from 8 to 8198; the spot is the count given",
-            25 => "a coordinate of a B-spline's point is not -131072 to 131072; the spot is its index in the list",
-            26 => "the leaf list of a quote has more than 1048576 records; the spot is the list's length",
             21 => "a coordinate is no whole number; the spot is its index in the outline",
             22 => "the outline has no curve of this number; the spot is the number",
             23 => "the records given are not the outline's, or their count passes the list; the spot is the first index that differs, or the least of the count, the list's length and the length of the outline's records",
+            24 => "a B-spline has x and y of 4 to 4099 points, which is an even count of numbers from 8 to 8198; the spot is the count given",
+            25 => "a coordinate of a B-spline's point is not -131072 to 131072; the spot is its index in the list",
+            26 => "the leaf list of a quote has more than 1048576 records; the spot is the list's length",
             101 => "the list of points has an odd count of numbers; the spot is the count",
             number => unreachable!("no refusal has the number {number}"),
         }
@@ -296,7 +301,7 @@ mod tests {
     #[test]
     fn number_and_spot_are_what_the_library_answered() {
         let places = [0, 1, 17, 575, 32_767];
-        for number in (2..=10).chain(12..=13).chain([17, 19, 20, 21, 24, 25, 26, 101]) {
+        for number in (2..=10).chain(12..=13).chain([17, 19, 20, 21, 22, 23, 24, 25, 26, 101]) {
             for place in places {
                 // 6 has the spot 0 only.
                 let spot = if number == 6 { 0 } else { place };

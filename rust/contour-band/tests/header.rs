@@ -228,7 +228,9 @@ fn calls_take_little_stack() {
     );
     // Some outline of each degree is walked: a refusal before the walk takes less than 300 bytes.
     assert!(
-        most.iter().chain([&binary64, &splines, &tightest, &exchanges, &points, &quotes]).all(|bytes| *bytes > 1_024),
+        most.iter()
+            .chain([&binary64, &splines, &tightest, &exchanges, &points, &quotes])
+            .all(|bytes| *bytes > 1_024),
         "{most:?} {binary64} {splines} {tightest} {exchanges} {points} {quotes}"
     );
 }

@@ -227,7 +227,8 @@ fn by_proved(caller: Caller, outline: &[i32], tolerance: i32, m: u32, records: &
     proved_answer(band(outline, tolerance, m, records))
 }
 
-fn proved_answer(answer: Result<contour_band::Report, contour_band::Refusal>) -> Answer {
+/// What the proved engine answers.
+pub(crate) fn proved_answer(answer: Result<contour_band::Report, contour_band::Refusal>) -> Answer {
     match answer {
         Ok(contour_band::Report { curves, leaves, nodes }) => {
             Accepted { curves: curves as u64, leaves: leaves as u64, nodes: nodes as u64 }
@@ -245,7 +246,8 @@ fn by_plain(caller: Caller, outline: &[i32], tolerance: i32, m: u32, records: &m
     plain_answer(band(outline, tolerance, m, records))
 }
 
-fn plain_answer(answer: Result<plain::Report, plain::Refusal>) -> Answer {
+/// What the plain engine answers.
+pub(crate) fn plain_answer(answer: Result<plain::Report, plain::Refusal>) -> Answer {
     match answer {
         Ok(plain::Report { curves, leaves, nodes }) => Accepted { curves, leaves, nodes },
         Err(refusal) => Refused(refusal.number(), refusal.spot()),

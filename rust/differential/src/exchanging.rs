@@ -2,6 +2,7 @@
 //! the changed outline.
 
 use crate::banding::Answer::{self, Accepted, Refused};
+use crate::banding::{plain_answer, proved_answer};
 use crate::outlines::starts;
 use crate::random::Random;
 use crate::refusals::Refusals;
@@ -124,23 +125,15 @@ impl Comparison {
             *given,
             &mut by_proved[lent.clone()],
         );
-        let proved = answered(
-            proved
-                .map(|r| (r.curves, r.leaves, r.nodes))
-                .map_err(|refusal| (refusal.number(), refusal.spot())),
-        );
+        let proved = proved_answer(proved);
         let plain =
             plain::exchange(outline, *tolerance, *m, *number, *curve, *given, &mut by_plain[lent.clone()]);
-        let plain = answered(
-            plain
-                .map(|r| (r.curves, r.leaves, r.nodes))
-                .map_err(|refusal| (refusal.number(), refusal.spot())),
-        );
+        let plain = plain_answer(plain);
         let banded = match plain {
             Refused(..) => plain,
             Accepted { .. } => {
                 let banded = contour_band::band(&input.changed(), *tolerance, *m, &mut anew[lent]);
-                answered(banded.map(|r| (r.curves, r.leaves, r.nodes)).map_err(|r| (r.number(), r.spot())))
+                proved_answer(banded)
             }
         };
         assert!(
@@ -197,13 +190,6 @@ impl Comparison {
             }
             Refused(number, _) => self.tally.refused.count(number),
         }
-    }
-}
-
-fn answered(found: Result<(u64, u64, u64), (u32, u64)>) -> Answer {
-    match found {
-        Ok((curves, leaves, nodes)) => Accepted { curves, leaves, nodes },
-        Err((number, spot)) => Refused(number, spot),
     }
 }
 

@@ -23,8 +23,8 @@ filled {B} z h n = record { under = each n }
     each (suc n) zero = h
     each (suc n) (suc j) = each n j
 
-put-rows-again-requires : tie.Need-put-rows-again-requires
-put-rows-again-requires c κs =
+put-compared-requires : tie.Need-put-compared-requires
+put-compared-requires c κs =
     let m = c .before .args .m in
     let h = c .before .pre .0 in
     let e : toZ w64 m ≡ pos m = toZ-pos w64 (omega (arith, h .most)) in
@@ -36,7 +36,7 @@ exchange-rows-requires c κs =
     let r = c .before .before .before in
     let s = r .before .before in
     rw (toZ-ofZ (s .fits .t)) (
-      record { has = s .pre .0; copied = r .put-rows-again .ensures; scaled = scale-is (s .args .m) (s .pre .0) },
+      record { has = s .pre .0; copied = r .put-compared .ensures; scaled = scale-is (s .args .m) (s .pre .0) },
       s .pre .1,
       s .pre .2,
       s .pre .3,
@@ -50,5 +50,5 @@ returns c =
 pub exchange-in-spec : {M : Type 1} → statement M
 exchange-in-spec =
     tie.close
-    (tie.spec (λ c. search needs) (λ c. search needs) put-rows-again-requires (λ c. search needs) (λ c. search needs) exchange-rows-requires
+    (tie.spec (λ c. search needs) (λ c. search needs) put-compared-requires (λ c. search needs) (λ c. search needs) exchange-rows-requires
     (λ c. search needs) returns)

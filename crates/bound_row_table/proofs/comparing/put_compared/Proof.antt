@@ -1,9 +1,9 @@
--- The rows of m pieces, copied by the second function: degrees 3 and 2, the zeros, and for three pieces and more degrees 4 and 5.
+-- The rows of m pieces, copied for the pass that compares: degrees 3 and 2, the zeros, and for three pieces and more degrees 4 and 5.
 use native.Mathlib.Omega.{arith}
 use borrow.Author.Needs.{needs}
 use Rattle.bound_row_table.proofs.Copying.{fewer-small, fewer-some, begun, few-copied, all-copied}
-use Rattle.bound_row_table.proofs.put_rows_again.Statement.{statement}
-use Rattle.bound_row_table.proofs.put_rows_again.Tie as tie
+use Rattle.bound_row_table.proofs.comparing.put_compared.Statement.{statement}
+use Rattle.bound_row_table.proofs.comparing.put_compared.Tie as tie
 
 returns : tie.Need-returns
 returns c =
@@ -26,8 +26,8 @@ returns-2 c =
     few-copied (omega arith)
     (begun (p .0) (p .2) (p .1) (three .put-degree .ensures) (two .put-degree2 .ensures) (zeros .put-zeros .ensures))
 
-pub put-rows-again-spec : {M : Type 1} → statement M
-put-rows-again-spec =
+pub put-compared-spec : {M : Type 1} → statement M
+put-compared-spec =
     tie.close
     (tie.spec (λ c κs. search needs) (λ c. search needs) (λ c. search needs) (λ c. omega (arith, fewer-small))
     (λ c. search needs) (λ c. omega (arith, fewer-small)) (λ c. omega (arith, fewer-small))
