@@ -32,8 +32,8 @@ pub struct Foretold {
 ///
 /// Where every curve has a depth, banding of the outline at this tolerance and `m` is refused neither with 7 nor, with
 /// room for the foretold leaves, with 8. That room is also the fast way where degrees are 1 to 3: the leaves then need
-/// not be counted before their records are written. Otherwise the answer is `None`, and nothing is foretold: banding may still
-/// accept. It does so with small curves at a tolerance of 2, where no curve has a depth.
+/// not be counted before their records are written. Otherwise the answer is `None`, and nothing is foretold: banding may
+/// still accept. It does so with small curves at a tolerance of 2, where no curve has a depth.
 ///
 /// ```
 /// use contour_band::{band, foretell, record_length, Foretold, Refusal};
