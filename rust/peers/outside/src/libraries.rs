@@ -1,23 +1,9 @@
-//! The peers' way: flattening, and the distance of a point from a curve, in binary64.
+//! kurbo's and lyon_geom's way: flattening, and the distance of a point from a curve, in binary64.
 
 use kurbo::{CubicBez, Line, ParamCurveExtrema, ParamCurveNearest, PathEl, Point, QuadBez, Rect};
 use lyon_geom::euclid::default::Point2D;
 use lyon_geom::{CubicBezierSegment, QuadraticBezierSegment};
-
-/// The control points of a curve, in sixteenths.
-pub type Curve = Vec<(f64, f64)>;
-
-/// The curves of an outline of degrees 1 to 3.
-pub fn curves(outline: &[i32]) -> Vec<Curve> {
-    let (mut at, mut all) = (0, vec![]);
-    while at < outline.len() {
-        let degree = outline[at] as usize;
-        let sixteenths = |k: usize| 16.0 * f64::from(outline[at + 1 + k]);
-        all.push((0..=degree).map(|i| (sixteenths(2 * i), sixteenths(2 * i + 1))).collect());
-        at += 2 * degree + 3;
-    }
-    all
-}
+use peers::{Curve, Near};
 
 /// kurbo's flattening of curves, as points written to a list.
 pub fn kurbo_flatten(curves: &[Curve], tolerance: f64, out: &mut Curve) {
@@ -53,14 +39,14 @@ pub fn lyon_flatten(curves: &[Curve], tolerance: f64, out: &mut Curve) {
 }
 
 /// A curve as kurbo has it.
-pub enum Segment {
+enum Segment {
     Line(Line),
     Quadratic(QuadBez),
     Cubic(CubicBez),
 }
 
 /// The curves with their boxes.
-pub fn segments(curves: &[Curve]) -> Vec<(Segment, Rect)> {
+fn segments(curves: &[Curve]) -> Vec<(Segment, Rect)> {
     let one = |curve: &Curve| {
         let p = |i: usize| Point::new(curve[i].0, curve[i].1);
         match curve.len() {
@@ -80,44 +66,22 @@ pub fn segments(curves: &[Curve]) -> Vec<(Segment, Rect)> {
 
 /// Whether a point is within the tolerance of some curve, by kurbo's nearest point. Where BOXED, curves whose box is
 /// farther are passed over.
-pub fn nearest<const BOXED: bool>(segments: &[(Segment, Rect)], x: f64, y: f64, tolerance: f64) -> bool {
-    let (point, accuracy) = (Point::new(x, y), 0.01);
-    segments.iter().any(|(segment, b)| {
-        let apart =
-            x < b.x0 - tolerance || x > b.x1 + tolerance || y < b.y0 - tolerance || y > b.y1 + tolerance;
-        if BOXED && apart {
-            return false;
-        }
-        let (_, squared) = match segment {
-            Segment::Line(own) => own.nearest(point, accuracy),
-            Segment::Quadratic(own) => own.nearest(point, accuracy),
-            Segment::Cubic(own) => own.nearest(point, accuracy),
-        };
-        squared <= tolerance * tolerance
+pub fn nearest<const BOXED: bool>(curves: &[Curve], tolerance: f64) -> Near {
+    let segments = segments(curves);
+    Box::new(move |x, y| {
+        let (point, accuracy) = (Point::new(x, y), 0.01);
+        segments.iter().any(|(segment, b)| {
+            let apart =
+                x < b.x0 - tolerance || x > b.x1 + tolerance || y < b.y0 - tolerance || y > b.y1 + tolerance;
+            if BOXED && apart {
+                return false;
+            }
+            let (_, squared) = match segment {
+                Segment::Line(own) => own.nearest(point, accuracy),
+                Segment::Quadratic(own) => own.nearest(point, accuracy),
+                Segment::Cubic(own) => own.nearest(point, accuracy),
+            };
+            squared <= tolerance * tolerance
+        })
     })
-}
-
-/// The square of the distance of a point from straight pieces.
-pub fn squared_distance(flat: &[(f64, f64)], x: f64, y: f64) -> f64 {
-    let piece = |ends: &[(f64, f64)]| {
-        let ((ax, ay), (bx, by)) = (ends[0], ends[1]);
-        let (dx, dy) = (bx - ax, by - ay);
-        let length = dx * dx + dy * dy;
-        let t = if length == 0.0 { 0.0 } else { (((x - ax) * dx + (y - ay) * dy) / length).clamp(0.0, 1.0) };
-        let (ex, ey) = (x - ax - t * dx, y - ay - t * dy);
-        ex * ex + ey * ey
-    };
-    flat.windows(2).map(piece).fold(f64::INFINITY, f64::min)
-}
-
-/// A curve's point at t.
-pub fn at(curve: &[(f64, f64)], t: f64) -> (f64, f64) {
-    let mut row = curve.to_vec();
-    while row.len() > 1 {
-        row = row
-            .windows(2)
-            .map(|w| (w[0].0 + t * (w[1].0 - w[0].0), w[0].1 + t * (w[1].1 - w[0].1)))
-            .collect();
-    }
-    row[0]
 }
