@@ -1,8 +1,8 @@
 -- A node tried: what each of its boxes says, taken together.
 use mathlib.Core.Path.{_≡_, refl, sym, _∙_, ap, ap₂}
 use mathlib.Core.Bool.{Bool, true, false, not}
-use mathlib.Core.List.{List, [], _∷_, _++_}
-use Prim.Native.Nat.{ℕ, zero, suc, _+_, _*_, _≤_, _<_}
+use mathlib.Core.List.{List, [], _∷_}
+use Prim.Native.Nat.{ℕ, _+_, _*_, _≤_, _<_}
 use native.Mathlib.Nat.{le-refl, not-suc-le-zero}
 use native.Mathlib.Numerals.{add-one, add-two}
 use native.Mathlib.Omega.{arith}
@@ -17,8 +17,8 @@ use Rattle.curve_nodes.specs.Bounds.{Sized}
 use Rattle.bound_row_table.specs.Inside.{Copied}
 use Rattle.bound_coordinate.specs.declared.terms.Terms.{Terms}
 use Rattle.bound_coordinate.specs.Terms.{termsOf}
-use Rattle.bound_coordinate.specs.declared.higher.Higher.{Higher}
-use Rattle.bound_coordinate.specs.Higher.{higherOf}
+use Rattle.bound_coordinate.specs.declared.higher.HigherTerms.{HigherTerms}
+use Rattle.bound_coordinate.specs.HigherTerms.{higherOf}
 use Rattle.bound_pieces.specs.Inside.{piecesBy, piecesOf, Ready, acrossBy, higherAcrossBy}
 use Rattle.bound_node.specs.Boxes.{boxAt, meets}
 use Rattle.bound_node.proofs.Narrow.{diagonal}
@@ -26,7 +26,6 @@ use Rattle.bound_tolerance.proofs.ToleranceLaws.{none-next, box-fails, boxes-pa
 use Rattle.band_records.specs.Records.{boxNumbers, boxesTo, nodeNumbers}
 use Rattle.band_records.specs.Inside.{boxBy}
 use Rattle.band_records.proofs.Writing.{joinedTo, joined-length, boxes-are, box-is, higher-box-is}
-use Rattle.band_comparing.specs.declared.trying.Tried.{Tried}
 use Rattle.band_comparing.specs.declared.trying.Tried.the-variants.{Wide, Narrow}
 use Rattle.band_comparing.specs.Inside.{reachNumber, reachOf, triedOf, higherBoxBy}
 use Rattle.band_comparing.proofs.ReachLaws.{reach-less, reach-parts}
@@ -131,7 +130,7 @@ module _ {m k : ℕ} {rows : List ℤ} (h : HasRows m) (copied : Copied m rows) 
     pub low-box : (i : ℕ) → i ≤ m → boxBy m (c .degree * k) rows x y i ≡ boxNumbers (boxAt (lists m) k c i)
     low-box i hi = ap (λ q. boxBy q (c .degree * k) rows x y i) (one-time m) ∙ box-is (lists m) h k c sized copied few ex ey i hi
 
-  module _ (many : 3 < c .degree) (three : 3 ≤ m) {x y : Higher} (ex : x ≡ higherOf m (c .degree) (c .degree * k) (c .x))
+  module _ (many : 3 < c .degree) (three : 3 ≤ m) {x y : HigherTerms} (ex : x ≡ higherOf m (c .degree) (c .degree * k) (c .x))
       (ey : y ≡ higherOf m (c .degree) (c .degree * k) (c .y)) where
     pub high-across : (i : ℕ) → i ≤ m → higherAcrossBy m (c .degree * k) rows x y i ≡ diagonal (lists m) k c i
     unfolding piecesOf piecesBy

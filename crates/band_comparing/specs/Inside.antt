@@ -13,8 +13,8 @@ use Rattle.integers.specs.Entry.{entry}
 use Rattle.integers.specs.Equal.{equal}
 use Rattle.curve_nodes.specs.declared.Curve.{Curve}
 use Rattle.bound_row_table.specs.Inside.{Copied}
-use Rattle.bound_coordinate.specs.declared.higher.Higher.{Higher}
-use Rattle.bound_coordinate.specs.Higher.{higherLow, higherHigh}
+use Rattle.bound_coordinate.specs.declared.higher.HigherTerms.{HigherTerms}
+use Rattle.bound_coordinate.specs.HigherTerms.{higherLow, higherHigh}
 use Rattle.outline.specs.Places.{placeOf}
 use Rattle.walk_tree.specs.Tree.{firstFailing}
 use Rattle.walk_curve.specs.Walked.{nodeMeets, endsOf}
@@ -48,7 +48,7 @@ areThere given at a b c d =
     && (equal (entry given (at + 1)) b && (equal (entry given (at + 2)) c && equal (entry given (at + 3)) d))
 
 -- the box at break point i of a curve of degree 4 or 5
-abbrev pub higherBoxBy : (m s : ℕ) → List ℤ → (x y : Higher) → ℕ → List ℤ
+abbrev pub higherBoxBy : (m s : ℕ) → List ℤ → (x y : HigherTerms) → ℕ → List ℤ
 higherBoxBy m s rows x y =
     boxFrom (higherLow m s rows x) (higherHigh m s rows x) (higherLow m s rows y) (higherHigh m s rows y)
 

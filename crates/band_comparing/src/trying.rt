@@ -10,7 +10,7 @@ ghost use Rattle.curve_nodes.specs.Bounds.{Sized};
 ghost use Rattle.curve_nodes.specs.Nodes.{depth};
 ghost use Rattle.bound_coordinate.specs.Inside.{Small};
 ghost use Rattle.bound_coordinate.specs.Terms.{ComputableAt};
-ghost use Rattle.bound_coordinate.specs.Higher.{HigherComputable};
+ghost use Rattle.bound_coordinate.specs.HigherTerms.{HigherComputable};
 ghost use Rattle.bound_node.specs.Boxes.{meets};
 ghost use Rattle.bound_pieces.specs.Inside.{acrossBy, higherAcrossBy};
 ghost use Rattle.band_records.specs.Records.{boxesTo, nodeNumbers};
@@ -18,7 +18,7 @@ ghost use Rattle.band_records.specs.Inside.{boxBy};
 ghost use Rattle.band_comparing.specs.Inside.{reachOf, triedOf, Lent, higherBoxBy};
 use crate::reaching::reach_box;
 use crate::reaching::reach_number;
-use bound_coordinate::higher::Higher;
+use bound_coordinate::higher::HigherTerms;
 use bound_coordinate::terms::Terms;
 use bound_tolerance::is_longer;
 use curve_nodes::Curve;
@@ -73,8 +73,8 @@ fn try_higher_box(
     reach: usize,
     at: usize,
     rows: &[i64],
-    x: Higher,
-    y: Higher,
+    x: HigherTerms,
+    y: HigherTerms,
     shift: u32,
     scale: usize,
     m: usize,

@@ -1,5 +1,5 @@
 -- What the gaps tell of a node of degree 4 or 5: no break point has more than `mostOf`, and the two ends have at least `endOf`.
-use mathlib.Core.Path.{_≡_, refl, sym, _∙_, ap, subst}
+use mathlib.Core.Path.{_≡_, sym, ap, subst}
 use mathlib.Core.Bool.{Bool, false, _&&_}
 use mathlib.Core.Logic.{⊎-elim}
 use mathlib.Core.List.{List, [], _∷_}
@@ -21,7 +21,7 @@ use Rattle.bound_rows.specs.Rule.{gapOf}
 use Rattle.bound_pieces.specs.declared.Gaps.{Gaps}
 use Rattle.bound_pieces.specs.Inside.{gapAt, gapsAt, gapsSum, times, gapsOf}
 use Rattle.bound_pieces.specs.Inside.{SmallGaps}
-use Rattle.bound_tolerance_higher.specs.Told.{sizesOf, mostOf, endOf, SmallSizes, Spread, SpreadAt}
+use Rattle.bound_tolerance_higher.specs.Spreads.{sizesOf, mostOf, endOf, SmallSizes, Spread, SpreadAt}
 use Rattle.bound_pieces.proofs.Corners.{many-tested, both-degrees}
 use Rattle.bound_pieces.proofs.PiecesLaws.{many-gaps, small-gaps}
 
@@ -141,7 +141,7 @@ module _ (m : ℕ) (h : HasRows m) (l : 3 ≤ m) (cs : List ℤ) where
         (spread-most (outerAt m d i) (innerAt m d i) (gapOf m d) (outerAt m d 0) (outerSize d) (innerSize d)
         (outer-under d a b i hi) (all-under d a b i hi)))
 
-    -- the same of sums that are multiplied as those of whole control values are
+    -- sums that are multiplied as those of whole control values are
     pub most-covers-times : {b : Bool} → b ≡ false → (i : ℕ) → i ≤ m → times b * gapsSum (gapsAt (rowsOf m d) i) 0 cs ≤ 6 * mostOf g ns
     most-covers-times units i hi = rw units (mul-le-mul (le-refl 6) (most-covers i hi))
 

@@ -1,16 +1,16 @@
 -- A list of whole numbers gives what the list of these integers gives: the same curves, or the same fault with the same spot. Where a coordinate is no whole
 -- number, 21 names it, and 4 never does.
-use mathlib.Core.Path.{_≡_, refl, sym, _∙_, ap, ap₂, subst}
-use mathlib.Core.Bool.{Bool, true, false, not, _&&_, true≢false, false≢true}
+use mathlib.Core.Path.{_≡_, refl, _∙_, ap, ap₂, subst}
+use mathlib.Core.Bool.{Bool, true, false, not, _&&_, true≢false}
 use mathlib.Core.List.{List, [], _∷_}
 use mathlib.Core.Option.{Option, none, some}
-use Prim.Native.Nat.{ℕ, zero, suc, _+_, _*_, _/_, _≤_, _<_}
+use Prim.Native.Nat.{ℕ, zero, suc, _+_, _*_, _/_, _<_}
 use native.Mathlib.Nat.{not-suc-le-zero, le-of-suc-le-suc}
 use native.Mathlib.Omega.{arith}
 use borrow.Author.Tests.{eqb-true, ltb-false}
-use lib.Dec.{ltb, eqb, lit<}
+use lib.Dec.{ltb, eqb}
 use lib.ListN.{length, getD}
-use lib.IntN.{ℤ, pos}
+use lib.IntN.{ℤ}
 use lib.Ieee.{Float, nan, inf, fin, up, down}
 use Rattle.integers.specs.Entry.{entry}
 use Rattle.integers.proofs.Clash.{clash}
@@ -18,12 +18,11 @@ use Rattle.integers.proofs.First.{bad-below}
 use Rattle.refusals.specs.declared.Refusal.{Refusal}
 use Rattle.refusals.specs.declared.Refusal.the-variants.{Degree, CutShort, Coordinate, TooManyCurves, EmptyOutline, Gap, DegreePieces, NotWhole}
 use Rattle.refusals.specs.Refusals.{numberOf, spotOf}
-use Rattle.curve_nodes.specs.declared.Curve.{Curve}
 use Rattle.setting.specs.Setting.{degreePieces}
 use Rattle.outline.specs.Curves.{nextAt, curveAt, coordinates, degreeFine, degreeAt}
 use Rattle.outline.specs.Faults.{faultAt, firstBeyond, meetsBefore, coordinateFine}
 use Rattle.outline.specs.Checks.{Outlined, curves, faulty, withCurve, outlineFrom, outlined}
-use Rattle.binary64.specs.Exact.{signed, Number}
+use Rattle.binary64.specs.Exact.{signed}
 use Rattle.binary64.specs.Read.{wholeOf, readOf}
 use Rattle.binary64.proofs.Meaning.{read-number}
 use Rattle.outline_binary64.specs.Lists.{numberFor, wholes, named, withNamed, outlinedBinary64}
@@ -105,7 +104,7 @@ unfolding outlined
 outlined-inside most m [] r e = subst (Inside 0) {x = EmptyOutline} {y = r} (cc) (λ n. absurd (omega arith))
 outlined-inside most m (z ∷ ns) r e = outline-inside most m (z ∷ ns) 0 r e
 
--- ---- the same answer
+-- ---- the answer is that of the whole numbers
 pub as-integers : (most m : ℕ) {xs : List Float} {zs : List ℤ} → Numbers xs zs → outlinedBinary64 most m xs ≡ outlined most m zs
 unfolding outlinedBinary64
 as-integers most m {xs} {zs} n =

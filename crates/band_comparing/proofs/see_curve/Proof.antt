@@ -1,14 +1,13 @@
 -- The walk of a curve that compares. The loop's invariant: the walk stands at this part of the curve, and the numbers given agree so far with the
 -- records of the leaves passed. The measure is the part's rank.
-use mathlib.Core.Path.{_≡_, sym, _∙_, ap}
-use Prim.Native.Nat.{_+_, _*_, _^_, _≤_, _<_}
-use native.Mathlib.Nat.{le-trans}
+use mathlib.Core.Path.{sym, _∙_}
+use Prim.Native.Nat.{_+_, _^_, _≤_, _<_}
 use native.Mathlib.Omega.{arith}
 use borrow.Author.Needs.{needs}
 use mir.Syntax.{w64}
 use mir.Val.{toZ}
 use mir.Facts.{toZ-ofZ}
-use Rattle.setting.specs.Setting.{lists, recordLength, deepest}
+use Rattle.setting.specs.Setting.{lists, deepest}
 use Rattle.setting.proofs.Pieces.{record-length-is}
 use Rattle.walk_curve.proofs.Parts.{part-node, part-degree, part-sized, part-shallow}
 use Rattle.walk_curve.proofs.Walks.{partRank, left-falls, after-falls}

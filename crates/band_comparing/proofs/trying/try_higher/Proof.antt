@@ -2,20 +2,19 @@
 -- left of m + 1.
 use mathlib.Core.Path.{_≡_, sym, _∙_, subst}
 use mathlib.Core.List.{List}
-use Prim.Native.Nat.{ℕ, suc, _+_, _*_, _-_, _≤_}
+use Prim.Native.Nat.{ℕ, _+_, _*_, _-_, _≤_}
 use native.Mathlib.Nat.{mul-le-mul}
 use native.Mathlib.Omega.{arith}
 use borrow.Author.Needs.{needs}
 use lib.IntN.{ℤ, _*ℤ_}
 use mir.Syntax.{w64}
 use mir.Val.{toZ}
-use mir.Facts.{toZ-ofZ}
 use Rattle.setting.specs.Setting.{lists}
 use Rattle.integers.specs.Squares.{squared}
 use Rattle.integers.proofs.Ranges.{stored}
 use Rattle.integers.proofs.Machine.{fits!, is! }
-use Rattle.bound_coordinate.specs.declared.higher.Higher.{Higher}
-use Rattle.bound_coordinate.specs.Higher.{HigherComputable}
+use Rattle.bound_coordinate.specs.declared.higher.HigherTerms.{HigherTerms}
+use Rattle.bound_coordinate.specs.HigherTerms.{HigherComputable}
 use Rattle.bound_coordinate.proofs.Coordinates.{bounded}
 use Rattle.bound_coordinate.proofs.Chosen.{higher-computable}
 use Rattle.bound_pieces.specs.Inside.{higherAcrossBy}
@@ -72,7 +71,7 @@ try-higher-box-requires c κs =
     let p = s .pre in
     let r = p .2 in
     let a = s .args in
-    let held : Higher → Type 0 = λ z. HigherComputable (a .m) (a .curve .degree * a .depth) (a .scale) (a .rows .now) z in (
+    let held : HigherTerms → Type 0 = λ z. HigherComputable (a .m) (a .curve .degree * a .depth) (a .scale) (a .rows .now) z in (
       omega (arith, going-less _ _ _ _ _ _ (box-four _ _ _ _) (l .loop .inv .1), p .0),
       omega (arith, r .has .most, p .1),
       subst held (sym (l .before .before .higher-of .ensures)) (higher-computable (r .has) (r .copied) (p .4) (p .3 .most) (p .5) (p .3 .x) (r .scaled)),

@@ -1,11 +1,9 @@
 -- The box at a break point of a curve of degree 4 or 5: too long, or its numbers compared.
-use mathlib.Core.Path.{_≡_, refl, sym, _∙_, ap, ap₂}
-use mathlib.Core.Bool.{true, false, not}
+use mathlib.Core.Path.{refl, sym, _∙_}
 use borrow.Author.Needs.{needs}
 use Rattle.integers.proofs.Machine.{fits!, is!, flag! }
 use Rattle.bound_coordinate.proofs.Coordinates.{bounded, small! }
 use Rattle.band_records.specs.Inside.{boxFrom}
-use Rattle.band_comparing.specs.Inside.{triedOf}
 use Rattle.band_comparing.proofs.TryLaws.{box-wide, box-narrow, held-four}
 use Rattle.band_comparing.proofs.trying.try_higher_box.Statement.{statement}
 use Rattle.band_comparing.proofs.trying.try_higher_box.Tie as tie

@@ -1,5 +1,5 @@
 -- A node tried: its two numbers, then its boxes.
-use mathlib.Core.Path.{_≡_, sym, _∙_, ap}
+use mathlib.Core.Path.{_≡_, _∙_, ap}
 use Prim.Native.Nat.{_+_, _≤_}
 use native.Mathlib.Nat.{lt-trans}
 use native.Mathlib.Omega.{arith}
