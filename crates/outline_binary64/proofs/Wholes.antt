@@ -4,23 +4,21 @@ use mathlib.Core.Path.{_≡_, refl, _∙_, ap, ap₂, subst}
 use mathlib.Core.Bool.{Bool, true, false, not, _&&_, true≢false}
 use mathlib.Core.List.{List, [], _∷_}
 use mathlib.Core.Option.{Option, none, some}
-use Prim.Native.Nat.{ℕ, zero, suc, _+_, _*_, _/_, _<_}
+use Prim.Native.Nat.{ℕ, zero, suc, _*_, _/_, _<_}
 use native.Mathlib.Nat.{not-suc-le-zero, le-of-suc-le-suc}
 use native.Mathlib.Omega.{arith}
-use borrow.Author.Tests.{eqb-true, ltb-false}
+use borrow.Author.Tests.{eqb-true}
 use lib.Dec.{ltb, eqb}
 use lib.ListN.{length, getD}
 use lib.IntN.{ℤ}
 use lib.Ieee.{Float, nan, inf, fin, up, down}
-use Rattle.integers.specs.Entry.{entry}
 use Rattle.integers.proofs.Clash.{clash}
-use Rattle.integers.proofs.First.{bad-below}
 use Rattle.refusals.specs.declared.Refusal.{Refusal}
 use Rattle.refusals.specs.declared.Refusal.the-variants.{Degree, CutShort, Coordinate, TooManyCurves, EmptyOutline, Gap, DegreePieces, NotWhole}
 use Rattle.refusals.specs.Refusals.{numberOf, spotOf}
-use Rattle.setting.specs.Setting.{degreePieces}
-use Rattle.outline.specs.Curves.{nextAt, curveAt, coordinates, degreeFine, degreeAt}
-use Rattle.outline.specs.Faults.{faultAt, firstBeyond, meetsBefore, coordinateFine}
+use Rattle.outline.specs.Curves.{nextAt, curveAt}
+use Rattle.outline.specs.Faults.{faultAt}
+use Rattle.outline.proofs.Faultless.{Finding, no-degree, few-pieces, cut-short, beyond, gap, none-found, finding}
 use Rattle.outline.specs.Checks.{Outlined, curves, faulty, withCurve, outlineFrom, outlined}
 use Rattle.binary64.specs.Exact.{signed}
 use Rattle.binary64.specs.Read.{wholeOf, readOf}
@@ -52,35 +50,18 @@ abbrev Inside : ℕ → Refusal → Type 0
 Inside n r = numberOf r ≡ 4 → spotOf r < n
 
 fault-inside : (m : ℕ) (ns : List ℤ) (at : ℕ) (r : Refusal) → faultAt m ns at ≡ some r → Inside (length ns) r
-unfolding faultAt
-fault-inside m ns at r =
-    go (degreeFine (entry ns at)) (degreePieces (degreeAt ns at) m) (ltb (length ns) (nextAt ns at)) refl
-    (firstBeyond ns (coordinates (degreeAt ns at)) (at + 1)) refl (meetsBefore ns at)
+fault-inside m ns at r = go (faultAt m ns at) (finding m ns at)
   where
     other : (q : Refusal) → (numberOf q ≡ 4 → ⊥) → _≡_ {A = Option Refusal} (some q) (some r) → Inside (length ns) r
     other q never e = subst (Inside (length ns)) {x = q} {y = r} (cc) (λ f. absurd (never f))
 
-    go : (b p l : Bool) → ltb (length ns) (nextAt ns at) ≡ l → (o : Option ℕ) → firstBeyond ns (coordinates (degreeAt ns at)) (at + 1) ≡ o → (t : Bool)
-        → _≡_ {A = Option Refusal} (elim b [
-          | false ↦ some (Degree at)
-          | true ↦
-              elim p [
-                | false ↦ some (DegreePieces at)
-                | true ↦
-                    elim l [
-                      | true ↦ some (CutShort (length ns))
-                      | false ↦ elim o [ some i ↦ some (Coordinate i) | none ↦ elim t [ true ↦ none | false ↦ some (Gap at) ] ]
-                    ]
-              ]
-        ]) (some r) → Inside (length ns) r
-    go false p l f o g t e = other (Degree at) (λ n. omega arith) e
-    go true false l f o g t e = other (DegreePieces at) (λ n. omega arith) e
-    go true true true f o g t e = other (CutShort (length ns)) (λ n. omega arith) e
-    go true true false f (some i) g t e =
-        subst (Inside (length ns)) {x = Coordinate i} {y = r} (cc)
-        (λ n. omega (arith, ltb-false (length ns) (nextAt ns at) f, bad-below (λ k. coordinateFine (entry ns k)) (coordinates (degreeAt ns at)) (at + 1) i g))
-    go true true false f none g false e = other (Gap at) (λ n. omega arith) e
-    go true true false f none g true e = clash (cc)
+    go : (o : Option Refusal) → Finding m ns at o → o ≡ some r → Inside (length ns) r
+    go _ no-degree e = other (Degree at) (λ n. omega arith) e
+    go _ few-pieces e = other (DegreePieces at) (λ n. omega arith) e
+    go _ cut-short e = other (CutShort (length ns)) (λ n. omega arith) e
+    go _ (beyond i h) e = subst (Inside (length ns)) {x = Coordinate i} {y = r} (cc) (λ n. h)
+    go _ (gap f) e = other (Gap at) (λ n. omega arith) e
+    go _ (none-found f) e = clash (cc)
 
 outline-inside : (left m : ℕ) (ns : List ℤ) (at : ℕ) (r : Refusal) → outlineFrom left m ns at ≡ faulty r → Inside (length ns) r
 unfolding outlineFrom
