@@ -46,7 +46,14 @@ fn put_box(
 
 // The boxes at the break points of a curve of degree 1 to 3 at a depth, from place `at` on, by what goes with the
 // number of pieces, whose rows are lent.
-fn put_boxes(records: &mut [i32], at: usize, rows: &[i64], curve: Curve, depth: u32, pieces: Pieces)
+fn put_low_boxes(
+    records: &mut [i32],
+    at: usize,
+    rows: &[i64],
+    curve: Curve,
+    depth: u32,
+    pieces: Pieces,
+)
     requires { ⌜ (at + 4 * breakPoints (settingOf pieces) ≤ length (now records)) × (Ready pieces (now rows))
         × (Sized depth curve) × (curve .degree ≤ 3) × (depth ≤ 8) ⌝ }
     ensures { λ _. ⌜ now (records .exit)
@@ -91,10 +98,11 @@ pub fn put_record(
     records[at] = number as i32;
     records[at + 1] = node as i32;
     let depth = curve_nodes::depth(node);
-    put_boxes(records, at + 2, rows, curve, depth, pieces);
+    put_low_boxes(records, at + 2, rows, curve, depth, pieces);
 }
 
-// The same of degree 4 or 5.
+// The record of a node of degree 4 or 5: its curve's number, its own, and its boxes, by what goes with the number of
+// pieces, whose rows are lent.
 pub fn put_record_higher(
     records: &mut [i32],
     at: usize,
@@ -114,5 +122,5 @@ pub fn put_record_higher(
     records[at] = number as i32;
     records[at + 1] = node as i32;
     let depth = curve_nodes::depth(node);
-    crate::higher::put_boxes(records, at + 2, rows, curve, depth, pieces.scale, pieces.m);
+    crate::higher::put_higher_boxes(records, at + 2, rows, curve, depth, pieces.scale, pieces.m);
 }

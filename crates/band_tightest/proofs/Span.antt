@@ -12,7 +12,6 @@ use lib.Dec.{eqb, ltb}
 use lib.ListN.{length}
 use lib.IntN.{pos}
 use Rattle.setting.specs.Setting.{Setting, relimited, recordLength}
-use Rattle.integers.specs.First.{firstBad}
 use Rattle.integers.proofs.First.{bad-none, bad-at}
 use Rattle.integers.proofs.Clash.{clash}
 use Rattle.integers.proofs.Order.{natural, pos-le}

@@ -88,7 +88,7 @@ module _ (m from : ℕ) where
     number-is i j hi hj place =
         rw e (ap (λ x. pos m *ℤ x) (sym (triple-entry i j hi)) ∙ sym (number-at m (rowFrom m from) i j place hj))
 
-    -- those of one more break point
+    -- the rows of one more break point
     pub row-more : {at i : ℕ} {l l′ : List ℤ} {x y z : ℤ} → i ≤ m → at + 3 * (m + 1) ≤ length l
         → x ≡ pos m *ℤ entry t (from + i) → y ≡ pos m *ℤ entry t (from + (m + 1) + i) → z ≡ pos m *ℤ entry t (from + i)
         → Put at (3 * i) (numberAt m (rowFrom m from)) l l′
@@ -162,7 +162,7 @@ module _ {m at : ℕ} (d : ℕ) {l l′ : List ℤ} (p : PutRows at (d - 1) m (s
 place-is : (d k : ℕ) → k < d - 1 → rowPlace d k ≡ blocksOf d + 27 * k
 place-is d k h = ap (λ (b : Bool). cond b (blocksOf d + 27 * k) 81) (lt-ltb (k + 1) d (omega arith))
 
--- those of degrees 2 and 3 stand first
+-- the rows of degrees 2 and 3 stand first
 pub low-place : (d k : ℕ) → d ≤ 3 → k ≤ 1 → rowPlace d k ≤ 81
 low-place d k l hk = rw (lt-ltb d 4 (suc-le-suc l)) (cases (ltb (k + 1) d) (ltb d 3))
   where

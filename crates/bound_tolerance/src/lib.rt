@@ -9,7 +9,7 @@ ghost use Rattle.curve_nodes.specs.Bounds.{Sized};
 ghost use Rattle.bound_coordinate.specs.Inside.{Small, Boundable};
 ghost use Rattle.bound_coordinate.specs.Terms.{ComputableAt};
 ghost use Rattle.bound_pieces.specs.Inside.{piecesOf, settingOf, exactOf, sumsOf, pointSum, Ready, acrossBy};
-ghost use Rattle.bound_tolerance.specs.Told.{Told};
+ghost use Rattle.bound_tolerance.specs.Verdicts.{VerdictRight};
 ghost use Rattle.bound_node.specs.Boxes.{meets};
 use crate::spread::size;
 use bound_coordinate::break_points::high_at;
@@ -124,7 +124,7 @@ pub enum Verdict {
 fn verdict_by(pieces: Pieces, curve: Curve, depth: u32, t: i64) -> Verdict
     requires { ⌜ (HasRows (pieces .m)) × (pieces ≡ piecesOf (pieces .m) (pieces .sixths)) × (Sized depth curve)
         × (curve .degree ≤ 3) × (depth ≤ 8) × (Small (2 ^ 27) t) ⌝ }
-    ensures { λ r. ⌜ Told (settingOf pieces) t depth curve r ⌝ }
+    ensures { λ r. ⌜ VerdictRight (settingOf pieces) t depth curve r ⌝ }
 {
     let square = t * t;
     let degree = curve.degree;
@@ -138,21 +138,21 @@ fn verdict_by(pieces: Pieces, curve: Curve, depth: u32, t: i64) -> Verdict
     let x2 = x[1];
     let y1 = y[0];
     let y2 = y[1];
-    let width = crate::spread::whole(larger(x1, x2), more, shift);
-    let height = crate::spread::whole(larger(y1, y2), more, shift);
+    let width = crate::spread::rounded_up(larger(x1, x2), more, shift);
+    let height = crate::spread::rounded_up(larger(y1, y2), more, shift);
     if !is_longer(width + 1, height + 1, square) {
         return Verdict::Narrow;
     }
     if is_exact(pieces, degree) {
         let there = if x1 < x2 { y2 } else { y1 };
-        if is_longer(width, crate::spread::whole(there, more, shift), square) {
+        if is_longer(width, crate::spread::rounded_up(there, more, shift), square) {
             return Verdict::Wide;
         }
         return Verdict::Open;
     }
     let last = x1 < x2;
-    let least_width = crate::spread::whole(sum_there(pieces, xs, x, last), more, shift);
-    let least_height = crate::spread::whole(sum_there(pieces, ys, y, last), more, shift);
+    let least_width = crate::spread::rounded_up(sum_there(pieces, xs, x, last), more, shift);
+    let least_height = crate::spread::rounded_up(sum_there(pieces, ys, y, last), more, shift);
     if is_longer(least_width, least_height, square) {
         return Verdict::Wide;
     }
@@ -164,7 +164,7 @@ fn verdict_by(pieces: Pieces, curve: Curve, depth: u32, t: i64) -> Verdict
 pub fn verdict_of(pieces: Pieces, curve: Curve, depth: u32, t: i64) -> Verdict
     requires { ⌜ (HasRows (pieces .m)) × (pieces ≡ piecesOf (pieces .m) (pieces .sixths)) × (Sized depth curve)
         × (curve .degree ≤ 3) × (depth ≤ 8) ⌝ }
-    ensures { λ r. ⌜ Told (settingOf pieces) t depth curve r ⌝ }
+    ensures { λ r. ⌜ VerdictRight (settingOf pieces) t depth curve r ⌝ }
 {
     if t < -134217728 {
         return Verdict::Narrow;

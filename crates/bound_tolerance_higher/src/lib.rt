@@ -7,14 +7,14 @@ ghost use lib.Signed.{ltZ};
 ghost use Rattle.setting.specs.Setting.{HasRows};
 ghost use Rattle.curve_nodes.specs.Bounds.{Sized};
 ghost use Rattle.bound_coordinate.specs.Inside.{HigherBoundable, Small, Computed};
-ghost use Rattle.bound_coordinate.specs.Higher.{HigherComputable};
+ghost use Rattle.bound_coordinate.specs.HigherTerms.{HigherComputable};
 ghost use Rattle.bound_pieces.specs.Inside.{spreadOf, piecesOf, settingOf, gapsOf, Ready, higherAcrossBy};
-ghost use Rattle.bound_tolerance_higher.specs.Told.{sizesOf, mostOf, endOf, acrossAbove, acrossOf};
+ghost use Rattle.bound_tolerance_higher.specs.Spreads.{sizesOf, mostOf, endOf, squaresAbove, squaresOf};
 ghost use Rattle.bound_pieces.specs.Inside.{SmallGaps};
-ghost use Rattle.bound_tolerance_higher.specs.Told.{SmallSizes, Spread, SpreadAt};
-ghost use Rattle.bound_tolerance.specs.Told.{Told};
+ghost use Rattle.bound_tolerance_higher.specs.Spreads.{SmallSizes, Spread, SpreadAt};
+ghost use Rattle.bound_tolerance.specs.Verdicts.{VerdictRight};
 ghost use Rattle.bound_node.specs.Boxes.{meets};
-use bound_coordinate::higher::Higher;
+use bound_coordinate::higher::HigherTerms;
 use bound_coordinate::terms::difference_at;
 use bound_coordinate_higher::high_at;
 use bound_coordinate_higher::higher_of;
@@ -30,8 +30,8 @@ use curve_nodes::Curve;
 // The box at break point i is too long.
 fn is_wide(
     rows: &[i64],
-    x: Higher,
-    y: Higher,
+    x: HigherTerms,
+    y: HigherTerms,
     shift: u32,
     scale: usize,
     m: usize,
@@ -125,7 +125,7 @@ fn whole_units(sum: u64, more: u64, shift: u32) -> i64
 // The boxes at all break points are narrow: rounded up and one more, no box is wider.
 fn is_narrow(gaps: Gaps, x: [u64; 4], y: [u64; 4], shift: u32, square: i64) -> bool
     requires { ⌜ (Spread gaps shift x) × (Spread gaps shift y) ⌝ }
-    ensures { λ r. ⌜ r ≡ not (ltZ square (acrossAbove (6 * mostOf gaps x) (6 * mostOf gaps y) shift)) ⌝ }
+    ensures { λ r. ⌜ r ≡ not (ltZ square (squaresAbove (6 * mostOf gaps x) (6 * mostOf gaps y) shift)) ⌝ }
 {
     let more = (625u64 << shift) - 1;
     let width = whole_units(most(gaps, x), more, shift);
@@ -136,7 +136,7 @@ fn is_narrow(gaps: Gaps, x: [u64; 4], y: [u64; 4], shift: u32, square: i64) -> b
 // The box at an end is wide, by the two differences there.
 fn is_wide_at(gaps: Gaps, x: [u64; 2], y: [u64; 2], shift: u32, square: i64) -> bool
     requires { ⌜ (SpreadAt gaps shift x) × (SpreadAt gaps shift y) ⌝ }
-    ensures { λ r. ⌜ r ≡ ltZ square (acrossOf (6 * endOf gaps x) (6 * endOf gaps y) shift) ⌝ }
+    ensures { λ r. ⌜ r ≡ ltZ square (squaresOf (6 * endOf gaps x) (6 * endOf gaps y) shift) ⌝ }
 {
     let more = (625u64 << shift) - 1;
     let first = gaps.first;
@@ -152,7 +152,7 @@ fn is_wide_at(gaps: Gaps, x: [u64; 2], y: [u64; 2], shift: u32, square: i64) -> 
 pub fn verdict_of(pieces: Pieces, curve: Curve, depth: u32, t: i64) -> Verdict
     requires { ⌜ (HasRows (pieces .m)) × (pieces ≡ piecesOf (pieces .m) (pieces .sixths)) × (3 ≤ pieces .m)
         × (Sized depth curve) × (3 < curve .degree) × (depth ≤ 4) × (pieces .sixths ≡ false) ⌝ }
-    ensures { λ r. ⌜ Told (settingOf pieces) t depth curve r ⌝ }
+    ensures { λ r. ⌜ VerdictRight (settingOf pieces) t depth curve r ⌝ }
 {
     if t < -134217728 {
         return Verdict::Narrow;

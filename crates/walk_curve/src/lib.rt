@@ -93,7 +93,7 @@ pub fn walk(rows: &[i64], pieces: Pieces, curve: Curve, t: i64) -> Walked
     }
 }
 
-// Those of degree 1 to 3.
+// Counts the leaves of a curve of degree 1 to 3.
 fn walk_low(rows: &[i64], pieces: Pieces, curve: Curve, t: i64) -> Walked
     requires { ⌜ (Ready pieces (now rows)) × (Sized 0 curve) × (curve .degree ≤ 3) ⌝ }
     ensures { λ r. ⌜ r ≡ walkedOf (settingOf pieces) t curve ⌝ }
@@ -124,7 +124,7 @@ fn walk_low(rows: &[i64], pieces: Pieces, curve: Curve, t: i64) -> Walked
     }
 }
 
-// Those of degree 4 and 5.
+// Counts the leaves of a curve of degree 4 or 5.
 fn walk_higher(rows: &[i64], pieces: Pieces, curve: Curve, t: i64) -> Walked
     requires { ⌜ (Ready pieces (now rows)) × (Sized 0 curve) × (3 < curve .degree) × (3 ≤ pieces .m)
         × (pieces .sixths ≡ false) ⌝ }

@@ -39,7 +39,7 @@ returns c =
 loop-again : tie.Need-loop-again Inv-loop μ-loop
 loop-again c =
     let l = c .before .before .before in
-    let e = sym (c .before .apart .ensures) ∙ not-false (c .before .apart .result) (c .if1 .left) in
+    let e = sym (c .before .record-apart .ensures) ∙ not-false (c .before .record-apart .result) (c .if1 .left) in
     rw (length-is (l .before .args .m)) (apart-more (l .loop .inv) e)
 
 returns-2 : tie.Need-returns-2 Inv-loop μ-loop

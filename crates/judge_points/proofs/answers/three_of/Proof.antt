@@ -3,7 +3,6 @@ use mathlib.Core.Path.{_≡_, sym, _∙_, ap₂}
 use mathlib.Core.Bool.{true}
 use mathlib.Core.List.{[], _∷_}
 use native.Mathlib.Nat.{le-refl}
-use native.Mathlib.Omega.{arith}
 use lib.ListN.{length}
 use lib.IntN.{pos}
 use mir.Syntax.{w64}
@@ -18,7 +17,7 @@ use Rattle.judge.specs.Judging.{FirstHolder}
 use Rattle.judge.specs.Inside.{InRange}
 use Rattle.judge.proofs.Holders.{range-size, found-off}
 use Rattle.judge.proofs.Answers.{x-bad, y-bad, none-bad, judged-refused, judged-found}
-use Rattle.judge_points.proofs.Told.{told, leaf-below}
+use Rattle.judge_points.proofs.PointNumbers.{numbers-judged, leaf-below}
 use Rattle.judge_points.proofs.answers.three_of.Statement.{statement}
 use Rattle.judge_points.proofs.answers.three_of.Tie as tie
 
@@ -28,7 +27,7 @@ returns c =
     let a = s .args in
     let σ = lists (a .m) in
     let f = rw (toZ-ofZ (s .fits .x)) at (sym (c .before .in-range .ensures) ∙ not-true (c .before .in-range .result) (c .if1 .taken)) in
-    told σ (a .leaves .now) (a .x) (a .y) (Refused PointX)
+    numbers-judged σ (a .leaves .now) (a .x) (a .y) (Refused PointX)
     (judged-refused σ (a .leaves .now) (a .x) (a .y) PointX (x-bad σ (a .leaves .now) (a .x) (a .y) (s .pre .0) (s .pre .1) f))
 
 -- past the test of x
@@ -42,7 +41,7 @@ returns-2 c =
     let a = s .args in
     let σ = lists (a .m) in
     let f = rw (toZ-ofZ (s .fits .y)) at (sym (c .before .in-range2 .ensures) ∙ not-true (c .before .in-range2 .result) (c .if2 .taken)) in
-    told σ (a .leaves .now) (a .x) (a .y) (Refused PointY)
+    numbers-judged σ (a .leaves .now) (a .x) (a .y) (Refused PointY)
     (judged-refused σ (a .leaves .now) (a .x) (a .y) PointY (y-bad σ (a .leaves .now) (a .x) (a .y) (s .pre .0) (s .pre .1) (x-fine d) f))
 
 -- past the test of y
@@ -81,7 +80,7 @@ returns-3 c =
     let t = c .if3 .taken in
     let m = s .pre .0 .most in
     ap₂ (λ u v. pos 1 ∷ u ∷ v ∷ []) (toZ-pos w64 {n = h .leaf} (search needs)) (toZ-pos w64 {n = h .cover} (search needs))
-    ∙ told σ (a .leaves .now) (a .x) (a .y) (On (h .leaf) (h .cover))
+    ∙ numbers-judged σ (a .leaves .now) (a .x) (a .y) (On (h .leaf) (h .cover))
     (judged-found σ (a .leaves .now) (a .x) (a .y) (On (h .leaf) (h .cover))
     (none-bad σ (a .leaves .now) (a .x) (a .y) (s .pre .0) (s .pre .1) (x-fine d) (y-fine e)) (holder c))
 
@@ -94,7 +93,7 @@ returns-4 c =
     let a = s .args in
     let σ = lists (a .m) in
     let o = rw (toZ-ofZ (s .fits .x), toZ-ofZ (s .fits .y)) at (f .find-groups .ensures .off (c .if3 .left)) in
-    told σ (a .leaves .now) (a .x) (a .y) Off
+    numbers-judged σ (a .leaves .now) (a .x) (a .y) Off
     (judged-found σ (a .leaves .now) (a .x) (a .y) Off
     (none-bad σ (a .leaves .now) (a .x) (a .y) (s .pre .0) (s .pre .1) (x-fine d) (y-fine e)) (found-off o (le-refl (length (a .leaves .now)))))
 

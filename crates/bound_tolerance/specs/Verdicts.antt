@@ -12,7 +12,7 @@ use Rattle.bound_tolerance.specs.declared.Verdict.the-variants.{Narrow, 
 use Rattle.bound_node.specs.Boxes.{meets}
 
 -- what is told of a node at depth k is right; where nothing is told, no square of the tolerance wraps
-abbrev pub Told : Setting → ℤ → ℕ → Curve → Verdict → Type 0
-Told σ T k c Narrow = meets σ T k c ≡ true
-Told σ T k c Wide = meets σ T k c ≡ false
-Told σ T k c Open = Small (2 ^ 27) T
+abbrev pub VerdictRight : Setting → ℤ → ℕ → Curve → Verdict → Type 0
+VerdictRight σ T k c Narrow = meets σ T k c ≡ true
+VerdictRight σ T k c Wide = meets σ T k c ≡ false
+VerdictRight σ T k c Open = Small (2 ^ 27) T

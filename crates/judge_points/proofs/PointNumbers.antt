@@ -1,13 +1,13 @@
 -- The numbers of the points, one after the other: each three are those of what judging says.
-use mathlib.Core.Path.{_≡_, refl, sym, _∙_, ap, ap₂, subst}
-use mathlib.Core.List.{List, [], _∷_, _++_}
-use Prim.Native.Nat.{ℕ, zero, suc, _+_, _*_, _≤_, _<_, _^_}
+use mathlib.Core.Path.{_≡_, refl, sym, _∙_, ap, ap₂}
+use mathlib.Core.List.{List, _++_}
+use Prim.Native.Nat.{ℕ, zero, suc, _+_, _*_, _≤_, _<_}
 use native.Mathlib.Nat.{zero-add, mul-le-mul-right}
 use native.Mathlib.Numerals.{add-one}
 use native.Mathlib.Omega.{arith}
 use lib.ListN.{length, drop, length-append}
 use lib.Seq.{sets, length-sets, sets-eq}
-use lib.IntN.{ℤ, pos}
+use lib.IntN.{ℤ}
 use Rattle.integers.proofs.Stores.{sets-append}
 use Rattle.setting.specs.Setting.{Setting, recordLength}
 use Rattle.judge.specs.declared.judging.Judgement.{Judgement}
@@ -18,8 +18,8 @@ use Rattle.judge.proofs.Judgements.{judged-is}
 use Rattle.judge_points.specs.Points.{judgementNumbers, pointJudgement, pointNumbers, numbersTo}
 
 -- ---- an answer that judging may give has the numbers of the one answer
-pub told : (σ : Setting) (ns : List ℤ) (x y : ℤ) (a : Judgement) → Judged σ ns x y a → judgementNumbers a ≡ judgementNumbers (judgement σ ns x y)
-told σ ns x y a j = ap judgementNumbers (judged-is σ ns x y a j)
+pub numbers-judged : (σ : Setting) (ns : List ℤ) (x y : ℤ) (a : Judgement) → Judged σ ns x y a → judgementNumbers a ≡ judgementNumbers (judgement σ ns x y)
+numbers-judged σ ns x y a j = ap judgementNumbers (judged-is σ ns x y a j)
 
 -- a record's number is below the length of its list
 pub leaf-below : {σ : Setting} {ns : List ℤ} {x y : ℤ} {k i : ℕ} → FirstHolder σ ns x y k i → k < length ns
