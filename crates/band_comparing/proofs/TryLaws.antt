@@ -7,7 +7,7 @@ use native.Mathlib.Nat.{le-refl, not-suc-le-zero}
 use native.Mathlib.Numerals.{add-one, add-two}
 use native.Mathlib.Omega.{arith}
 use lib.ListN.{length}
-use lib.IntN.{ℤ, pos, _+ℤ_, _-ℤ_}
+use lib.IntN.{ℤ, pos, _+ℤ_, _-ℤ_, _*ℤ_}
 use lib.Signed.{ltZ}
 use Rattle.setting.specs.Setting.{Setting, HasRows, lists, breakPoints}
 use Rattle.setting.proofs.Depths.{deepest-low, deepest-high}
@@ -30,7 +30,7 @@ use Rattle.bound_coordinate.specs.HigherTerms.{higherOf}
 use Rattle.bound_pieces.specs.Inside.{piecesBy, piecesOf, Ready, acrossBy, higherAcrossBy}
 use Rattle.bound_node.specs.Boxes.{boxAt, meets}
 use Rattle.bound_node.proofs.Narrow.{diagonal}
-use Rattle.bound_tolerance.proofs.ToleranceLaws.{none-next, box-fails, boxes-pass, across-is, higher-across-is}
+use Rattle.bound_tolerance.proofs.ToleranceLaws.{Diagonals, none-next, box-fails, boxes-pass, across-is, higher-across-is, square-is}
 use Rattle.band_records.specs.Records.{boxNumbers, boxesTo, nodeNumbers}
 use Rattle.band_records.specs.Inside.{boxBy}
 use Rattle.band_records.proofs.Writing.{joinedTo, joined-length, boxes-are, box-is, higher-box-is}
@@ -80,17 +80,6 @@ node-head g reach at k n boxes ea eb e f =
     ap (λ q. reachOf g q (at + 2) boxes) (f ∙ ap₂ (λ q z. reachNumber g q (at + 1) z) (e ∙ ap (reachNumber g reach at) ea) eb)
     ∙ rw (add-one, add-two)
 
--- ---- what the test of a node asks, for degrees 1 to 3 and for degrees 4 and 5
-module _ {g : List ℤ} {reach at few m scale : ℕ} {rows : List ℤ} {k : ℕ} {c : Curve} {t : ℤ} (h : Tryable g reach at few m scale rows k c t) where
-  pub low-depth : c .degree ≤ 3 → k ≤ 8
-  low-depth l = rw (deepest-low (c .degree) l) at (h .shallow)
-
-  pub high-depth : 3 < c .degree → k ≤ 4
-  high-depth l = rw (deepest-high (c .degree) l) at (h .shallow)
-
-  pub high-pieces : 3 < c .degree → 3 ≤ m
-  high-pieces l = degree-takes (c .degree) m .0 (h .takes) l
-
 pub told-wide : (b : Bool) (r : ℕ) → Wide ≡ triedOf b r → b ≡ false
 told-wide true r e = clash (cc)
 told-wide false r e = refl
@@ -138,21 +127,25 @@ module _ (g : List ℤ) (reach at : ℕ) (across : ℕ → ℤ) (square : ℤ) (
         }
 
 -- ---- the node: its boxes are those that the loop found
-module _ (σ : Setting) (T : ℤ) (k : ℕ) (c : Curve) {across : ℕ → ℤ} {square : ℤ} {box : ℕ → List ℤ}
-    (across-is : (i : ℕ) → i ≤ σ .pieces → across i ≡ diagonal σ k c i) (square-is : square ≡ squared T)
-    (box-is : (i : ℕ) → i ≤ σ .pieces → box i ≡ boxNumbers (boxAt σ k c i)) (g : List ℤ) (reach at : ℕ) where
+pub record Seen (σ : Setting) (T : ℤ) (k : ℕ) (c : Curve) (across : ℕ → ℤ) (square : ℤ) (box : ℕ → List ℤ) : Type 0 where
+  pub diagonals : Diagonals σ k c T across square
+  pub boxes : (i : ℕ) → i ≤ σ .pieces → box i ≡ boxNumbers (boxAt σ k c i)
+
+module _ {σ : Setting} {T : ℤ} {k : ℕ} {c : Curve} {across : ℕ → ℤ} {square : ℤ} {box : ℕ → List ℤ} (seen : Seen σ T k c across square box)
+    (g : List ℤ) (reach at : ℕ) where
   pub going-wide : (i r : ℕ) → i ≤ σ .pieces → Wide ≡ triedOf (not (ltZ square (across i))) r
       → Wide ≡ triedOf (meets σ T k c) (reachOf g reach at (boxesTo σ (breakPoints σ) k c))
   going-wide i r h e =
       let w = not-false (told-wide (not (ltZ square (across i))) r e) in
-      ap (λ b. triedOf b (reachOf g reach at (boxesTo σ (breakPoints σ) k c))) (sym (box-fails σ k c across across-is T square-is i h w))
+      ap (λ b. triedOf b (reachOf g reach at (boxesTo σ (breakPoints σ) k c))) (sym (box-fails (seen .diagonals) i h w))
 
   pub going-done : {i to : ℕ} → Going g reach at across square box i to → i ≡ breakPoints σ
       → Narrow to ≡ triedOf (meets σ T k c) (reachOf g reach at (boxesTo σ (breakPoints σ) k c))
   going-done {i} {to} h e =
-      ap Narrow (h .is ∙ ap (λ n. reachOf g reach at (joinedTo n box)) e ∙ ap (reachOf g reach at) (boxes-are σ k c box-is (breakPoints σ) (le-refl (breakPoints σ))))
+      ap Narrow (h .is ∙ ap (λ n. reachOf g reach at (joinedTo n box)) e
+      ∙ ap (reachOf g reach at) (boxes-are σ k c (seen .boxes) (breakPoints σ) (le-refl (breakPoints σ))))
       ∙ ap (λ b. triedOf b (reachOf g reach at (boxesTo σ (breakPoints σ) k c)))
-      (sym (boxes-pass σ k c across across-is T square-is (λ j l. h .narrow j (omega (arith, e)))))
+      (sym (boxes-pass (seen .diagonals) (λ j l. h .narrow j (omega (arith, e)))))
 
 -- ---- with m pieces and control values in units
 pub ready-of : {m : ℕ} {rows : List ℤ} → HasRows m → Copied m rows → Ready (piecesOf m false) rows
@@ -164,18 +157,45 @@ one-time m = omega arith
 
 module _ {m k : ℕ} {rows : List ℤ} (h : HasRows m) (copied : Copied m rows) {c : Curve} (sized : Sized k c) where
   module _ (few : c .degree ≤ 3) {x y : Terms} (ex : x ≡ termsOf m (c .degree) (c .x)) (ey : y ≡ termsOf m (c .degree) (c .y)) where
-    pub low-across : (i : ℕ) → i ≤ m → acrossBy m (c .degree * k) rows x y i ≡ diagonal (lists m) k c i
+    low-across : (i : ℕ) → i ≤ m → acrossBy m (c .degree * k) rows x y i ≡ diagonal (lists m) k c i
     unfolding piecesOf piecesBy
     low-across i hi = ap (λ q. acrossBy q (c .degree * k) rows x y i) (one-time m) ∙ across-is (ready-of h copied) sized few ex ey i hi
 
-    pub low-box : (i : ℕ) → i ≤ m → boxBy m (c .degree * k) rows x y i ≡ boxNumbers (boxAt (lists m) k c i)
+    low-box : (i : ℕ) → i ≤ m → boxBy m (c .degree * k) rows x y i ≡ boxNumbers (boxAt (lists m) k c i)
     low-box i hi = ap (λ q. boxBy q (c .degree * k) rows x y i) (one-time m) ∙ box-is (lists m) h k c sized copied few ex ey i hi
 
   module _ (many : 3 < c .degree) (three : 3 ≤ m) {x y : HigherTerms} (ex : x ≡ higherOf m (c .degree) (c .degree * k) (c .x))
       (ey : y ≡ higherOf m (c .degree) (c .degree * k) (c .y)) where
-    pub high-across : (i : ℕ) → i ≤ m → higherAcrossBy m (c .degree * k) rows x y i ≡ diagonal (lists m) k c i
+    high-across : (i : ℕ) → i ≤ m → higherAcrossBy m (c .degree * k) rows x y i ≡ diagonal (lists m) k c i
     unfolding piecesOf piecesBy
     high-across i hi = higher-across-is (ready-of h copied) sized many three refl ex ey i hi
 
-    pub high-box : (i : ℕ) → i ≤ m → higherBoxBy m (c .degree * k) rows x y i ≡ boxNumbers (boxAt (lists m) k c i)
+    high-box : (i : ℕ) → i ≤ m → higherBoxBy m (c .degree * k) rows x y i ≡ boxNumbers (boxAt (lists m) k c i)
     high-box i hi = higher-box-is (lists m) h k c sized copied many refl three ex ey i hi
+
+-- ---- what the test of a node asks, for degrees 1 to 3 and for degrees 4 and 5
+module _ {g : List ℤ} {reach at few m scale : ℕ} {rows : List ℤ} {k : ℕ} {c : Curve} {t : ℤ} (h : Tryable g reach at few m scale rows k c t) where
+  pub low-depth : c .degree ≤ 3 → k ≤ 8
+  low-depth l = rw (deepest-low (c .degree) l) at (h .shallow)
+
+  pub high-depth : 3 < c .degree → k ≤ 4
+  high-depth l = rw (deepest-high (c .degree) l) at (h .shallow)
+
+  pub high-pieces : 3 < c .degree → 3 ≤ m
+  high-pieces l = degree-takes (c .degree) m .0 (h .takes) l
+
+  -- what the loop finds
+  pub low-seen : c .degree ≤ 3 → {x y : Terms} → x ≡ termsOf m (c .degree) (c .x) → y ≡ termsOf m (c .degree) (c .y)
+      → Seen (lists m) t k c (acrossBy m (c .degree * k) rows x y) (stored w64 (stored w64 t *ℤ stored w64 t)) (boxBy m (c .degree * k) rows x y)
+  low-seen l ex ey = record {
+    diagonals = record { each = low-across (h .lent .has) (h .lent .copied) (h .sized) l ex ey; square = square-is (h .small) };
+    boxes = low-box (h .lent .has) (h .lent .copied) (h .sized) l ex ey;
+  }
+
+  pub high-seen : 3 < c .degree → {x y : HigherTerms} → x ≡ higherOf m (c .degree) (c .degree * k) (c .x)
+      → y ≡ higherOf m (c .degree) (c .degree * k) (c .y)
+      → Seen (lists m) t k c (higherAcrossBy m (c .degree * k) rows x y) (stored w64 (stored w64 t *ℤ stored w64 t)) (higherBoxBy m (c .degree * k) rows x y)
+  high-seen l ex ey = record {
+    diagonals = record { each = high-across (h .lent .has) (h .lent .copied) (h .sized) l (high-pieces l) ex ey; square = square-is (h .small) };
+    boxes = high-box (h .lent .has) (h .lent .copied) (h .sized) l (high-pieces l) ex ey;
+  }

@@ -2,18 +2,22 @@
 use mathlib.Core.Path.{_≡_, refl, sym, _∙_, ap, ap₂}
 use mathlib.Core.List.{List, [], _∷_, _++_}
 use mathlib.Core.Bool.{true, false}
-use Prim.Native.Nat.{ℕ, zero, suc, _+_, _*_, _≤_, _<_}
+use Prim.Native.Nat.{ℕ, zero, suc, _+_, _*_, _^_, _≤_, _<_}
 use native.Mathlib.Nat.{le-refl, le-of-suc-le-suc, lt-irrefl}
 use native.Mathlib.Omega.{arith}
 use native.Mathlib.Numerals.{add-one, add-two, add-three}
 use lib.ListN.{length, set, length-append, length-set}
 use lib.Seq.{sets, length-sets, set-comm}
 use lib.IntN.{ℤ, pos}
+use mir.Syntax.{w32}
+use mir.Val.{toZ}
+use mir.Facts.{toZ-pos}
 use Rattle.setting.specs.Setting.{Setting, HasRows, breakPoints, degreePieces, scale}
 use Rattle.setting.proofs.Pieces.{degree-takes}
 use Rattle.integers.proofs.Stores.{sets-append}
 use Rattle.curve_nodes.specs.declared.Curve.{Curve}
 use Rattle.curve_nodes.specs.Bounds.{Sized}
+use Rattle.curve_nodes.specs.Nodes.{depth}
 use Rattle.bound_row_table.specs.Inside.{Copied}
 use Rattle.bound_coordinate.specs.declared.terms.Terms.{Terms}
 use Rattle.bound_coordinate.specs.Terms.{termsOf}
@@ -40,6 +44,15 @@ four-sets l at {a} {b} {c} {d} {c′ = u} {d′ = v} ea eb ec ed =
 pub head-sets : (l : List ℤ) (at k n : ℕ) (vs : List ℤ) {a b : ℤ} {l′ : List ℤ} → a ≡ pos k → b ≡ pos n
     → l′ ≡ sets (set (set l at a) (at + 1) b) (at + 2) vs → l′ ≡ sets l at (nodeNumbers k n vs)
 head-sets l at k n vs ea eb e = e ∙ ap₂ (λ x y. sets (set (set l at x) (at + 1) y) (at + 2) vs) ea eb ∙ rw (add-one, add-two)
+
+-- the numbers of a node as 32 bits hold them, in front of its boxes
+module _ (σ : Setting) (c : Curve) (l : List ℤ) (at : ℕ) {k n : ℕ} (hk : k < 2 ^ 31) (hn : n < 2 ^ 31) {l′ : List ℤ}
+    (e : l′ ≡ sets (set (set l at (toZ w32 k)) (at + 1) (toZ w32 n)) (at + 2) (boxesTo σ (breakPoints σ) (depth n) c)) where
+  pub node-sets : l′ ≡ sets l at (nodeNumbers k n (boxesTo σ (breakPoints σ) (depth n) c))
+  node-sets = head-sets l at k n (boxesTo σ (breakPoints σ) (depth n) c) (toZ-pos w32 hk) (toZ-pos w32 hn) e
+
+  pub node-kept : length l′ ≡ length l
+  node-kept = kept l at (nodeNumbers k n (boxesTo σ (breakPoints σ) (depth n) c)) node-sets
 
 -- ---- the boxes of a node
 pub boxes-length : (σ : Setting) (n k : ℕ) (c : Curve) → length (boxesTo σ n k c) ≡ 4 * n

@@ -77,6 +77,10 @@ sums-tested : T (every-below 8 (λ n. sumsFine (suc n)))
 unfolding table rowsOf gapOf largestOf
 sums-tested = tt
 
+chosen : (f : ℕ → ℕ) (b : Bool) → cond b (f 1) (f 0) ≡ f (cond b 1 0)
+chosen f true = refl
+chosen f false = refl
+
 module _ {m : ℕ} (h : HasRows m) where
   abbrev first : Bool
   first = eqb (max (gapAt m 3 0 0 + gapAt m 3 1 0) (gapAt m 3 0 1 + gapAt m 3 1 1)) (gapOf m 3)
@@ -99,17 +103,13 @@ module _ {m : ℕ} (h : HasRows m) where
     widest : (b : Bool) → ltb a₀ a₁ ≡ b → widestAt m ≡ cond b 1 0
     widest b e = ap (λ (t : Bool). cond t 1 0) (ap₂ ltb (sym ea₀) (sym ea₁) ∙ e)
 
-    pub pieces-second : a₀ < a₁ → piecesBy m sixths s a₁ b₁ g q r ≡ piecesOf m sixths
-    unfolding piecesOf nearGap otherGap
-    pieces-second l =
-        let w = sym (widest true (lt-ltb _ _ l)) in
-        λ j. piecesBy m sixths ((es ∙ single-is) j) ((ea₁ ∙ ap (gapAt m 3 0) w) j) ((eb₁ ∙ ap (gapAt m 3 1) w) j) (largest j) (eq j) (er j)
+    read : (k : ℕ) (b : Bool) → ltb a₀ a₁ ≡ b → {x₀ x₁ : ℕ} → x₀ ≡ gapAt m 3 k 0 → x₁ ≡ gapAt m 3 k 1 → cond b x₁ x₀ ≡ gapAt m 3 k (widestAt m)
+    read k b e e₀ e₁ = ap₂ (cond b) e₁ e₀ ∙ chosen (gapAt m 3 k) b ∙ ap (gapAt m 3 k) (sym (widest b e))
 
-    pub pieces-first : a₁ ≤ a₀ → piecesBy m sixths s a₀ b₀ g q r ≡ piecesOf m sixths
+    -- the corner is at break point 1 where the first gap is wider there, and else at break point 0
+    pub pieces-read : (b : Bool) → ltb a₀ a₁ ≡ b → piecesBy m sixths s (cond b a₁ a₀) (cond b b₁ b₀) g q r ≡ piecesOf m sixths
     unfolding piecesOf nearGap otherGap
-    pieces-first l =
-        let w = sym (widest false (le-ltb _ _ l)) in
-        λ j. piecesBy m sixths ((es ∙ single-is) j) ((ea₀ ∙ ap (gapAt m 3 0) w) j) ((eb₀ ∙ ap (gapAt m 3 1) w) j) (largest j) (eq j) (er j)
+    pieces-read b e = λ j. piecesBy m sixths ((es ∙ single-is) j) (read 0 b e ea₀ ea₁ j) (read 1 b e eb₀ eb₁ j) (largest j) (eq j) (er j)
 
 -- ---- the gaps of degrees 4 and 5: G stands at break point 1, the others at break point 0; one and two pieces have none
 abbrev noGaps : Gaps

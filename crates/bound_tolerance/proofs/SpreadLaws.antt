@@ -3,15 +3,16 @@ use mathlib.Core.Path.{_≡_, refl, sym, _∙_, ap}
 use mathlib.Core.Bool.{Bool, true, false}
 use mathlib.Core.List.{List, [], _∷_}
 use Prim.Native.Nat.{ℕ, suc, _+_, _-_, _*_, _/_, _%_, _^_, _≤_, _<_, zero-le}
-use native.Mathlib.Nat.{add-zero, mul-zero, mul-comm, add-mul, mul-add, mul-assoc, mul-le-mul, le-refl, le-trans, lt-of-le-of-lt, div-div-eq-div-mul, mod-eq-of-lt}
+use native.Mathlib.Nat.{add-zero, mul-zero, mul-comm, add-mul, mul-add, mul-assoc, mul-le-mul, le-refl, le-trans, lt-of-le-of-lt, div-div-eq-div-mul, div-le-self, mod-eq-of-lt}
 use native.Mathlib.Omega.{arith}
 use lib.Dec.{T, eqb, leb, leb→le, lit<, lit≤}
 use lib.Pow.{pow-mono, pow-pos}
 use lib.IntN.{ℤ, pos, natAbs}
 use lib.ListN.{getD}
 use mir.Syntax.{w64}
-use mir.Val.{toZ}
+use mir.Val.{SFits, toZ}
 use mir.Facts.{toZ-pos}
+use borrow.Author.Needs.{sfits-of}
 use Rattle.integers.proofs.Ranges.{stored}
 use Rattle.integers.proofs.Table.{every-below}
 use Rattle.curve_halves.specs.Sizes.{Each}
@@ -52,10 +53,10 @@ unit-is h = mod-eq-of-lt (lt-of-le-of-lt (unit-under h) (lit< tt))
 pub unit-less : {s : ℕ} → s ≤ 24 → unit s % 2 ^ 64 - 1 ≡ unit s - 1
 unit-less h = ap (λ (q : ℕ). q - 1) (unit-is h)
 
-module _ (n s : ℕ) (h : n ≤ 6 * (2 ^ 36 * 2 ^ s)) (l : s ≤ 24) where
-  pub raised-under : n + (unit s - 1) ≤ 7 * 2 ^ 60
-  raised-under = omega (arith, h, unit-under l, pow-mono l)
+pub lowered-fits : {n : ℕ} (s q : ℕ) → n ≤ 7 * 2 ^ 60 → SFits w64 (pos (n / 2 ^ s / q))
+lowered-fits {n} s q h = sfits-of (omega (arith, div-le-self (n / 2 ^ s) q, div-le-self n (2 ^ s), h))
 
+module _ (n s : ℕ) (h : n ≤ 6 * (2 ^ 36 * 2 ^ s)) (l : s ≤ 24) where
   pub whole-under : spreadOf n s ≤ 2 ^ 27
   unfolding spreadOf
   whole-under = le-trans (up-most n (unit s) 109951163 (unit-some s) (omega (arith, h))) (lit≤ tt)
@@ -64,10 +65,16 @@ module _ (n s : ℕ) (h : n ≤ 6 * (2 ^ 36 * 2 ^ s)) (l : s ≤ 24) where
   unfolding spreadOf
   whole-is = div-div-eq-div-mul (n + (unit s - 1)) (2 ^ s) 3750 ∙ ap (λ q. (n + (unit s - 1)) / q) (mul-comm (2 ^ s) 3750)
 
-  pub whole-computed : Computed (2 ^ 27) (pos (spreadOf n s)) (toZ w64 ((n + (unit s - 1)) / 2 ^ s / 3750))
+-- from what is added, as the code is given it
+module _ {n more s : ℕ} (h : n ≤ 6 * (2 ^ 36 * 2 ^ s)) (e : more ≡ unit s - 1) (l : s ≤ 24) where
+  pub raised-under : n + more ≤ 7 * 2 ^ 60
+  raised-under = omega (arith, h, e, unit-under l, pow-mono l)
+
+  pub whole-computed : Computed (2 ^ 27) (pos (spreadOf n s)) (toZ w64 ((n + more) / 2 ^ s / 3750))
   whole-computed =
-      let e = ap (toZ w64) whole-is ∙ toZ-pos w64 (lt-of-le-of-lt whole-under (lit< tt)) in
-      record { is = e; size = rw e whole-under }
+      let under = whole-under n s h l in
+      let is = ap (λ k. toZ w64 ((n + k) / 2 ^ s / 3750)) e ∙ ap (toZ w64) (whole-is n s h l) ∙ toZ-pos w64 (lt-of-le-of-lt under (lit< tt)) in
+      record { is = is; size = rw is under }
 
 -- ---- what goes with the number of pieces
 near-tested : T (every-below 8 (λ n. leb (nearGap (suc n)) 7500))

@@ -34,18 +34,19 @@ units-less h = ap (λ (q : ℕ). q - 1) (units-is h)
 sixfold-up : (n q : ℕ) → 0 < q → up (6 * n) (6 * q) ≡ up n q
 sixfold-up n q h = sym (div-div-eq-div-mul (6 * n + (6 * q - 1)) 6 q) ∙ ap (λ (k : ℕ). k / q) {x = (6 * n + (6 * q - 1)) / 6} {y = n + (q - 1)} (omega arith)
 
-module _ (n s : ℕ) (h : n ≤ 2 ^ 36 * 2 ^ s) (l : s ≤ 24) where
-  pub raised-under : n + (units s - 1) ≤ 2 ^ 61
-  raised-under = omega (arith, h, units-under l, pow-mono l)
+module _ {n more s : ℕ} (h : n ≤ 2 ^ 36 * 2 ^ s) (e : more ≡ units s - 1) (l : s ≤ 24) where
+  pub raised-under : n + more ≤ 7 * 2 ^ 60
+  raised-under = omega (arith, h, e, units-under l, pow-mono l)
 
-  divided : (n + (units s - 1)) / 2 ^ s / 625 ≡ spreadOf (6 * n) s
+  divided : (n + more) / 2 ^ s / 625 ≡ spreadOf (6 * n) s
   unfolding spreadOf
   divided =
-      div-div-eq-div-mul (n + (units s - 1)) (2 ^ s) 625 ∙ ap (λ q. (n + (units s - 1)) / q) (mul-comm (2 ^ s) 625)
+      ap (λ k. (n + k) / 2 ^ s / 625) e
+      ∙ div-div-eq-div-mul (n + (units s - 1)) (2 ^ s) 625 ∙ ap (λ q. (n + (units s - 1)) / q) (mul-comm (2 ^ s) 625)
       ∙ sym (sixfold-up n (units s) (units-some s)) ∙ ap (up (6 * n)) {x = 6 * units s} {y = 3750 * 2 ^ s} (omega arith)
 
-  pub units-computed : Computed (2 ^ 27) (pos (spreadOf (6 * n) s)) (toZ w64 ((n + (units s - 1)) / 2 ^ s / 625))
+  pub units-computed : Computed (2 ^ 27) (pos (spreadOf (6 * n) s)) (toZ w64 ((n + more) / 2 ^ s / 625))
   units-computed =
       let under = whole-under (6 * n) s (mul-le-mul (le-refl 6) h) l in
-      let e = ap (toZ w64) divided ∙ toZ-pos w64 (lt-of-le-of-lt under (lit< tt)) in
-      record { is = e; size = rw e under }
+      let is = ap (toZ w64) divided ∙ toZ-pos w64 (lt-of-le-of-lt under (lit< tt)) in
+      record { is = is; size = rw is under }

@@ -1,7 +1,11 @@
 -- The gaps of degree 4 or 5, from those at the break points 0 and 1.
 use mathlib.Core.Path.{_≡_}
+use mathlib.Core.Bool.{true}
+use Prim.Native.Nat.{ℕ, _-_, _≤_, _<_}
 use native.Mathlib.Omega.{arith}
 use borrow.Author.Needs.{needs}
+use Rattle.setting.specs.Setting.{HasRows, degreePieces}
+use Rattle.bound_row_table.specs.Inside.{Copied}
 use Rattle.bound_pieces.proofs.Boxes.{many-takes}
 use Rattle.bound_pieces.proofs.PiecesLaws.{few-gaps, quartic-gaps, quintic-gaps}
 use Rattle.bound_pieces.proofs.gaps_of.Statement.{statement}
@@ -10,54 +14,14 @@ use Rattle.bound_pieces.proofs.gaps_of.Tie as tie
 returns : tie.Need-returns
 returns c = few-gaps (c .before .args .m) (c .before .args .degree) (c .if1 .taken)
 
-gap-at-requires : tie.Need-gap-at-requires
-gap-at-requires c κs =
-    let e = c in
+-- what the gap of second difference k at break point i asks, for three pieces and more
+asked : (e : tie.Else1) → let a = e .before .args in
+    {k i : ℕ} → k < a .degree - 1 → i ≤ a .m
+    → (HasRows (a .m)) × (Copied (a .m) (a .rows .now)) × (k < a .degree - 1) × (a .degree ≤ 5) × (i ≤ a .m) × (degreePieces (a .degree) (a .m) ≡ true)
+asked e hk hi =
     let s = e .before in
     let p = s .pre in
-    (p .0, p .1, omega arith, p .3, omega arith, many-takes (s .args .degree) (s .args .m) (e .if1 .left))
-
-gap-at-requires-2 : tie.Need-gap-at-requires-2
-gap-at-requires-2 c κs =
-    let e = c .before in
-    let s = e .before in
-    let p = s .pre in
-    (p .0, p .1, omega arith, p .3, omega arith, many-takes (s .args .degree) (s .args .m) (e .if1 .left))
-
-gap-at-requires-3 : tie.Need-gap-at-requires-3
-gap-at-requires-3 c κs =
-    let e = c .before .before in
-    let s = e .before in
-    let p = s .pre in
-    (p .0, p .1, omega arith, p .3, omega arith, many-takes (s .args .degree) (s .args .m) (e .if1 .left))
-
-gap-at-requires-4 : tie.Need-gap-at-requires-4
-gap-at-requires-4 c κs =
-    let e = c .before .before .before in
-    let s = e .before in
-    let p = s .pre in
-    (p .0, p .1, omega arith, p .3, omega arith, many-takes (s .args .degree) (s .args .m) (e .if1 .left))
-
-gap-at-requires-5 : tie.Need-gap-at-requires-5
-gap-at-requires-5 c κs =
-    let e = c .before .before .before .before in
-    let s = e .before in
-    let p = s .pre in
-    (p .0, p .1, omega arith, p .3, omega arith, many-takes (s .args .degree) (s .args .m) (e .if1 .left))
-
-gap-at-requires-6 : tie.Need-gap-at-requires-6
-gap-at-requires-6 c κs =
-    let e = c .before .before .before .before .before .before in
-    let s = e .before in
-    let p = s .pre in
-    (p .0, p .1, omega arith, p .3, omega arith, many-takes (s .args .degree) (s .args .m) (e .if1 .left))
-
-gap-at-requires-7 : tie.Need-gap-at-requires-7
-gap-at-requires-7 c κs =
-    let e = c .before .before .before .before .before .before .before in
-    let s = e .before in
-    let p = s .pre in
-    (p .0, p .1, omega arith, p .3, omega arith, many-takes (s .args .degree) (s .args .m) (e .if1 .left))
+    (p .0, p .1, hk, p .3, hi, many-takes (s .args .degree) (s .args .m) (e .if1 .left))
 
 returns-2 : tie.Need-returns-2
 returns-2 c =
@@ -85,5 +49,9 @@ returns-3 c =
 pub gaps-of-spec : {M : Type 1} → statement M
 gaps-of-spec =
     tie.close
-    (tie.spec returns gap-at-requires gap-at-requires-2 (λ c. search needs) gap-at-requires-3 (λ c. search needs) gap-at-requires-4
-    gap-at-requires-5 returns-2 gap-at-requires-6 (λ c. search needs) gap-at-requires-7 (λ c. search needs) returns-3)
+    (tie.spec returns (λ c κs. asked c (omega arith) (omega arith)) (λ c κs. asked (c .before) (omega arith) (omega arith)) (λ c. search needs)
+    (λ c κs. asked (c .before .before) (omega arith) (omega arith)) (λ c. search needs)
+    (λ c κs. asked (c .before .before .before) (omega arith) (omega arith))
+    (λ c κs. asked (c .before .before .before .before) (omega arith) (omega arith)) returns-2
+    (λ c κs. asked (c .before .before .before .before .before .before) (omega arith) (omega arith)) (λ c. search needs)
+    (λ c κs. asked (c .before .before .before .before .before .before .before) (omega arith) (omega arith)) (λ c. search needs) returns-3)
