@@ -1,6 +1,6 @@
 -- A list of whole numbers gives what the list of these integers gives: the same curves, or the same fault with the same spot. Where a coordinate is no whole
 -- number, 21 names it, and 4 never does.
-use mathlib.Core.Path.{_≡_, refl, _∙_, ap, ap₂, subst}
+use mathlib.Core.Path.{_≡_, refl, sym, _∙_, ap, ap₂, subst}
 use mathlib.Core.Bool.{Bool, true, false, not, _&&_, true≢false}
 use mathlib.Core.List.{List, [], _∷_}
 use mathlib.Core.Option.{Option, none, some}
