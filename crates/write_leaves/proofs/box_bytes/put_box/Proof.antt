@@ -6,6 +6,5 @@ use Rattle.write_leaves.proofs.box_bytes.put_box.Tie as tie
 
 pub put-box-spec : {M : Type 1} → statement M
 put-box-spec =
-    tie.close
-    (tie.spec (λ c. search needs) (λ c κs. search needs) (λ c κs. search needs) (λ c. search needs)
-    (λ c κs. search needs) (λ c. search needs) (λ c. search box-put))
+    tie.close (tie.spec (λ c. search needs) (λ c κs. search needs) (λ c κs. search needs) (λ c. search needs) (λ c κs. search needs)
+    (λ c. search needs) (λ c. search box-put))
