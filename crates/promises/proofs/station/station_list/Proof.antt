@@ -6,12 +6,6 @@ use Rattle.band.proofs.Station.{station-agrees}
 use Rattle.promises.proofs.station.station_list.Statement.{statement}
 use Rattle.promises.proofs.station.station_list.Tie as tie
 
-contour-station-band-requires : tie.Need-contour-station-band-requires
-contour-station-band-requires c κs = search needs
-
-same-length : tie.Need-same-length
-same-length c = search needs
-
 returns : tie.Need-returns
 returns c =
     let s = c .before .before .before in
@@ -19,4 +13,4 @@ returns c =
     λ a b k done. left .1 ∙ station-agrees _ _ _ _ .writes a b k done
 
 pub station-list-spec : {M : Type 1} → statement M
-station-list-spec = tie.close (tie.spec contour-station-band-requires same-length returns)
+station-list-spec = tie.close (tie.spec (λ c κs. search needs) (λ c. search needs) returns)
