@@ -5,6 +5,5 @@ use Rattle.judge_runs.proofs.boxing.greater.Tie as tie
 
 pub greater-spec : {M : Type 1} → statement M
 greater-spec =
-    tie.close
-    (tie.spec (λ c. let s = c .before in chosen-then (s .fits .a) (s .fits .b) (s .args .b) (s .args .a) (s .fits .b) (c .if1 .taken))
+    tie.close (tie.spec (λ c. let s = c .before in chosen-then (s .fits .a) (s .fits .b) (s .args .b) (s .args .a) (s .fits .b) (c .if1 .taken))
     (λ c. let s = c .before in chosen-else (s .fits .a) (s .fits .b) (s .args .b) (s .args .a) (s .fits .a) (c .if1 .left)))
