@@ -7,7 +7,5 @@ use Rattle.text_forms.proofs.form_reading.tolerance_form_at.Tie as tie
 
 pub tolerance-form-at-spec : {M : Type 1} → statement M
 tolerance-form-at-spec =
-    tie.close
-    (tie.spec (λ c κs. search needs) (λ c. search needs) (λ c. search needs) (λ c. search tolerance-no-number)
-    (λ c. search needs) (λ c κs. search needs) (λ c. search closing-fits) (λ c. search tolerance-line)
-    (λ c. search tolerance-not-closed))
+    tie.close (tie.spec (λ c κs. search needs) (λ c. search needs) (λ c. search needs) (λ c. search tolerance-no-number)
+    (λ c. search needs) (λ c κs. search needs) (λ c. search closing-fits) (λ c. search tolerance-line) (λ c. search tolerance-not-closed))
