@@ -55,22 +55,19 @@ returns-2 c =
 returns-3 : tie.Need-returns-3
 returns-3 c =
     let p = c .before .before in
-    let o = p .before in
-    let k = o .before in
+    let k = p .before .before in
     let l = k .before .before .before .before .before in
     let s = l .before in
     let a = s .args in (
       read-long (a .m) (a .t) (a .ns .now) (a .curves) (s .pre .1) (a .number) (a .curve .now) (a .given) (a .records .now) (l .least .result)
-          (l .least .ensures) _ _ _ _ (through k) (o .if1 .left) (p .if2 .left) (c .before .if3 .taken) _ (c .least3 .ensures),
+          (l .least .ensures) _ _ _ _ (through k) (p .before .if1 .left) (p .if2 .left) (c .before .if3 .taken) _ (c .least3 .ensures),
       refl,
     )
 
 exchange-by-requires : tie.Need-exchange-by-requires
 exchange-by-requires c κs =
     let j = c .before in
-    let p = j .before in
-    let o = p .before in
-    let k = o .before in
+    let k = j .before .before .before in
     let l = k .before .before .before .before .before in
     let s = l .before in
     let a = s .args in
@@ -78,7 +75,7 @@ exchange-by-requires c κs =
       s .pre .0 .has,
       s .pre .2,
       exchangeable (a .m) (a .t) (a .ns .now) (a .curves) (s .pre .1) (a .number) (a .curve .now) (a .given) (a .records .now) (l .least .result)
-          (l .least .ensures) _ _ _ _ (through k) (o .if1 .left) (p .if2 .left) (j .if3 .left),
+          (l .least .ensures) _ _ _ _ (through k) (j .before .before .if1 .left) (j .before .if2 .left) (j .if3 .left),
     )
 
 returns-4 : tie.Need-returns-4
@@ -96,15 +93,13 @@ returns-5 : tie.Need-returns-5
 returns-5 c =
     let v = c .before in
     let j = v .before .before in
-    let p = j .before in
-    let o = p .before in
-    let k = o .before in
+    let k = j .before .before .before in
     let l = k .before .before .before .before .before in
     let s = l .before in
     let a = s .args in
     let w = rw (toZ-ofZ (s .fits .t)) at (v .exchange-by .ensures) in (
       w .0 ∙ read-on (a .m) (a .t) (a .ns .now) (a .curves) (s .pre .1) (a .number) (a .curve .now) (a .given) (a .records .now) (l .least .result)
-          (l .least .ensures) _ _ _ _ (through k) (o .if1 .left) (p .if2 .left) (j .if3 .left),
+          (l .least .ensures) _ _ _ _ (through k) (j .before .before .if1 .left) (j .before .if2 .left) (j .if3 .left),
       w .1,
     )
 
