@@ -1,14 +1,17 @@
 -- A loop over the curves of a list: what is left of them, and one curve on.
-use mathlib.Core.Path.{_≡_, refl, ap, subst}
+use mathlib.Core.Path.{_≡_, refl, sym, _∙_, ap, subst}
+use mathlib.Core.Logic.{_⊎_, ⊎-elim}
 use mathlib.Core.List.{List, [], _∷_}
 use Prim.Native.Nat.{ℕ, zero, suc, _+_, _-_, _≤_, _<_}
 use native.Mathlib.Omega.{arith}
 use lib.ListN.{length}
 use lib.IntN.{ℤ}
+use lib.Ieee.{Float}
 use Rattle.setting.specs.Setting.{Setting}
 use Rattle.curve_nodes.specs.declared.Curve.{Curve}
 use Rattle.band_passes.specs.declared.forms.Form.{Form}
-use Rattle.band_passes.specs.Inside.{readAt, nextOf, curvesFrom, curvesIn, Walkable, AllWalkable, end, more, Readable}
+use Rattle.band_passes.specs.declared.forms.Form.the-variants.{Outline, Binary64, Spline}
+use Rattle.band_passes.specs.Inside.{numbersOf, readAt, nextOf, StandsAt, curvesFrom, curvesIn, Walkable, AllWalkable, end, more, Readable}
 
 pub curves-count : (read : ℕ → Curve) (next : ℕ → ℕ) (n at : ℕ) → length (curvesFrom read next n at) ≡ n
 curves-count read next zero at = refl
@@ -53,3 +56,27 @@ module _ {σ : Setting} {f : Form} {ns : List ℤ} {n : ℕ} where
         here = w .0;
         on = record { all = w .1; done = omega arith };
       }
+
+-- ---- the next curve, of the lists of which the form says which one is read
+-- it can be read, whichever the form is told to be
+abbrev pub Asked : {σ : Setting} {f : Form} {ns : List ℤ} {xs : List Float} {n k at : ℕ} → Rest σ f (numbersOf f ns xs) n k at → Type 0
+Asked {σ} {f} {ns} {xs} {n} {k} {at} r = (g : Form) → f ≡ g → StandsAt g (numbersOf g ns xs) at
+
+-- c is what is read
+abbrev pub Reads : {σ : Setting} {f : Form} {ns : List ℤ} {n k at : ℕ} → Rest σ f ns n k at → Curve → Type 0
+Reads {σ} {f} {ns} {n} {k} {at} r c = c ≡ readAt f ns at
+
+module _ {σ : Setting} {f : Form} {ns : List ℤ} {xs : List Float} {n k at : ℕ} (r : Rest σ f (numbersOf f ns xs) n k at) where
+  pub form-asks : k < n → Asked r
+  form-asks h g e = subst (λ g. StandsAt g (numbersOf g ns xs) at) e (rest-next r h .here .stands)
+
+  -- where the arms meet, each told its form and what it read
+  module _ {c : Curve} where
+    abbrev pub Told : Form → Type 0
+    Told g = (f ≡ g) × (c ≡ readAt g (numbersOf g ns xs) at)
+
+    told-reads : {g : Form} → Told g → Reads r c
+    told-reads t = t .1 ∙ ap (λ g. readAt g (numbersOf g ns xs) at) (sym (t .0))
+
+    pub form-reads {ℓ ℓ′ ℓ″} : {X : Type ℓ} {Y : Type ℓ′} {Z : Type ℓ″} → X ⊎ (Y ⊎ Z) → (X → Told Outline) → (Y → Told Binary64) → (Z → Told Spline) → Reads r c
+    form-reads came x y z = ⊎-elim (λ w. told-reads (x w)) (⊎-elim (λ w. told-reads (y w)) (λ w. told-reads (z w))) came

@@ -1,7 +1,6 @@
 -- The records of every leaf of a list's curves. The loop's invariant: with k curves done, the front of the list holds their records. The measure is the
 -- number of curves left.
-use mathlib.Core.Path.{_≡_, sym, _∙_, ap, subst}
-use mathlib.Core.Logic.{⊎-elim}
+use mathlib.Core.Path.{refl, _∙_}
 use Prim.Native.Nat.{_-_}
 use native.Mathlib.Omega.{arith}
 use borrow.Author.Needs.{needs}
@@ -9,10 +8,8 @@ use mir.Syntax.{w64}
 use mir.Val.{toZ}
 use mir.Facts.{toZ-ofZ}
 use Rattle.bound_pieces.specs.Inside.{settingOf}
-use Rattle.curve_nodes.specs.declared.Curve.{Curve}
-use Rattle.band_passes.specs.declared.forms.Form.{Form}
-use Rattle.band_passes.specs.Inside.{numbersOf, readAt, StandsAt}
-use Rattle.band_passes.proofs.Reading.{rest-next}
+use Rattle.band_passes.specs.Inside.{numbersOf}
+use Rattle.band_passes.proofs.Reading.{Asked, Reads, form-asks, form-reads}
 use Rattle.band_passes.proofs.Filling.{Filled, filled-start, filled-length, filled-ready, filled-room, filled-on, filled-done, filled-place}
 use Rattle.band_passes.proofs.leaf_writing.write_all.Statement.{statement}
 use Rattle.band_passes.proofs.leaf_writing.write_all.Tie as tie
@@ -27,36 +24,11 @@ abbrev μ-loop : tie.MeasureT-loop
 loop-holds : tie.Need-loop-holds Inv-loop μ-loop
 loop-holds c = rw (toZ-ofZ (c .before .fits .t)) (filled-start (c .before .pre .1))
 
--- the curve at hand can be read, whatever the form
-stands : (c : tie.In-loop Inv-loop μ-loop) → let l = c .before in
-    let a = l .before .before .args in StandsAt (a .form) (numbersOf (a .form) (a .ns .now) (a .xs .now)) (l .loop .at)
-stands c = rest-next (c .before .loop .inv .ahead) (c .loop-test .taken) .here .stands
-
--- of a form
-abbrev asked : tie.At-loop Inv-loop μ-loop → Form → Type 0
-asked l f = let a = l .before .before .args in StandsAt f (numbersOf f (a .ns .now) (a .xs .now)) (l .loop .at)
-
-abbrev answer : tie.At-loop Inv-loop μ-loop → Form → Curve
-answer l f = let a = l .before .before .args in readAt f (numbersOf f (a .ns .now) (a .xs .now)) (l .loop .at)
-
-curve-at-requires : tie.Need-curve-at-requires Inv-loop μ-loop
-curve-at-requires c κs = let i = c .before .before in subst (asked (i .before)) (c .enum-told .given .1) (stands i)
-
-curve-at-requires-2 : tie.Need-curve-at-requires-2 Inv-loop μ-loop
-curve-at-requires-2 c κs = let i = c .before .before in subst (asked (i .before)) (c .enum-told2 .given .1) (stands i)
-
-spline-at-requires : tie.Need-spline-at-requires Inv-loop μ-loop
-spline-at-requires c κs = let i = c .before .before in subst (asked (i .before)) (c .enum-told3 .given .1) (stands i)
-
--- where the arms meet, it is read
-curve-is : (c : tie.At-match-came Inv-loop μ-loop) → let l = c .before .before in c .match .curve ≡ answer l (l .before .before .args .form)
+-- where the arms meet, the curve at hand is read
+curve-is : (c : tie.At-match-came Inv-loop μ-loop) → Reads (c .before .before .loop .inv .ahead) (c .match .curve)
 curve-is c =
-    let same = answer (c .before .before) in
-    ⊎-elim (λ w. w .3 ∙ w .2 .ensures ∙ ap same (sym (w .1 .given .1)))
-    (⊎-elim (λ w. w .3 ∙ w .2 .ensures ∙ ap same (sym (w .1 .given .1))) (λ w. w .3 ∙ w .2 .ensures ∙ ap same (sym (w .1 .given .1)))) (c .match .came)
-
-next-of-requires : tie.Need-next-of-requires Inv-loop μ-loop
-next-of-requires c κs = stands (c .before)
+    form-reads (c .before .before .loop .inv .ahead) (c .match .came) (λ w. (w .1 .given .1, w .3 ∙ w .2 .ensures))
+    (λ w. (w .1 .given .1, w .3 ∙ w .2 .ensures)) (λ w. (w .1 .given .1, w .3 ∙ w .2 .ensures))
 
 write-curve-requires : tie.Need-write-curve-requires Inv-loop μ-loop
 write-curve-requires c κs =
@@ -86,9 +58,16 @@ returns c =
       rw (toZ-ofZ (c .before .before .before .fits .t)) at (filled-done f (c .loop-test .left)),
     )
 
+-- whatever the form, the curve whose leaves are written next can be read
+asked : (c : tie.In-loop Inv-loop μ-loop) → Asked (c .before .loop .inv .ahead)
+asked c = form-asks (c .before .loop .inv .ahead) (c .loop-test .taken)
+
 pub write-all-spec : {M : Type 1} → statement M
 write-all-spec =
     tie.close
-    (tie.spec Inv-loop μ-loop loop-holds (λ c. search needs) curve-at-requires (λ c. search needs) curve-at-requires-2 (λ c. search needs) spline-at-requires
-    next-of-requires
+    (tie.spec Inv-loop μ-loop loop-holds
+    (λ c. search needs) (λ c κs. asked (c .before .before) _ (c .enum-told .given .1))
+    (λ c. search needs) (λ c κs. asked (c .before .before) _ (c .enum-told2 .given .1))
+    (λ c. search needs) (λ c κs. asked (c .before .before) _ (c .enum-told3 .given .1))
+    (λ c κs. asked (c .before) _ refl)
     (λ c. omega (arith, c .before .before .before .before .before .before .pre .1 .readable .few)) write-curve-requires add-k (λ c. omega arith) loop-again same-length returns)
