@@ -11,3 +11,4 @@ pub mod Theorems
 pub mod SplineAnswers
 pub mod Station
 pub mod Consequences
+pub mod RowsRoom
