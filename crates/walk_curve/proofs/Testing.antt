@@ -31,26 +31,23 @@ use Rattle.walk_curve.proofs.Walks.{WalkOf}
 abbrev pub Tells : {σ : Setting} {T : ℤ} {c : Curve} {passed : List ℕ} {p : Part} → WalkOf σ T c passed p → Bool → Type 0
 Tells {σ} {T} {c} {passed} {p} w r = r ≡ nodeMeets σ T c (p .node)
 
--- where the verdict tells nothing, the square of the tolerance does not wrap
-module _ {σ : Setting} {T : ℤ} {k : ℕ} {c : Curve} {v : Verdict} (t : VerdictRight σ T k c v) (o : v ≡ Open) where
-  pub open-small : Small (2 ^ 27) T
-  open-small = rw o at t
-
+-- the square of a tolerance of which the verdict tells nothing does not wrap
+module _ {T : ℤ} (small : Small (2 ^ 27) T) where
   pub square-fits : SFits w64 (T *ℤ T)
-  square-fits = fits! (search (open-small, bounded) depth 40) tt
+  square-fits = fits! (search (small, bounded) depth 40) tt
 
   pub square-is : stored w64 (T *ℤ T) ≡ squared T
-  square-is = is! (search (open-small, bounded) depth 40) tt
+  square-is = is! (search (small, bounded) depth 40) tt
 
 module _ {σ : Setting} {T : ℤ} {c : Curve} {passed : List ℕ} {p : Part} (w : WalkOf σ T c passed p) {k : ℕ} (e : k ≡ depth (p .node)) where
   -- of a curve of degree 1 to 3
   module _ {m : Pieces} {rows : List ℤ} (h : Ready m rows) (low : c .degree ≤ 3) where
     pub verdict-asks : HasRows (m .m) × (m ≡ piecesOf (m .m) (m .sixths)) × Sized k (p .curve) × (p .curve .degree ≤ 3) × (k ≤ 8)
-    verdict-asks = rw e (h .has, h .is, part-low (w .of) low)
+    verdict-asks = let q = part-low (w .of) low in rw e (h .has, h .is, q .0, q .1, q .2)
 
     pub boxes-ask : {v : Verdict} → VerdictRight σ T k (p .curve) v → v ≡ Open
         → Ready m rows × Sized k (p .curve) × (p .curve .degree ≤ 3) × (k ≤ 8) × (stored w64 (T *ℤ T) ≡ squared T)
-    boxes-ask t o = let q = verdict-asks in (h, q .2, q .3, q .4, square-is t o)
+    boxes-ask t o = let q = verdict-asks in (h, q .2, q .3, q .4, square-is (rw o at t))
 
   -- of one of degree 4 or 5
   module _ {m : Pieces} {rows : List ℤ} (h : Ready m rows) (enough : 3 ≤ m .m) (high : 3 < c .degree) (whole : m .sixths ≡ false) where
@@ -60,7 +57,7 @@ module _ {σ : Setting} {T : ℤ} {c : Curve} {passed : List ℕ} {p : Part} (w 
 
     pub higher-boxes-ask : {v : Verdict} → VerdictRight σ T k (p .curve) v → v ≡ Open → {own : Curve} → own ≡ p .curve
         → Ready m rows × (3 ≤ m .m) × Sized k own × (3 < own .degree) × (k ≤ 4) × Small (2 ^ 27) T × (m .sixths ≡ false)
-    higher-boxes-ask t o f = let q = higher-verdict-asks in rw f (h, enough, q .3, q .4, q .5, open-small t o, whole)
+    higher-boxes-ask t o f = let q = higher-verdict-asks in rw f (h, enough, q .3, q .4, q .5, rw o at t, whole)
 
   -- the answer, whichever of the three told it
   pub tested {ℓ ℓ′ ℓ″} : {A : Type ℓ} {B : Type ℓ′} {C : Type ℓ″} {v : Verdict} {r : Bool} → VerdictRight σ T k (p .curve) v → A ⊎ (B ⊎ C)

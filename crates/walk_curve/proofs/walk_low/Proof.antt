@@ -91,7 +91,7 @@ walk-low-spec =
     tie.close
     (tie.spec Inv-loop μ-loop (λ c. counted-start (c .pre .1)) (λ c κs. c .before .loop .inv .walk .of .some)
     (λ c κs. let l = c .before .before in verdict-asks (l .loop .inv .walk) (c .depth .ensures) (l .before .pre .0) (l .before .pre .2))
-    (λ c. search needs) (λ c. search needs) (λ c. search needs) (λ c. square-fits (c .before .before .verdict-of .ensures) (c .enum-told3 .given .1))
+    (λ c. search needs) (λ c. search needs) (λ c. search needs) (λ c. square-fits (rw (c .enum-told3 .given .1) at (c .before .before .verdict-of .ensures)))
     (λ c κs. let l = c .before .before .before .before .before in boxes-ask (l .loop .inv .walk) (c .before .before .before .depth .ensures)
     (l .before .pre .0) (l .before .pre .2) (c .before .before .verdict-of .ensures) (c .enum-told3 .given .1))
     add-leaves after-low-requires returns loop-less loop-again returns-2 left-low-requires loop-less-2 loop-again-2)

@@ -109,7 +109,7 @@ write-low-spec =
     (tie.spec Inv-loop μ-loop (λ c. omega (arith, c .pre .0 .has .most)) (λ c. omega (arith, c .pre .0 .has .most)) loop-holds
     (λ c κs. c .before .loop .inv .walk .of .some)
     (λ c κs. let l = c .before .before in verdict-asks (l .loop .inv .walk) (c .depth .ensures) (l .before .pre .0) (l .before .pre .4))
-    (λ c. search needs) (λ c. search needs) (λ c. search needs) (λ c. square-fits (c .before .before .verdict-of .ensures) (c .enum-told3 .given .1))
+    (λ c. search needs) (λ c. search needs) (λ c. search needs) (λ c. square-fits (rw (c .enum-told3 .given .1) at (c .before .before .verdict-of .ensures)))
     (λ c κs. let l = c .before .before .before .before .before in boxes-ask (l .loop .inv .walk) (c .before .before .before .depth .ensures)
     (l .before .pre .0) (l .before .pre .4) (c .before .before .verdict-of .ensures) (c .enum-told3 .given .1))
     put-record-requires add-place after-low-requires same-length
