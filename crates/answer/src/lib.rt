@@ -15,7 +15,7 @@ pub mod band_answers;
 pub mod point_answers;
 
 // Answers a text: the lines of its band and of its points, or of its first refusal, stand at the front of the list
-// afterwards, as many bytes as are returned. Every text may be asked about. Records are lent as document 01 says,
+// afterwards, as many bytes as are returned. Defined for every text. Records are lent as document 01 says,
 // 16,380 numbers.
 pub fn answer(text: &[u8], out: &mut [u8; 243100]) -> usize
     ensures { λ r. ⌜ PutWithin (now (out .entry)) 0 243100 (answerOf (now (text .entry))) (now (out .exit)) r ⌝ }

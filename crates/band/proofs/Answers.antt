@@ -44,7 +44,7 @@ use Rattle.band_passes.specs.Inside.{numbersOf, readAt, nextOf, curvesFrom, cur
 use Rattle.band_passes.proofs.Reading.{curves-count}
 use Rattle.band_passes.proofs.Counting.{nodes-of-curves, few-leaves}
 use Rattle.band_room.specs.Inside.{Fits}
-use Rattle.band_passes.specs.Meeting.{AllMeet}
+use Rattle.band_passes.specs.FirstWide.{AllMeet}
 use Rattle.band_passes.proofs.Among.{all-records-length}
 use Rattle.band_passes.proofs.Wide.{none-wide}
 use Rattle.band.proofs.Cases.{many-said, few-said, done-said}

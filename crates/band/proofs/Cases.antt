@@ -17,7 +17,7 @@ use Rattle.band.specs.declared.banding.Banded.the-variants.{Done, Refuse
 use Rattle.setting.specs.Setting.{Setting, recordLength}
 use Rattle.band_passes.specs.Leaves.{firstTooWide, leavesOf, nodesOf}
 use Rattle.band.specs.Banding.{answerFor, bandCurves}
-use Rattle.band_passes.specs.Meeting.{AllMeet, FirstWide}
+use Rattle.band_passes.specs.FirstWide.{AllMeet, FirstWide}
 use Rattle.band.specs.Outcomes.{Many, Few, Report}
 use Rattle.band_passes.proofs.Wide.{none-wide, first-wide, only-wide}
 

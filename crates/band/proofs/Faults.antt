@@ -55,7 +55,7 @@ fault-early m ns at r e = go r (rw e at (finding m ns at))
     go _ no-degree = early-at-most (Degree at) (lit≤ tt)
     go _ few-pieces = early-few-pieces at
     go _ cut-short = early-at-most (CutShort (length ns)) (lit≤ tt)
-    go _ (beyond i) = early-at-most (Coordinate i) (lit≤ tt)
+    go _ (beyond i h) = early-at-most (Coordinate i) (lit≤ tt)
     go _ (gap h) = early-gap at
 
 -- ---- an outline's fault
@@ -107,18 +107,23 @@ early-spline n = record { not-wide = λ e. omega arith; not-few = λ e. omega ar
 early-far : (i : ℕ) → Early (SplineCoordinate i)
 early-far i = record { not-wide = λ e. omega arith; not-few = λ e. omega arith; not-many = λ e. omega arith }
 
-pub splined-early : (ns : List ℤ) (r : Refusal) → splined ns ≡ faulty r → Early r
+-- what holds of both holds of every refusal of a list of points
+pub splined-faulty : (P : Refusal → Type 0) → ((n : ℕ) → P (SplineLength n)) → ((i : ℕ) → P (SplineCoordinate i))
+    → (ns : List ℤ) (r : Refusal) → splined ns ≡ faulty r → P r
 unfolding splined
-splined-early ns r = go (splineLengthFine (length ns)) (firstFar ns (length ns) 0)
+splined-faulty P length-is far-is ns r = go (splineLengthFine (length ns)) (firstFar ns (length ns) 0)
   where
     go : (b : Bool) (o : Option ℕ)
         → elim b [
           | false ↦ faulty (SplineLength (length ns))
           | true ↦ elim o [ some i ↦ faulty (SplineCoordinate i) | none ↦ curves (splinesFrom (splineCount (length ns)) ns 0) ]
-        ] ≡ faulty r → Early r
-    go false o e = subst Early (faulty-is e) (early-spline (length ns))
-    go true (some i) e = subst Early (faulty-is e) (early-far i)
+        ] ≡ faulty r → P r
+    go false o e = subst P (faulty-is e) (length-is (length ns))
+    go true (some i) e = subst P (faulty-is e) (far-is i)
     go true none e = absurd (not-curves e)
+
+pub splined-early : (ns : List ℤ) (r : Refusal) → splined ns ≡ faulty r → Early r
+splined-early = splined-faulty Early early-spline early-far
 
 -- ---- what banding says of the checks
 module _ (σ : Setting) (T : ℤ) (o : Outlined) (room : ℕ) where

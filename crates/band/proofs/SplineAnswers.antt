@@ -3,23 +3,20 @@ use mathlib.Core.Path.{_≡_, refl, sym, _∙_, ap, subst}
 use mathlib.Core.Bool.{Bool, true, false}
 use mathlib.Core.Logic.{⊎-elim}
 use mathlib.Core.List.{List}
-use mathlib.Core.Option.{Option, none, some}
 use Prim.Native.Nat.{ℕ}
-use native.Mathlib.Omega.{arith}
 use lib.Dec.{lit≤}
-use lib.ListN.{length}
 use lib.IntN.{ℤ}
-use Rattle.integers.proofs.Clash.{clash}
 use Rattle.setting.specs.Setting.{splines, piecesFine}
 use Rattle.refusals.specs.declared.Refusal.{Refusal}
-use Rattle.refusals.specs.declared.Refusal.the-variants.{Pieces, Tolerance, SplineLength, SplineCoordinate, TooManyLeaves}
+use Rattle.refusals.specs.declared.Refusal.the-variants.{Pieces, Tolerance, TooManyLeaves}
 use Rattle.curve_nodes.specs.declared.Curve.{Curve}
 use Rattle.outline.specs.Checks.{Outlined, curves, faulty, toleranceFine}
-use Rattle.outline_splines.specs.Splines.{splineLengthFine, firstFar, splinesFrom, splineCount, splined}
+use Rattle.outline_splines.specs.Splines.{splined}
 use Rattle.band.specs.declared.banding.Banded.the-variants.{Refused}
 use Rattle.band.specs.Banding.{bandOutlined, bandGiven, bandedSpline}
 use Rattle.band.specs.Outcomes.{SplineRefusal, pieces, tolerance, count-of-numbers, coordinate, wide, few}
 use Rattle.band.proofs.Cases.{said-refused}
+use Rattle.band.proofs.Faults.{splined-faulty}
 use Rattle.band.proofs.Given.{spline-given}
 use Rattle.band.proofs.Theorems.{never-many-given}
 
@@ -28,17 +25,7 @@ same-refusal e = cc
 
 -- a list of points has 24 or 25
 points-refused : (ns : List ℤ) (r : Refusal) → splined ns ≡ faulty r → SplineRefusal r
-unfolding splined
-points-refused ns r = go (splineLengthFine (length ns)) (firstFar ns (length ns) 0)
-  where
-    go : (b : Bool) (o : Option ℕ)
-        → elim b [
-          | false ↦ faulty (SplineLength (length ns))
-          | true ↦ elim o [ some i ↦ faulty (SplineCoordinate i) | none ↦ curves (splinesFrom (splineCount (length ns)) ns 0) ]
-        ] ≡ faulty r → SplineRefusal r
-    go false o e = subst SplineRefusal (cc) (count-of-numbers (length ns))
-    go true (some i) e = subst SplineRefusal (cc) (coordinate i)
-    go true none e = clash (cc)
+points-refused = splined-faulty SplineRefusal count-of-numbers coordinate
 
 module _ (m : ℕ) (T : ℤ) (ns : List ℤ) (room : ℕ) (r : Refusal) where
   -- the walk and the lent records refuse with 7 and 8, and never with 19

@@ -13,7 +13,7 @@ use Rattle.refusals.specs.declared.Refusal.the-variants.{TooManyLeaves}
 use Rattle.curve_nodes.specs.declared.Curve.{Curve}
 use Rattle.outline.proofs.Accepted.{outlined-within, accepted-most}
 use Rattle.band_passes.specs.Leaves.{leavesOf, nodesOf}
-use Rattle.band_passes.specs.Meeting.{AllMeet}
+use Rattle.band_passes.specs.FirstWide.{AllMeet}
 use Rattle.band_passes.proofs.Counting.{few-leaves}
 use Rattle.band_passes.proofs.Wide.{none-wide}
 use Rattle.band.specs.declared.banding.Banded.the-variants.{Done, Refused}

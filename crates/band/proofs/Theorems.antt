@@ -25,7 +25,7 @@ use Rattle.setting.specs.Setting.{Setting, HasRows, recordLength, degreePieces,
 use Rattle.setting.proofs.Pieces.{fine-has-rows}
 use Rattle.band.specs.Banding.{bandCurves, bandGiven, writtenGiven, banded, written}
 use Rattle.band_records.specs.Ranges.{SoundList}
-use Rattle.band_passes.specs.Meeting.{AllMeet, FirstWide}
+use Rattle.band_passes.specs.FirstWide.{AllMeet, FirstWide}
 use Rattle.band.specs.Outcomes.{Clear, Faultless, Many, Few, Report}
 use Rattle.walk_tree.proofs.Leaves.{all-leaves}
 use Rattle.walk_tree.proofs.Covering.{some-end-spans, ends-end-to-end, neighbours-meet, in-order}

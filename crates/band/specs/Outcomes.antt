@@ -13,7 +13,7 @@ use Rattle.curve_nodes.specs.declared.Curve.{Curve}
 use Rattle.outline.specs.Checks.{toleranceFine, Outlined, curves, outlined}
 use Rattle.setting.specs.Setting.{Setting, piecesFine, recordLength}
 use Rattle.band_passes.specs.Leaves.{leavesOf, nodesOf}
-use Rattle.band_passes.specs.Meeting.{AllMeet}
+use Rattle.band_passes.specs.FirstWide.{AllMeet}
 
 -- ---- outlines
 -- the checks before the walk, 18 and 1 and those of what is given, find no fault, and the curves given are cs

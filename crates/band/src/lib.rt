@@ -16,7 +16,7 @@ use refusals::Refusal;
 pub mod banding;
 pub mod outline_band;
 
-// Check 18: whether there are rows for m pieces. Every number may be asked about.
+// Check 18: whether there are rows for m pieces. It takes every number.
 pub fn pieces_fine(m: u32) -> bool
     ensures { λ r. ⌜ r ≡ piecesFine m ⌝ }
 {
@@ -28,7 +28,7 @@ pub fn pieces_fine(m: u32) -> bool
 
 // Puts a band of m pieces a leaf round an outline of at most 4,096 curves, at a tolerance in sixteenths: the leaves'
 // records stand at the front of the list afterwards, and what stood behind them stays. A refusal alters nothing. Every
-// outline, tolerance, m and list may be asked about.
+// outline, tolerance, m and list is taken.
 pub fn band(outline: &[i32], tolerance: i32, m: u32, records: &mut [i32]) -> Banded
     ensures { λ r. ⌜ r ≡ banded (lists m) tolerance (now (outline .entry)) (length (now (records .entry))) ⌝ }
     ensures { λ r. ⌜ now (records .exit)
@@ -37,7 +37,7 @@ pub fn band(outline: &[i32], tolerance: i32, m: u32, records: &mut [i32]) -> Ban
     band_most(outline, 4096, 1048576, tolerance, m, records)
 }
 
-// The same for the bench station, which takes 64 curves and 128 leaves.
+// Bands an outline for the bench station, which takes 64 curves and 128 leaves.
 pub fn station_band(outline: &[i32], tolerance: i32, m: u32, records: &mut [i32]) -> Banded
     ensures { λ r. ⌜ r ≡ banded (station m) tolerance (now (outline .entry)) (length (now (records .entry))) ⌝ }
     ensures { λ r. ⌜ now (records .exit)
@@ -46,7 +46,7 @@ pub fn station_band(outline: &[i32], tolerance: i32, m: u32, records: &mut [i32]
     band_most(outline, 64, 128, tolerance, m, records)
 }
 
-// The same of a B-spline, uniform and cubic, by its points.
+// Bands a uniform cubic B-spline, which is given by its points.
 pub fn spline_band(points: &[i32], tolerance: i32, m: u32, records: &mut [i32]) -> Banded
     ensures { λ r. ⌜ r ≡ bandedSpline m tolerance (now (points .entry)) (length (now (records .entry))) ⌝ }
     ensures { λ r. ⌜ now (records .exit)
@@ -65,7 +65,7 @@ pub fn spline_band(points: &[i32], tolerance: i32, m: u32, records: &mut [i32]) 
     )
 }
 
-// The same of an outline of at most 4,096 curves in binary64: degrees and coordinates are f64.
+// Bands an outline of at most 4,096 curves in binary64: degrees and coordinates are f64.
 pub fn binary64_band(outline: &[f64], tolerance: i32, m: u32, records: &mut [i32]) -> Banded
     ensures { λ r. ⌜ r ≡ bandedBinary64 m tolerance (now (outline .entry)) (length (now (records .entry))) ⌝ }
     ensures { λ r. ⌜ now (records .exit)
@@ -84,7 +84,7 @@ pub fn binary64_band(outline: &[f64], tolerance: i32, m: u32, records: &mut [i32
     )
 }
 
-// The same of an outline that may have `most` curves and `leaves` leaves.
+// Bands an outline that may have `most` curves and `leaves` leaves.
 pub fn band_most(
     outline: &[i32],
     most: usize,

@@ -3,7 +3,7 @@ ghost use mathlib.Core.Path.{_≡_};
 ghost use Prim.Native.Nat.{_≤_};
 ghost use lib.ListN.{length};
 ghost use Rattle.setting.specs.Setting.{listsOf, relimited, HasRows};
-ghost use Rattle.bound_pieces.specs.Inside.{Ready, settingOf};
+ghost use Rattle.bound_pieces.specs.Inside.{PiecesReady, settingOf};
 ghost use Rattle.band_records.specs.Records.{allRecords};
 ghost use Rattle.band.specs.Banding.{bandCurves, writtenBy};
 ghost use Rattle.band_passes.specs.Inside.{numbersOf, Readable, curvesIn, sixthsOf};
@@ -37,7 +37,7 @@ fn band_by(
     most: usize,
     records: &mut [i32],
 ) -> Banded
-    requires { ⌜ (Ready pieces (now rows))
+    requires { ⌜ (PiecesReady pieces (now rows))
         × (Readable (settingOf pieces) form (numbersOf form (now ns) (now xs)) curves) ⌝ }
     ensures { λ r. ⌜ r
         ≡ bandCurves (relimited (settingOf pieces) curves most) t
@@ -74,8 +74,8 @@ fn band_by(
     }
 }
 
-// The same for m pieces: their rows are copied out of the table, once. The list that they are put into is filled with m
-// first; for zeros the compiler would call the C library.
+// Bands a list without faults for m pieces: their rows are copied out of the table, once. The list that they are put
+// into is filled with m first; for zeros the compiler would call the C library.
 pub fn band_curves(
     form: Form,
     ns: &[i32],

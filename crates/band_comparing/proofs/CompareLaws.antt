@@ -1,18 +1,17 @@
 -- The pass over all curves: where it stands after each, and what it finds.
 use mathlib.Core.Path.{_≡_, refl, sym, _∙_, ap, ap₂, subst}
 use mathlib.Core.Bool.{Bool, true, false}
-use mathlib.Core.List.{List, [], _∷_, _++_, append-assoc, append-nil}
+use mathlib.Core.List.{List, [], _∷_, _++_, append-nil}
 use mathlib.Core.Option.{Option, none, some}
-use Prim.Native.Nat.{ℕ, zero, suc, _+_, _-_, _*_, _≤_, _<_, min}
-use native.Mathlib.Nat.{min-eq-left, min-eq-right, mul-le-mul-left}
+use Prim.Native.Nat.{ℕ, zero, suc, _+_, _*_, _≤_, _<_, min}
+use native.Mathlib.Nat.{mul-le-mul-left}
 use native.Mathlib.Numerals.{add-one}
 use native.Mathlib.Omega.{arith}
-use lib.ListN.{length, take, drop, length-append, take-append-drop}
+use lib.ListN.{length, take, drop, take-append-drop}
 use lib.Seq.{take-all, length-take-le}
 use lib.IntN.{ℤ}
 use Rattle.setting.specs.Setting.{Setting, recordLength}
 use Rattle.integers.proofs.Clash.{clash}
-use Rattle.refusals.specs.declared.Refusal.{Refusal}
 use Rattle.refusals.specs.declared.Refusal.the-variants.{TooWide}
 use Rattle.curve_nodes.specs.declared.Curve.{Curve}
 use Rattle.outline.specs.Curves.{nextAt}
@@ -22,17 +21,15 @@ use Rattle.walk_tree.specs.Tree.{firstFailing}
 use Rattle.walk_curve.specs.Walked.{nodeMeets, endsOf}
 use Rattle.band_records.specs.Records.{recordsOf, allRecords}
 use Rattle.band_passes.specs.Leaves.{firstTooWide, leavesOf}
-use Rattle.band_passes.specs.Inside.{readAt, nextOf, curvesFrom, curvesIn, Readable}
+use Rattle.band_passes.specs.Inside.{readAt, nextOf, curvesIn, Readable}
 use Rattle.band_passes.specs.declared.forms.Form.the-variants.{Outline}
-use Rattle.band_passes.proofs.Reading.{curves-count, Rest, restOf, rest-start, rest-begins, rest-next, rest-done}
-use Rattle.band_passes.specs.Meeting.{AllMeet}
+use Rattle.band_passes.proofs.Reading.{curves-count, Rest, restOf, rest-start, rest-begins, rest-next}
+use Rattle.band_passes.specs.FirstWide.{AllMeet}
 use Rattle.band_passes.proofs.Wide.{wide-later, wide-here, none-wide, behind}
 use Rattle.band_passes.proofs.Among.{all-records-length, records-among, leaves-among}
 use Rattle.band_passes.proofs.Counting.{few-leaves}
-use Rattle.band_comparing.specs.declared.Seen.{Seen}
 use Rattle.band_comparing.specs.declared.Seen.the-variants.{WideNode, Upto}
 use Rattle.band_comparing.specs.declared.Stand.{Stand}
-use Rattle.band_comparing.specs.declared.Compared.{Compared}
 use Rattle.band_comparing.specs.declared.Compared.the-variants.{Stopped, Through}
 use Rattle.band_comparing.specs.Inside.{reachOf, seenOf, standOf, laterOf, comparedOf}
 use Rattle.band_comparing.proofs.ReachLaws.{reach-less, reach-parts}

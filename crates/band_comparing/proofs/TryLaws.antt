@@ -1,25 +1,33 @@
 -- A node tried: what each of its boxes says, taken together.
 use mathlib.Core.Path.{_≡_, refl, sym, _∙_, ap, ap₂}
 use mathlib.Core.Bool.{Bool, true, false, not}
-use mathlib.Core.List.{List, [], _∷_, _++_}
-use Prim.Native.Nat.{ℕ, zero, suc, _+_, _*_, _≤_, _<_}
+use mathlib.Core.List.{List, [], _∷_}
+use Prim.Native.Nat.{ℕ, _+_, _*_, _^_, _≤_, _<_}
 use native.Mathlib.Nat.{le-refl, not-suc-le-zero}
 use native.Mathlib.Numerals.{add-one, add-two}
 use native.Mathlib.Omega.{arith}
 use lib.ListN.{length}
-use lib.IntN.{ℤ, pos}
+use lib.IntN.{ℤ, pos, _+ℤ_, _-ℤ_}
 use lib.Signed.{ltZ}
 use Rattle.setting.specs.Setting.{Setting, HasRows, lists, breakPoints}
+use Rattle.setting.proofs.Depths.{deepest-low, deepest-high}
+use Rattle.setting.proofs.Pieces.{degree-takes}
 use Rattle.integers.specs.Squares.{squared}
+use mir.Syntax.{w64}
+use mir.Val.{SFits}
+use mir.Facts.{toZ-ofZ}
 use Rattle.integers.proofs.Clash.{clash}
+use Rattle.integers.proofs.Ranges.{stored}
+use Rattle.bound_coordinate.specs.Inside.{Computed}
+use Rattle.bound_coordinate.proofs.Coordinates.{stored-is, restored}
 use Rattle.curve_nodes.specs.declared.Curve.{Curve}
 use Rattle.curve_nodes.specs.Bounds.{Sized}
 use Rattle.bound_row_table.specs.Inside.{Copied}
 use Rattle.bound_coordinate.specs.declared.terms.Terms.{Terms}
 use Rattle.bound_coordinate.specs.Terms.{termsOf}
-use Rattle.bound_coordinate.specs.declared.higher.Higher.{Higher}
-use Rattle.bound_coordinate.specs.Higher.{higherOf}
-use Rattle.bound_pieces.specs.Inside.{piecesBy, piecesOf, Ready, acrossBy, higherAcrossBy}
+use Rattle.bound_coordinate.specs.declared.higher.HigherTerms.{HigherTerms}
+use Rattle.bound_coordinate.specs.HigherTerms.{higherOf}
+use Rattle.bound_pieces.specs.Inside.{piecesBy, piecesOf, PiecesReady, acrossBy, higherAcrossBy}
 use Rattle.bound_node.specs.Boxes.{boxAt, meets}
 use Rattle.bound_node.proofs.Narrow.{diagonal}
 use Rattle.bound_tolerance.proofs.ToleranceLaws.{none-next, box-fails, boxes-pass, across-is, higher-across-is}
@@ -28,7 +36,7 @@ use Rattle.band_records.specs.Inside.{boxBy}
 use Rattle.band_records.proofs.Writing.{joinedTo, joined-length, boxes-are, box-is, higher-box-is}
 use Rattle.band_comparing.specs.declared.trying.Tried.{Tried}
 use Rattle.band_comparing.specs.declared.trying.Tried.the-variants.{Wide, Narrow}
-use Rattle.band_comparing.specs.Inside.{reachNumber, reachOf, triedOf, higherBoxBy}
+use Rattle.band_comparing.specs.Inside.{reachNumber, reachOf, triedOf, BoxGiven, Tryable, higherBoxBy}
 use Rattle.band_comparing.proofs.ReachLaws.{reach-less, reach-parts}
 
 -- ---- what an answer says
@@ -43,6 +51,27 @@ pub held-four : (g : List ℤ) (reach at : ℕ) {a b c d a′ b′ c′ d′ : �
     → r ≡ reachOf g reach at (a′ ∷ b′ ∷ c′ ∷ d′ ∷ []) → r ≡ reachOf g reach at (a ∷ b ∷ c ∷ d ∷ [])
 held-four g reach at ea eb ec ed e = e ∙ (λ j. reachOf g reach at (ea j ∷ eb j ∷ ec j ∷ ed j ∷ []))
 
+-- the lows and the highs of a box, as the code holds them
+module _ {x₀ x₁ y₀ y₁ a b c d : ℤ} (p : Computed (2 ^ 28) a x₀) (q : Computed (2 ^ 28) b x₁) (r : Computed (2 ^ 28) c y₀) (s : Computed (2 ^ 28) d y₁) where
+  pub box-given : {g : List ℤ} {reach at : ℕ} → reach ≤ length g → at + 4 ≤ 2 ^ 63
+      → BoxGiven g reach at (stored w64 x₀) (stored w64 x₁) (stored w64 y₀) (stored w64 y₁)
+  box-given h k = record {
+    there = h;
+    place = k;
+    of-left = record { size = restored p tt .size };
+    of-right = record { size = restored q tt .size };
+    of-low = record { size = restored r tt .size };
+    of-high = record { size = restored s tt .size };
+  }
+
+  pub sides-tried : (g : List ℤ) (reach at : ℕ) {square : ℤ} → SFits w64 square → {r : Tried}
+      → r ≡ triedOf (not (ltZ (stored w64 square) (squared (stored w64 x₁ -ℤ stored w64 x₀) +ℤ squared (stored w64 y₁ -ℤ stored w64 y₀))))
+      (reachOf g reach at (stored w64 x₀ ∷ stored w64 x₁ ∷ stored w64 y₀ ∷ stored w64 y₁ ∷ []))
+      → r ≡ triedOf (not (ltZ square (squared (b -ℤ a) +ℤ squared (d -ℤ c)))) (reachOf g reach at (a ∷ b ∷ c ∷ d ∷ []))
+  sides-tried g reach at h e = e ∙ (λ j. triedOf
+      (not (ltZ (toZ-ofZ h j) (squared (stored-is q tt j -ℤ stored-is p tt j) +ℤ squared (stored-is s tt j -ℤ stored-is r tt j))))
+      (reachOf g reach at (stored-is p tt j ∷ stored-is q tt j ∷ stored-is r tt j ∷ stored-is s tt j ∷ [])))
+
 -- the two numbers of a node before its boxes
 pub node-head : (g : List ℤ) (reach at k n : ℕ) (boxes : List ℤ) {a b : ℤ} {r₁ r₂ : ℕ} → a ≡ pos k → b ≡ pos n → r₁ ≡ reachNumber g reach at a
     → r₂ ≡ reachNumber g r₁ (at + 1) b → reachOf g r₂ (at + 2) boxes ≡ reachOf g reach at (nodeNumbers k n boxes)
@@ -50,6 +79,17 @@ unfolding reachOf
 node-head g reach at k n boxes ea eb e f =
     ap (λ q. reachOf g q (at + 2) boxes) (f ∙ ap₂ (λ q z. reachNumber g q (at + 1) z) (e ∙ ap (reachNumber g reach at) ea) eb)
     ∙ rw (add-one, add-two)
+
+-- ---- what the test of a node asks, for degrees 1 to 3 and for degrees 4 and 5
+module _ {g : List ℤ} {reach at few m scale : ℕ} {rows : List ℤ} {k : ℕ} {c : Curve} {t : ℤ} (h : Tryable g reach at few m scale rows k c t) where
+  pub low-depth : c .degree ≤ 3 → k ≤ 8
+  low-depth l = rw (deepest-low (c .degree) l) at (h .shallow)
+
+  pub high-depth : 3 < c .degree → k ≤ 4
+  high-depth l = rw (deepest-high (c .degree) l) at (h .shallow)
+
+  pub high-pieces : 3 < c .degree → 3 ≤ m
+  high-pieces l = degree-takes (c .degree) m .0 (h .takes) l
 
 pub told-wide : (b : Bool) (r : ℕ) → Wide ≡ triedOf b r → b ≡ false
 told-wide true r e = clash (cc)
@@ -115,7 +155,7 @@ module _ (σ : Setting) (T : ℤ) (k : ℕ) (c : Curve) {across : ℕ → ℤ} {
       (sym (boxes-pass σ k c across across-is T square-is (λ j l. h .narrow j (omega (arith, e)))))
 
 -- ---- with m pieces and control values in units
-pub ready-of : {m : ℕ} {rows : List ℤ} → HasRows m → Copied m rows → Ready (piecesOf m false) rows
+pub ready-of : {m : ℕ} {rows : List ℤ} → HasRows m → Copied m rows → PiecesReady (piecesOf m false) rows
 unfolding piecesOf piecesBy
 ready-of h copied = record { has = h; is = refl; copied = copied }
 
@@ -131,7 +171,7 @@ module _ {m k : ℕ} {rows : List ℤ} (h : HasRows m) (copied : Copied m rows) 
     pub low-box : (i : ℕ) → i ≤ m → boxBy m (c .degree * k) rows x y i ≡ boxNumbers (boxAt (lists m) k c i)
     low-box i hi = ap (λ q. boxBy q (c .degree * k) rows x y i) (one-time m) ∙ box-is (lists m) h k c sized copied few ex ey i hi
 
-  module _ (many : 3 < c .degree) (three : 3 ≤ m) {x y : Higher} (ex : x ≡ higherOf m (c .degree) (c .degree * k) (c .x))
+  module _ (many : 3 < c .degree) (three : 3 ≤ m) {x y : HigherTerms} (ex : x ≡ higherOf m (c .degree) (c .degree * k) (c .x))
       (ey : y ≡ higherOf m (c .degree) (c .degree * k) (c .y)) where
     pub high-across : (i : ℕ) → i ≤ m → higherAcrossBy m (c .degree * k) rows x y i ≡ diagonal (lists m) k c i
     unfolding piecesOf piecesBy

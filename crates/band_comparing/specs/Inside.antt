@@ -4,17 +4,19 @@ use mathlib.Core.Path.{_≡_}
 use mathlib.Core.Bool.{Bool, true, false, _&&_, _||_}
 use mathlib.Core.List.{List, [], _∷_}
 use mathlib.Core.Option.{none, some}
-use Prim.Native.Nat.{ℕ, suc, _+_, _*_, min}
+use Prim.Native.Nat.{ℕ, suc, _+_, _*_, _^_, _≤_, _<_, min}
 use lib.Dec.{leb}
 use lib.ListN.{length, take}
 use lib.IntN.{ℤ}
-use Rattle.setting.specs.Setting.{Setting, HasRows, recordLength}
+use Rattle.setting.specs.Setting.{Setting, HasRows, recordLength, degreePieces, deepest, greatestNode}
 use Rattle.integers.specs.Entry.{entry}
 use Rattle.integers.specs.Equal.{equal}
 use Rattle.curve_nodes.specs.declared.Curve.{Curve}
+use Rattle.curve_nodes.specs.Bounds.{Sized}
 use Rattle.bound_row_table.specs.Inside.{Copied}
-use Rattle.bound_coordinate.specs.declared.higher.Higher.{Higher}
-use Rattle.bound_coordinate.specs.Higher.{higherLow, higherHigh}
+use Rattle.bound_coordinate.specs.Inside.{Small}
+use Rattle.bound_coordinate.specs.declared.higher.HigherTerms.{HigherTerms}
+use Rattle.bound_coordinate.specs.HigherTerms.{higherLow, higherHigh}
 use Rattle.outline.specs.Places.{placeOf}
 use Rattle.walk_tree.specs.Tree.{firstFailing}
 use Rattle.walk_curve.specs.Walked.{nodeMeets, endsOf}
@@ -48,7 +50,7 @@ areThere given at a b c d =
     && (equal (entry given (at + 1)) b && (equal (entry given (at + 2)) c && equal (entry given (at + 3)) d))
 
 -- the box at break point i of a curve of degree 4 or 5
-abbrev pub higherBoxBy : (m s : ℕ) → List ℤ → (x y : Higher) → ℕ → List ℤ
+abbrev pub higherBoxBy : (m s : ℕ) → List ℤ → (x y : HigherTerms) → ℕ → List ℤ
 higherBoxBy m s rows x y =
     boxFrom (higherLow m s rows x) (higherHigh m s rows x) (higherLow m s rows y) (higherHigh m s rows y)
 
@@ -57,11 +59,38 @@ abbrev pub triedOf : (narrow : Bool) → (reach : ℕ) → Tried
 triedOf true reach = Narrow reach
 triedOf false reach = Wide
 
+-- the first `reach` numbers are given, and the lows and the highs of a box, as they are computed, are small
+pub record BoxGiven (given : List ℤ) (reach at : ℕ) (left right low high : ℤ) : Type 0 where
+  pub there : reach ≤ length given
+  pub place : at + 4 ≤ 2 ^ 63
+  pub of-left : Small (2 ^ 28) left
+  pub of-right : Small (2 ^ 28) right
+  pub of-low : Small (2 ^ 28) low
+  pub of-high : Small (2 ^ 28) high
+
 -- the rows of m pieces, copied, and 5040 over m
 pub record Lent (m scale : ℕ) (rows : List ℤ) : Type 0 where
   pub has : HasRows m
   pub copied : Copied m rows
   pub scaled : scale * m ≡ 5040
+
+-- what the test of a node asks, or of a whole curve at depth 0: the first `reach` numbers are given, its own begin at
+-- index `at`, which is at most `few`, its degree suits m and its depth k, and the square of the tolerance does not wrap
+pub record Tryable (given : List ℤ) (reach at few m scale : ℕ) (rows : List ℤ) (k : ℕ) (c : Curve) (t : ℤ)
+    : Type 0 where
+  pub there : reach ≤ length given
+  pub place : at ≤ few
+  pub lent : Lent m scale rows
+  pub sized : Sized k c
+  pub takes : degreePieces (c .degree) m ≡ true
+  pub shallow : k ≤ deepest (c .degree)
+  pub small : Small (2 ^ 27) t
+
+-- the number of a curve, and of a node of the tree
+pub record Numbered (number node : ℕ) : Type 0 where
+  pub curve : number < 2 ^ 31
+  pub below : node < suc greatestNode
+  pub some : 0 < node
 
 -- ---- curve c of number k, whose records begin at index `at`: the first node at the last depth that is too wide, or
 -- where its records end and how far the numbers agree

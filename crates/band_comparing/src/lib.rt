@@ -1,15 +1,13 @@
 // One pass over the curves of an outline that finds check 7 and compares the records of their leaves with numbers that
 // are given, without a list of its own.
 ghost use mathlib.Core.Path.{_≡_};
-ghost use mathlib.Core.Bool.{true};
 ghost use Prim.Native.Nat.{_≤_, _<_, _^_};
 ghost use lib.ListN.{length};
-ghost use Rattle.setting.specs.Setting.{lists, degreePieces, deepest};
-ghost use Rattle.curve_nodes.specs.Bounds.{Sized};
+ghost use Rattle.setting.specs.Setting.{lists, deepest};
 ghost use Rattle.bound_coordinate.specs.Inside.{Small};
 ghost use Rattle.band_passes.specs.Inside.{Readable};
 ghost use Rattle.band_passes.specs.declared.forms.Form.the-variants.{Outline};
-ghost use Rattle.band_comparing.specs.Inside.{Lent, seenOf, laterOf, comparedOf};
+ghost use Rattle.band_comparing.specs.Inside.{Lent, Tryable, seenOf, laterOf, comparedOf};
 use crate::trying::Tried;
 use crate::trying::try_node;
 use curve_nodes::Curve;
@@ -47,8 +45,7 @@ fn see_curve(
     curve: Curve,
     t: i64,
 ) -> Seen
-    requires { ⌜ (reach ≤ length (now given)) × (at ≤ 2 ^ 40) × (number < 2 ^ 31) × (Lent m scale (now rows))
-        × (Sized 0 curve) × (degreePieces (curve .degree) m ≡ true) × (Small (2 ^ 27) t) ⌝ }
+    requires { ⌜ (Tryable (now given) reach at (2 ^ 40) m scale (now rows) 0 curve t) × (number < 2 ^ 31) ⌝ }
     ensures { λ r. ⌜ r ≡ seenOf (lists m) t curve number (now (given .entry)) reach at ⌝ }
 {
     let record_length = 6 + 4 * m;

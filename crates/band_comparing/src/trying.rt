@@ -1,24 +1,25 @@
 // A node of the walk tried: its boxes are computed one after the other, until one is too long, and compared with the
 // numbers given.
 ghost use mathlib.Core.Path.{_≡_};
-ghost use mathlib.Core.Bool.{true, not};
-ghost use Prim.Native.Nat.{suc, _+_, _*_, _≤_, _<_, _^_};
+ghost use mathlib.Core.Bool.{not};
+ghost use mathlib.Core.List.{[], _∷_};
+ghost use Prim.Native.Nat.{_+_, _≤_, _<_, _^_};
 ghost use lib.ListN.{length};
+ghost use lib.IntN.{_+ℤ_, _-ℤ_};
 ghost use lib.Signed.{ltZ};
-ghost use Rattle.setting.specs.Setting.{lists, breakPoints, degreePieces, deepest, greatestNode};
-ghost use Rattle.curve_nodes.specs.Bounds.{Sized};
+ghost use Rattle.integers.specs.Squares.{squared};
+ghost use Rattle.setting.specs.Setting.{lists, breakPoints};
 ghost use Rattle.curve_nodes.specs.Nodes.{depth};
-ghost use Rattle.bound_coordinate.specs.Inside.{Small};
 ghost use Rattle.bound_coordinate.specs.Terms.{ComputableAt};
-ghost use Rattle.bound_coordinate.specs.Higher.{HigherComputable};
+ghost use Rattle.bound_coordinate.specs.HigherTerms.{HigherComputable};
 ghost use Rattle.bound_node.specs.Boxes.{meets};
 ghost use Rattle.bound_pieces.specs.Inside.{acrossBy, higherAcrossBy};
 ghost use Rattle.band_records.specs.Records.{boxesTo, nodeNumbers};
 ghost use Rattle.band_records.specs.Inside.{boxBy};
-ghost use Rattle.band_comparing.specs.Inside.{reachOf, triedOf, Lent, higherBoxBy};
+ghost use Rattle.band_comparing.specs.Inside.{reachOf, triedOf, BoxGiven, Tryable, Numbered, higherBoxBy};
 use crate::reaching::reach_box;
 use crate::reaching::reach_number;
-use bound_coordinate::higher::Higher;
+use bound_coordinate::higher::HigherTerms;
 use bound_coordinate::terms::Terms;
 use bound_tolerance::is_longer;
 use curve_nodes::Curve;
@@ -27,6 +28,36 @@ use curve_nodes::Curve;
 pub enum Tried {
     Wide,
     Narrow(usize),
+}
+
+// The box from `left` to `right` and from `low` to `high`, whose numbers stand from index `at` on: whether its diagonal
+// is longer than the length that has this square, or else how far the numbers given agree.
+fn try_sides(
+    given: &[i32],
+    reach: usize,
+    at: usize,
+    left: i64,
+    right: i64,
+    low: i64,
+    high: i64,
+    square: i64,
+) -> Tried
+    requires { ⌜ BoxGiven (now given) reach at left right low high ⌝ }
+    ensures { λ r. ⌜ r ≡ triedOf (not (ltZ square (squared (right -ℤ left) +ℤ squared (high -ℤ low))))
+        (reachOf (now (given .entry)) reach at (left ∷ right ∷ low ∷ high ∷ [])) ⌝ }
+{
+    if is_longer(right - left, high - low, square) {
+        return Tried::Wide;
+    }
+    Tried::Narrow(reach_box(
+        given,
+        reach,
+        at,
+        left as i32,
+        right as i32,
+        low as i32,
+        high as i32,
+    ))
 }
 
 // The box at break point i of a curve of degree 1 to 3; its numbers stand from index `at` on. The square is that of the
@@ -53,18 +84,7 @@ fn try_box(
     let x_high = bound_coordinate::break_points::high_at(rows, x, shift, scale, m, i);
     let y_low = bound_coordinate::break_points::low_at(rows, y, shift, scale, m, i);
     let y_high = bound_coordinate::break_points::high_at(rows, y, shift, scale, m, i);
-    if is_longer(x_high - x_low, y_high - y_low, square) {
-        return Tried::Wide;
-    }
-    Tried::Narrow(reach_box(
-        given,
-        reach,
-        at,
-        x_low as i32,
-        x_high as i32,
-        y_low as i32,
-        y_high as i32,
-    ))
+    try_sides(given, reach, at, x_low, x_high, y_low, y_high, square)
 }
 
 // The box at break point i of a curve of degree 4 or 5.
@@ -73,8 +93,8 @@ fn try_higher_box(
     reach: usize,
     at: usize,
     rows: &[i64],
-    x: Higher,
-    y: Higher,
+    x: HigherTerms,
+    y: HigherTerms,
     shift: u32,
     scale: usize,
     m: usize,
@@ -90,18 +110,7 @@ fn try_higher_box(
     let x_high = bound_coordinate_higher::high_at(rows, x, shift, scale, m, i);
     let y_low = bound_coordinate_higher::low_at(rows, y, shift, scale, m, i);
     let y_high = bound_coordinate_higher::high_at(rows, y, shift, scale, m, i);
-    if is_longer(x_high - x_low, y_high - y_low, square) {
-        return Tried::Wide;
-    }
-    Tried::Narrow(reach_box(
-        given,
-        reach,
-        at,
-        x_low as i32,
-        x_high as i32,
-        y_low as i32,
-        y_high as i32,
-    ))
+    try_sides(given, reach, at, x_low, x_high, y_low, y_high, square)
 }
 
 // The boxes of a curve of degree 1 to 3 at a depth; their numbers stand from index `at` on.
@@ -116,8 +125,7 @@ fn try_low(
     depth: u32,
     t: i64,
 ) -> Tried
-    requires { ⌜ (reach ≤ length (now given)) × (at ≤ 2 ^ 60) × (Lent m scale (now rows)) × (Sized depth curve)
-        × (curve .degree ≤ 3) × (depth ≤ 8) × (Small (2 ^ 27) t) ⌝ }
+    requires { ⌜ (Tryable (now given) reach at (2 ^ 60) m scale (now rows) depth curve t) × (curve .degree ≤ 3) ⌝ }
     ensures { λ r. ⌜ r ≡ triedOf (meets (lists m) t depth curve)
         (reachOf (now (given .entry)) reach at (boxesTo (lists m) (breakPoints (lists m)) depth curve)) ⌝ }
 {
@@ -168,8 +176,7 @@ fn try_higher(
     depth: u32,
     t: i64,
 ) -> Tried
-    requires { ⌜ (reach ≤ length (now given)) × (at ≤ 2 ^ 60) × (Lent m scale (now rows)) × (Sized depth curve)
-        × (3 < curve .degree) × (depth ≤ 4) × (3 ≤ m) × (Small (2 ^ 27) t) ⌝ }
+    requires { ⌜ (Tryable (now given) reach at (2 ^ 60) m scale (now rows) depth curve t) × (3 < curve .degree) ⌝ }
     ensures { λ r. ⌜ r ≡ triedOf (meets (lists m) t depth curve)
         (reachOf (now (given .entry)) reach at (boxesTo (lists m) (breakPoints (lists m)) depth curve)) ⌝ }
 {
@@ -221,9 +228,8 @@ pub fn try_node(
     curve: Curve,
     t: i64,
 ) -> Tried
-    requires { ⌜ (reach ≤ length (now given)) × (at ≤ 2 ^ 50) × (number < 2 ^ 31) × (node < suc greatestNode)
-        × (0 < node) × (Lent m scale (now rows)) × (Sized (depth node) curve)
-        × (degreePieces (curve .degree) m ≡ true) × (depth node ≤ deepest (curve .degree)) × (Small (2 ^ 27) t) ⌝ }
+    requires { ⌜ (Tryable (now given) reach at (2 ^ 50) m scale (now rows) (depth node) curve t)
+        × (Numbered number node) ⌝ }
     ensures { λ r. ⌜ r ≡ triedOf (meets (lists m) t (depth node) curve)
         (reachOf (now (given .entry)) reach at
         (nodeNumbers number node (boxesTo (lists m) (breakPoints (lists m)) (depth node) curve))) ⌝ }

@@ -18,7 +18,7 @@ use Rattle.walk_curve.specs.Inside.{walkedOf}
 use Rattle.band_records.specs.Records.{recordsOf, allRecords}
 use Rattle.band_records.proofs.Lengths.{records-length}
 use Rattle.band_passes.specs.Leaves.{leavesOf}
-use Rattle.band_passes.specs.Meeting.{AllMeet}
+use Rattle.band_passes.specs.FirstWide.{AllMeet}
 use Rattle.band_passes.proofs.Wide.{wide-later, wide-here, none-wide, behind}
 use Rattle.band_passes.proofs.Among.{all-records-length, records-among, leaves-among}
 use Rattle.band_passes.proofs.Counting.{nodes-of-curves, few-leaves}

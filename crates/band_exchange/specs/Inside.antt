@@ -15,7 +15,7 @@ use Rattle.outline_changed.specs.Changed.{changed}
 use Rattle.walk_curve.specs.Walked.{endsOf}
 use Rattle.band_records.specs.Records.{allRecords}
 use Rattle.band_passes.specs.Leaves.{leavesOf}
-use Rattle.band_passes.specs.Meeting.{AllMeet}
+use Rattle.band_passes.specs.FirstWide.{AllMeet}
 use Rattle.band_comparing.specs.declared.Stand.{Stand}
 use Rattle.band.specs.declared.banding.Banded.{Banded}
 use Rattle.band.specs.Banding.{bandCurves, bandOutlined, writtenBy}

@@ -27,8 +27,8 @@ pub mod replacing;
 
 // Puts another curve in the place of one curve of an outline whose records stand at the front of a lent list, `given`
 // numbers of them: the list and the answer are then those of banding the changed outline into that list. The new curve
-// is its degree and six points, of which those past the degree are not read. A refusal alters nothing. Every outline,
-// tolerance, m, curve number, curve, count and list may be asked about.
+// is its degree and six points, of which those past the degree are not read. A refusal alters nothing. Defined for
+// every outline, tolerance, m, curve number, curve, count and list.
 pub fn exchange(
     outline: &[i32],
     tolerance: i32,

@@ -17,7 +17,7 @@ pub mod premise;
 
 // Foretells the leaves of an outline of at most 4,096 curves with m pieces a leaf, at a tolerance in sixteenths. The
 // depths stand at the front of the list afterwards, one number a curve, −1 where a curve has none, and what stood
-// behind them stays. A refusal alters nothing. Every outline, tolerance, m and list may be asked about.
+// behind them stays. A refusal alters nothing. Defined for every outline, tolerance, m and list.
 pub fn foretell(outline: &[i32], tolerance: i32, m: u32, depths: &mut [i32]) -> Foretold
     ensures { λ r. ⌜ r ≡ foretold (lists m) tolerance (now (outline .entry)) (length (now (depths .entry))) ⌝ }
     ensures { λ r. ⌜ now (depths .exit)

@@ -5,7 +5,7 @@ use mathlib.Core.Bool.{Bool, true, false, cond}
 use mathlib.Core.Logic.{_⊎_, inl, inr, ⊎-elim, _↔_}
 use mathlib.Core.List.{List, [], _∷_, _++_, List·Memᴰ, List·Memᴰ·head, List·Memᴰ·tail, List·Memᴰ·cases-cons, List·Memᴰ·not-nil}
 use mathlib.Core.Option.{Option, none, some}
-use Prim.Native.Nat.{ℕ, _+_, _*_, _≤_, _<_}
+use Prim.Native.Nat.{ℕ, _*_, _≤_, _<_}
 use native.Mathlib.Nat.{le-refl, le-trans, le-of-eq, mul-le-mul}
 use native.Mathlib.Omega.{arith}
 use borrow.Author.Tests.{ltb-false, le-ltb}
@@ -29,7 +29,7 @@ use Rattle.walk_depths.specs.Depth.{depthOf}
 use Rattle.walk_depths.proofs.Least.{depth-least, depth-none}
 use Rattle.walk_depths.proofs.Few.{leaves-under, nodes-under}
 use Rattle.band_passes.specs.Leaves.{leavesOf, nodesOf}
-use Rattle.band_passes.specs.Meeting.{AllMeet, FirstWide}
+use Rattle.band_passes.specs.FirstWide.{AllMeet, FirstWide}
 use Rattle.band_passes.proofs.Counting.{few-leaves}
 use Rattle.band_passes.proofs.Wide.{none-wide, first-wide}
 use Rattle.band.specs.declared.banding.Banded.the-variants.{Done, Refused}
@@ -76,10 +76,10 @@ module _ (σ : Setting) (T : ℤ) where
       go (some j) f later e = ⊎-elim (λ same. (j, ap (depthOf σ T) same ∙ f)) (later e) (List·Memᴰ·cases-cons i)
 
   -- how many leaves and nodes a curve of that depth has
-  abbrev Within : Curve → ℕ → Type 0
-  Within c j = (length (endsOf σ T c) ≤ leavesWithin j) × (met (nodeMeets σ T c) (deepest (c .degree)) 1 ≤ nodesWithin j)
+  abbrev CountsWithin : Curve → ℕ → Type 0
+  CountsWithin c j = (length (endsOf σ T c) ≤ leavesWithin j) × (met (nodeMeets σ T c) (deepest (c .degree)) 1 ≤ nodesWithin j)
 
-  all-within : (cs : List Curve) → ((c : Curve) → List·Memᴰ c cs → (j : ℕ) → depthOf σ T c ≡ some j → Within c j) → allHave (depthsOf σ T cs) ≡ true
+  all-within : (cs : List Curve) → ((c : Curve) → List·Memᴰ c cs → (j : ℕ) → depthOf σ T c ≡ some j → CountsWithin c j) → allHave (depthsOf σ T cs) ≡ true
       → (leavesOf σ T cs ≤ summed leavesWithin (depthsOf σ T cs)) × (nodesOf σ T cs ≤ summed nodesWithin (depthsOf σ T cs))
   unfolding depthsOf allHave summed leavesOf nodesOf
   all-within [] each e = (le-refl 0, le-refl 0)

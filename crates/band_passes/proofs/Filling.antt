@@ -16,7 +16,7 @@ use Rattle.walk_curve.specs.Walked.{nodeMeets, endsOf}
 use Rattle.band_records.specs.Records.{recordsOf, allRecords}
 use Rattle.band_passes.specs.Leaves.{leavesOf}
 use Rattle.band_passes.specs.Inside.{readAt, nextOf, curvesIn, EndsMeet, Fillable}
-use Rattle.band_passes.specs.Meeting.{AllMeet}
+use Rattle.band_passes.specs.FirstWide.{AllMeet}
 use Rattle.walk_tree.proofs.Failing.{passing-none}
 use Rattle.band_passes.proofs.Wide.{none-wide, meet-head, meet-rest}
 use Rattle.band_passes.proofs.Reading.{Rest, restOf, rest-start, rest-begins, rest-next, rest-done}

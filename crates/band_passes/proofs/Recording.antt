@@ -23,39 +23,47 @@ use Rattle.band_passes.specs.Inside.{EndsMeet}
 use Rattle.walk_tree.proofs.Failing.{none-passing}
 use Rattle.walk_tree.proofs.Walking.{walking-halvable, walking-done, fewer-passed}
 
--- the walk stands at part p; the list was l, and holds the records of the leaves passed
+-- the walk stands at part p; the list was l, with room for every record, and holds the records of the leaves passed
 pub record Recorded (σ : Setting) (T : ℤ) (c : Curve) (k : ℕ) (l : List ℤ) (at : ℕ) (p : Part) (place : ℕ) (l′ : List ℤ) : Type 0 where
+  pub ends : EndsMeet σ T c
+  pub room : at + recordLength σ * length (endsOf σ T c) ≤ length l
   pub passed : List ℕ
   pub walk : WalkOf σ T c passed p
   pub here : place ≡ at + recordLength σ * length passed
   pub list : l′ ≡ sets l at (recordsOf σ k c passed)
 
 module _ {σ : Setting} {T : ℤ} {c : Curve} {k : ℕ} {l : List ℤ} {at : ℕ} where
-  pub recorded-start : EndsMeet σ T c → Recorded σ T c k l at (part 1 c) at l
+  pub recorded-start : EndsMeet σ T c → at + recordLength σ * length (endsOf σ T c) ≤ length l → Recorded σ T c k l at (part 1 c) at l
   unfolding recordsOf
-  recorded-start h = record { passed = []; walk = walk-start (h .sized); here = omega arith; list = refl }
+  recorded-start h o = record { ends = h; room = o; passed = []; walk = walk-start (h .sized); here = omega arith; list = refl }
 
   module _ {p : Part} {place : ℕ} {l′ : List ℤ} (r : Recorded σ T c k l at p place l′) where
     pub recorded-length : length l′ ≡ length l
     recorded-length = ap length (r .list) ∙ length-sets l at (recordsOf σ k c (r .passed))
 
-    pub recorded-room : at + recordLength σ * length (endsOf σ T c) ≤ length l → place + recordLength σ ≤ length l′
-    recorded-room h = omega (arith, recorded-length, r .here, mul-le-mul-left (recordLength σ) (fewer-passed (r .walk .walking)))
+    pub recorded-room : place + recordLength σ ≤ length l′
+    recorded-room = omega (arith, recorded-length, r .here, r .room, mul-le-mul-left (recordLength σ) (fewer-passed (r .walk .walking)))
 
     -- a node that does not meet T has halves, since every end does
-    module _ (h : EndsMeet σ T c) where
-      pub recorded-halves : nodeMeets σ T c (p .node) ≡ false → p .node < 2 ^ deepest (c .degree)
-      recorded-halves = walking-halvable (r .walk .walking) (none-passing (nodeMeets σ T c) (endsOf σ T c) (h .passing))
+    pub recorded-halves : nodeMeets σ T c (p .node) ≡ false → p .node < 2 ^ deepest (c .degree)
+    recorded-halves = walking-halvable (r .walk .walking) (none-passing (nodeMeets σ T c) (endsOf σ T c) (r .ends .passing))
 
-      pub recorded-last : 2 ^ deepest (c .degree) ≤ p .node → nodeMeets σ T c (p .node) ≡ true
-      recorded-last o = go (nodeMeets σ T c (p .node)) refl
-        where
-          go : (b : Bool) → nodeMeets σ T c (p .node) ≡ b → b ≡ true
-          go true e = refl
-          go false e = absurd (omega (arith, recorded-halves e))
+    pub recorded-last : 2 ^ deepest (c .degree) ≤ p .node → nodeMeets σ T c (p .node) ≡ true
+    recorded-last o = go (nodeMeets σ T c (p .node)) refl
+      where
+        go : (b : Bool) → nodeMeets σ T c (p .node) ≡ b → b ≡ true
+        go true e = refl
+        go false e = absurd (omega (arith, recorded-halves e))
 
-      pub recorded-left : nodeMeets σ T c (p .node) ≡ false → Recorded σ T c k l at (leftPart p) place l′
-      recorded-left e = record { passed = r .passed; walk = walk-left (r .walk) e (recorded-halves e); here = r .here; list = r .list }
+    pub recorded-left : nodeMeets σ T c (p .node) ≡ false → Recorded σ T c k l at (leftPart p) place l′
+    recorded-left e = record {
+      ends = r .ends;
+      room = r .room;
+      passed = r .passed;
+      walk = walk-left (r .walk) e (recorded-halves e);
+      here = r .here;
+      list = r .list;
+    }
 
     -- one that does is a leaf, and the code has written its record
     module _ {l″ : List ℤ} (f : l″ ≡ sets l′ place (nodeNumbers k (p .node) (boxesTo σ (breakPoints σ) (depth (p .node)) (p .curve)))) where
@@ -78,7 +86,14 @@ module _ {σ : Setting} {T : ℤ} {c : Curve} {k : ℕ} {l : List ℤ} {at : ℕ
       -- the code goes on by as many numbers as a record has
       module _ (e : nodeMeets σ T c (p .node) ≡ true) {step : ℕ} (whole : step ≡ recordLength σ) {q : Part} (a : AfterOf p q) where
         pub recorded-after : (q .node ≡ 1 → ⊥) → Recorded σ T c k l at q (place + step) l″
-        recorded-after o = record { passed = r .passed ++ p .node ∷ []; walk = walk-after (r .walk) a o e; here = rw whole on; list = more }
+        recorded-after o = record {
+          ends = r .ends;
+          room = r .room;
+          passed = r .passed ++ p .node ∷ [];
+          walk = walk-after (r .walk) a o e;
+          here = rw whole on;
+          list = more;
+        }
 
         pub recorded-done : q .node ≡ 1
             → (place + step ≡ at + recordLength σ * length (endsOf σ T c)) × (l″ ≡ sets l at (recordsOf σ k c (endsOf σ T c)))

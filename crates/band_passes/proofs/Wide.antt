@@ -16,7 +16,7 @@ use Rattle.walk_tree.specs.Tree.{firstFailing}
 use Rattle.walk_curve.specs.Walked.{nodeMeets, endsOf}
 use Rattle.band_passes.specs.Leaves.{firstTooWide}
 use Rattle.walk_tree.specs.Passing.{AllPass}
-use Rattle.band_passes.specs.Meeting.{AllMeet, FirstWide}
+use Rattle.band_passes.specs.FirstWide.{AllMeet, FirstWide}
 use Rattle.walk_tree.proofs.Leaves.{first-end}
 use Rattle.walk_tree.proofs.Failing.{none-passing, passing-none, some-first, first-some}
 

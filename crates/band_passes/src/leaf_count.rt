@@ -1,6 +1,6 @@
 // The first pass over the curves of a list: it counts their leaves or finds a node that is still too wide.
 ghost use mathlib.Core.Path.{_≡_};
-ghost use Rattle.bound_pieces.specs.Inside.{Ready, settingOf};
+ghost use Rattle.bound_pieces.specs.Inside.{PiecesReady, settingOf};
 ghost use Rattle.band_passes.specs.Inside.{numbersOf, Readable, curvesIn, countedOf};
 use crate::forms::Form;
 use crate::forms::next_of;
@@ -23,7 +23,7 @@ pub fn count(
     t: i64,
     curves: usize,
 ) -> Counted
-    requires { ⌜ (Ready pieces (now rows))
+    requires { ⌜ (PiecesReady pieces (now rows))
         × (Readable (settingOf pieces) form (numbersOf form (now ns) (now xs)) curves) ⌝ }
     ensures { λ r. ⌜ r ≡ countedOf (settingOf pieces) t
         (curvesIn form (numbersOf form (now (ns .entry)) (now (xs .entry))) curves) ⌝ }

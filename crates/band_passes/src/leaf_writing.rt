@@ -4,7 +4,7 @@ ghost use Prim.Native.Nat.{_+_, _*_, _≤_, _<_, _^_};
 ghost use lib.ListN.{length};
 ghost use lib.Seq.{sets};
 ghost use Rattle.setting.specs.Setting.{recordLength};
-ghost use Rattle.bound_pieces.specs.Inside.{Ready, settingOf};
+ghost use Rattle.bound_pieces.specs.Inside.{PiecesReady, settingOf};
 ghost use Rattle.walk_curve.specs.Walked.{endsOf};
 ghost use Rattle.band_records.specs.Records.{recordsOf, allRecords};
 ghost use Rattle.band_passes.specs.Leaves.{leavesOf};
@@ -14,7 +14,7 @@ use crate::forms::next_of;
 use band_records::put_record;
 use band_records::put_record_higher;
 use bound_pieces::Pieces;
-use bound_tolerance::Verdict;
+use bound_tolerance::Tested;
 use curve_nodes::Curve;
 use outline_binary64::reading;
 use outline_reading::curve_values::curve_at;
@@ -32,7 +32,7 @@ pub fn write_curve(
     curve: Curve,
     t: i64,
 ) -> usize
-    requires { ⌜ (Ready pieces (now rows)) × (EndsMeet (settingOf pieces) t curve) × (number < 2 ^ 31)
+    requires { ⌜ (PiecesReady pieces (now rows)) × (EndsMeet (settingOf pieces) t curve) × (number < 2 ^ 31)
         × (at + recordLength (settingOf pieces) * length (endsOf (settingOf pieces) t curve)
         ≤ length (now records)) ⌝ }
     ensures { λ r. ⌜ r ≡ at + recordLength (settingOf pieces) * length (endsOf (settingOf pieces) t curve) ⌝ }
@@ -46,7 +46,7 @@ pub fn write_curve(
     }
 }
 
-// Those of a curve of degree 1 to 3.
+// Writes the records of a curve of degree 1 to 3.
 fn write_low(
     records: &mut [i32],
     at: usize,
@@ -56,7 +56,7 @@ fn write_low(
     curve: Curve,
     t: i64,
 ) -> usize
-    requires { ⌜ (Ready pieces (now rows)) × (EndsMeet (settingOf pieces) t curve) × (number < 2 ^ 31)
+    requires { ⌜ (PiecesReady pieces (now rows)) × (EndsMeet (settingOf pieces) t curve) × (number < 2 ^ 31)
         × (at + recordLength (settingOf pieces) * length (endsOf (settingOf pieces) t curve)
         ≤ length (now records)) × (curve .degree ≤ 3) ⌝ }
     ensures { λ r. ⌜ r ≡ at + recordLength (settingOf pieces) * length (endsOf (settingOf pieces) t curve) ⌝ }
@@ -72,9 +72,9 @@ fn write_low(
         let own = part.curve;
         let depth = curve_nodes::depth(node);
         let met = match bound_tolerance::verdict_of(pieces, own, depth, t) {
-            Verdict::Narrow => true,
-            Verdict::Wide => false,
-            Verdict::Open => bound_tolerance::boxes_meet(rows, pieces, own, depth, t, t * t),
+            Tested::Narrow => true,
+            Tested::Wide => false,
+            Tested::Open => bound_tolerance::boxes_meet(rows, pieces, own, depth, t, t * t),
         };
         if met {
             put_record(records, place, number, node, rows, pieces, own);
@@ -89,7 +89,8 @@ fn write_low(
     }
 }
 
-// Those of a curve of degree 4 or 5. A node at the last depth is a leaf, or the first pass would have refused.
+// Writes the records of a curve of degree 4 or 5. A node at the last depth is a leaf, or the first pass would have
+// refused.
 fn write_higher(
     records: &mut [i32],
     at: usize,
@@ -99,7 +100,7 @@ fn write_higher(
     curve: Curve,
     t: i64,
 ) -> usize
-    requires { ⌜ (Ready pieces (now rows)) × (EndsMeet (settingOf pieces) t curve) × (number < 2 ^ 31)
+    requires { ⌜ (PiecesReady pieces (now rows)) × (EndsMeet (settingOf pieces) t curve) × (number < 2 ^ 31)
         × (at + recordLength (settingOf pieces) * length (endsOf (settingOf pieces) t curve)
         ≤ length (now records)) × (3 < curve .degree) ⌝ }
     ensures { λ r. ⌜ r ≡ at + recordLength (settingOf pieces) * length (endsOf (settingOf pieces) t curve) ⌝ }
@@ -118,9 +119,9 @@ fn write_higher(
             true
         } else {
             match bound_tolerance_higher::verdict_of(pieces, own, depth, t) {
-                Verdict::Narrow => true,
-                Verdict::Wide => false,
-                Verdict::Open => bound_tolerance_higher::boxes_meet(
+                Tested::Narrow => true,
+                Tested::Wide => false,
+                Tested::Open => bound_tolerance_higher::boxes_meet(
                     rows,
                     pieces,
                     own.same(),
@@ -153,7 +154,7 @@ pub fn write_all(
     t: i64,
     curves: usize,
 ) -> usize
-    requires { ⌜ (Ready pieces (now rows))
+    requires { ⌜ (PiecesReady pieces (now rows))
         × (Fillable (settingOf pieces) t form (numbersOf form (now ns) (now xs)) curves (length (now records))) ⌝ }
     ensures { λ r. ⌜ r ≡ recordLength (settingOf pieces) * leavesOf (settingOf pieces) t
         (curvesIn form (numbersOf form (now (ns .entry)) (now (xs .entry))) curves) ⌝ }

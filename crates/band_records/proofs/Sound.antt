@@ -9,10 +9,9 @@ use native.Mathlib.Omega.{arith}
 use lib.Dec.{lit≤}
 use lib.ListN.{length, length-append, List·getD-append}
 use lib.Seq.{getD-append-add}
-use lib.IntN.{ℤ, pos, negℤ}
-use lib.Signed.{_≤ℤ_}
+use lib.IntN.{ℤ, pos}
 use Rattle.integers.specs.Entry.{entry}
-use Rattle.integers.proofs.Order.{lt-or-ge, pos-le, pos-lt, ≤ℤ-trans}
+use Rattle.integers.proofs.Order.{lt-or-ge, pos-le, pos-lt}
 use Rattle.integers.proofs.Size.{abs-low, abs-high}
 use Rattle.curve_nodes.specs.declared.Curve.{Curve}
 use Rattle.curve_nodes.specs.Bounds.{Sized}
@@ -90,18 +89,6 @@ module _ {σ : Setting} {number : ℕ → ℤ} (r : SoundRecord σ number) where
       (λ e. subst₂ (λ p q. Interval (number p) (number q)) {x = 4 * (s / 2) + 4} {y = 2 * s + 2} {u = 4 * (s / 2) + 5} {v = 2 * s + 3}
       (omega arith) (omega arith) (r .y (s / 2) (omega arith)))
       (lt-or-ge (s % 2) 1)
-
-  abbrev InRange : ℕ → Type 0
-  InRange p = (negℤ (pos farthest) ≤ℤ number p) × (number p ≤ℤ pos farthest)
-
-  pub each-number : (p : ℕ) → 2 ≤ p → p < recordLength σ → (negℤ (pos farthest) ≤ℤ number p) × (number p ≤ℤ pos farthest)
-  each-number p l h =
-      let s = (p - 2) / 2 in
-      let i = each-side s (omega arith) in
-      ⊎-elim
-      (λ e. subst InRange {x = 2 * s + 2} {y = p} (omega arith) (i .from, ≤ℤ-trans (i .order) (i .to)))
-      (λ e. subst InRange {x = 2 * s + 3} {y = p} (omega arith) (≤ℤ-trans (i .from) (i .order), i .to))
-      (lt-or-ge (p % 2) 1)
 
 -- ---- lists of records
 module _ {σ : Setting} where

@@ -17,8 +17,8 @@ use Rattle.curve_nodes.specs.Bounds.{Sized}
 use Rattle.bound_row_table.specs.Inside.{Copied}
 use Rattle.bound_coordinate.specs.declared.terms.Terms.{Terms}
 use Rattle.bound_coordinate.specs.Terms.{termsOf}
-use Rattle.bound_coordinate.specs.declared.higher.Higher.{Higher}
-use Rattle.bound_coordinate.specs.Higher.{higherOf, higherLow, higherHigh}
+use Rattle.bound_coordinate.specs.declared.higher.HigherTerms.{HigherTerms}
+use Rattle.bound_coordinate.specs.HigherTerms.{higherOf, higherLow, higherHigh}
 use Rattle.bound_coordinate.proofs.LowHigh.{low-is, high-is, higher-low-is, higher-high-is}
 use Rattle.bound_node.specs.Boxes.{boxAt}
 use Rattle.band_records.specs.Records.{boxNumbers, boxesTo, nodeNumbers}
@@ -143,7 +143,7 @@ module _ (σ : Setting) (has : HasRows (σ .pieces)) (k : ℕ) (c : Curve) (size
         ∷ [])
 
   -- degrees 4 and 5
-  module _ (many : 3 < c .degree) (units : σ .sixths ≡ false) (three : 3 ≤ σ .pieces) {x y : Higher}
+  module _ (many : 3 < c .degree) (units : σ .sixths ≡ false) (three : 3 ≤ σ .pieces) {x y : HigherTerms}
       (ex : x ≡ higherOf (σ .pieces) (c .degree) (c .degree * k) (c .x)) (ey : y ≡ higherOf (σ .pieces) (c .degree) (c .degree * k) (c .y)) where
     higher-takes : degreePieces (c .degree) (σ .pieces) ≡ true
     higher-takes = degree-takes (c .degree) (σ .pieces) .1 (λ h. three)

@@ -5,14 +5,14 @@ use lib.IntN.{ℤ}
 use lib.ListN.{set}
 use Rattle.bound_coordinate.specs.declared.terms.Terms.{Terms}
 use Rattle.bound_coordinate.specs.Terms.{lowBy, highBy}
-use Rattle.bound_coordinate.specs.declared.higher.Higher.{Higher}
-use Rattle.bound_coordinate.specs.Higher.{higherLow, higherHigh}
+use Rattle.bound_coordinate.specs.declared.higher.HigherTerms.{HigherTerms}
+use Rattle.bound_coordinate.specs.HigherTerms.{higherLow, higherHigh}
 
 -- the numbers of the box at break point i, from the lows and the highs of both coordinates
 unfoldable pub boxFrom : (x-low x-high y-low y-high : ℕ → ℤ) → ℕ → List ℤ
 boxFrom x-low x-high y-low y-high i = x-low i ∷ x-high i ∷ y-low i ∷ y-high i ∷ []
 
--- that of degrees 1 to 3, from copied rows and the terms of both coordinates
+-- the numbers of the box at a break point at degrees 1 to 3, from copied rows and the terms of both coordinates
 abbrev pub boxBy : (q s : ℕ) → List ℤ → (x y : Terms) → ℕ → List ℤ
 boxBy q s rows x y = boxFrom (lowBy q s rows x) (highBy q s rows x) (lowBy q s rows y) (highBy q s rows y)
 
@@ -23,6 +23,6 @@ putPairs l at low high zero = l
 putPairs l at low high (suc n) =
     set (set (putPairs l at low high n) (at + 4 * n) (low n)) (at + 4 * n + 1) (high n)
 
--- those of degrees 4 and 5, from copied rows and the terms of the coordinate
-abbrev pub putPairsBy : List ℤ → (at m s : ℕ) → List ℤ → Higher → (n : ℕ) → List ℤ
+-- a list with the lows and the highs of one coordinate at degrees 4 and 5, from copied rows and the coordinate's terms
+abbrev pub putPairsBy : List ℤ → (at m s : ℕ) → List ℤ → HigherTerms → (n : ℕ) → List ℤ
 putPairsBy l at m s rows z = putPairs l at (higherLow m s rows z) (higherHigh m s rows z)

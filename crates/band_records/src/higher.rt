@@ -6,10 +6,10 @@ ghost use lib.Seq.{sets};
 ghost use Rattle.setting.specs.Setting.{HasRows, lists, breakPoints};
 ghost use Rattle.curve_nodes.specs.Bounds.{Sized};
 ghost use Rattle.bound_row_table.specs.Inside.{Copied};
-ghost use Rattle.bound_coordinate.specs.Higher.{HigherComputable};
+ghost use Rattle.bound_coordinate.specs.HigherTerms.{HigherComputable};
 ghost use Rattle.band_records.specs.Records.{boxesTo};
 ghost use Rattle.band_records.specs.Inside.{putPairsBy};
-use bound_coordinate::higher::Higher;
+use bound_coordinate::higher::HigherTerms;
 use bound_coordinate_higher::high_at;
 use bound_coordinate_higher::higher_of;
 use bound_coordinate_higher::low_at;
@@ -20,7 +20,7 @@ fn put_coordinate(
     records: &mut [i32],
     at: usize,
     rows: &[i64],
-    z: Higher,
+    z: HigherTerms,
     shift: u32,
     scale: usize,
     m: usize,
@@ -41,7 +41,7 @@ fn put_coordinate(
 
 // The boxes at the break points of a curve at a depth, from place `at` on; `rows` are those of m pieces, and the scale
 // is 5040 over m.
-pub fn put_boxes(
+pub fn put_higher_boxes(
     records: &mut [i32],
     at: usize,
     rows: &[i64],

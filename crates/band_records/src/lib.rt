@@ -8,7 +8,7 @@ ghost use Rattle.setting.specs.Setting.{breakPoints, recordLength, greatestNode
 ghost use Rattle.curve_nodes.specs.Bounds.{Sized};
 ghost use Rattle.curve_nodes.specs.Nodes.{depth};
 ghost use Rattle.bound_coordinate.specs.Terms.{ComputableAt};
-ghost use Rattle.bound_pieces.specs.Inside.{Ready, settingOf};
+ghost use Rattle.bound_pieces.specs.Inside.{PiecesReady, settingOf};
 ghost use Rattle.band_records.specs.Records.{boxesTo, nodeNumbers};
 ghost use Rattle.band_records.specs.Inside.{boxBy};
 use bound_coordinate::terms::Terms;
@@ -46,8 +46,15 @@ fn put_box(
 
 // The boxes at the break points of a curve of degree 1 to 3 at a depth, from place `at` on, by what goes with the
 // number of pieces, whose rows are lent.
-fn put_boxes(records: &mut [i32], at: usize, rows: &[i64], curve: Curve, depth: u32, pieces: Pieces)
-    requires { ⌜ (at + 4 * breakPoints (settingOf pieces) ≤ length (now records)) × (Ready pieces (now rows))
+fn put_low_boxes(
+    records: &mut [i32],
+    at: usize,
+    rows: &[i64],
+    curve: Curve,
+    depth: u32,
+    pieces: Pieces,
+)
+    requires { ⌜ (at + 4 * breakPoints (settingOf pieces) ≤ length (now records)) × (PiecesReady pieces (now rows))
         × (Sized depth curve) × (curve .degree ≤ 3) × (depth ≤ 8) ⌝ }
     ensures { λ _. ⌜ now (records .exit)
         ≡ sets (now (records .entry)) at
@@ -82,7 +89,7 @@ pub fn put_record(
     curve: Curve,
 )
     requires { ⌜ (at + recordLength (settingOf pieces) ≤ length (now records)) × (number < 2 ^ 31)
-        × (node < suc greatestNode) × (0 < node) × (Ready pieces (now rows)) × (Sized (depth node) curve)
+        × (node < suc greatestNode) × (0 < node) × (PiecesReady pieces (now rows)) × (Sized (depth node) curve)
         × (curve .degree ≤ 3) ⌝ }
     ensures { λ _. ⌜ now (records .exit)
         ≡ sets (now (records .entry)) at
@@ -91,10 +98,11 @@ pub fn put_record(
     records[at] = number as i32;
     records[at + 1] = node as i32;
     let depth = curve_nodes::depth(node);
-    put_boxes(records, at + 2, rows, curve, depth, pieces);
+    put_low_boxes(records, at + 2, rows, curve, depth, pieces);
 }
 
-// The same of degree 4 or 5.
+// The record of a node of degree 4 or 5: its curve's number, its own, and its boxes, by what goes with the number of
+// pieces, whose rows are lent.
 pub fn put_record_higher(
     records: &mut [i32],
     at: usize,
@@ -105,7 +113,7 @@ pub fn put_record_higher(
     curve: Curve,
 )
     requires { ⌜ (at + recordLength (settingOf pieces) ≤ length (now records)) × (number < 2 ^ 31)
-        × (node < 32) × (0 < node) × (Ready pieces (now rows)) × (3 ≤ pieces .m) × (Sized (depth node) curve)
+        × (node < 32) × (0 < node) × (PiecesReady pieces (now rows)) × (3 ≤ pieces .m) × (Sized (depth node) curve)
         × (3 < curve .degree) × (pieces .sixths ≡ false) ⌝ }
     ensures { λ _. ⌜ now (records .exit)
         ≡ sets (now (records .entry)) at
@@ -114,5 +122,5 @@ pub fn put_record_higher(
     records[at] = number as i32;
     records[at + 1] = node as i32;
     let depth = curve_nodes::depth(node);
-    crate::higher::put_boxes(records, at + 2, rows, curve, depth, pieces.scale, pieces.m);
+    crate::higher::put_higher_boxes(records, at + 2, rows, curve, depth, pieces.scale, pieces.m);
 }

@@ -11,7 +11,7 @@ pub mod outline_tightest;
 
 // The least tolerance, from 2 to 1,048,576 sixteenths, at which a band of m pieces a leaf round an outline of at most
 // 4,096 curves meets no refusal 7 and needs at most `leaves` leaves, or `Nothing` where every tolerance of that span
-// fails. m and the outline are checked as in banding. Every outline, m and number of leaves may be asked about.
+// fails. m and the outline are checked as in banding. Defined for every outline, m and number of leaves.
 pub fn tightest_band(outline: &[i32], m: u32, leaves: usize) -> Tightest
     ensures { λ r. ⌜ r ≡ tightest (lists m) (now (outline .entry)) leaves ⌝ }
 {

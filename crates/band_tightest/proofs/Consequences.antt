@@ -1,6 +1,6 @@
 -- What a caller may conclude from the tightest band and from banding at a larger tolerance. Each law uses a conclusion of the theorems, so that a
 -- weaker one is seen here.
-use mathlib.Core.Path.{_≡_, refl, sym, _∙_, subst}
+use mathlib.Core.Path.{_≡_, sym, _∙_, subst}
 use mathlib.Core.Bool.{true}
 use mathlib.Core.Logic.{⊎-elim}
 use mathlib.Core.List.{List, List·Memᴰ}
@@ -15,9 +15,8 @@ use Rattle.curve_nodes.specs.declared.Curve.{Curve}
 use Rattle.outline.specs.Checks.{Outlined, toleranceFine, curves, outlined}
 use Rattle.walk_tree.specs.Leaves.{Leaf, Ancestor}
 use Rattle.walk_curve.specs.Walked.{nodeMeets}
-use Rattle.band.specs.declared.banding.Banded.{Banded}
 use Rattle.band.specs.declared.banding.Banded.the-variants.{Done}
-use Rattle.band.specs.Banding.{bandGiven, banded}
+use Rattle.band.specs.Banding.{banded}
 use Rattle.band_tightest.specs.declared.tolerances.Tightest.the-variants.{Least, Nothing}
 use Rattle.band_tightest.specs.Tightest.{tightest}
 use Rattle.band_tightest.specs.Looser.{Merged, StillAccepted}

@@ -1,7 +1,7 @@
 -- The tightest band by computation: curve A, which is one leaf from T 44 on, a line, an outline that nothing fits, and the checks.
 use mathlib.Core.Path.{_≡_, refl, sym, _∙_}
 use mathlib.Core.Bool.{true, false}
-use mathlib.Core.List.{List, [], _∷_, _++_}
+use mathlib.Core.List.{List, [], _∷_}
 use native.Mathlib.Omega.{arith}
 use lib.IntN.{ℤ, pos}
 use Rattle.setting.specs.Setting.{lists}

@@ -2,9 +2,9 @@
 -- nothing was, and each leaf is a leaf at T or an ancestor of leaves there. At the largest tolerance nothing is too wide.
 use mathlib.Core.Path.{_≡_, refl}
 use mathlib.Core.Bool.{true}
-use mathlib.Core.Logic.{_⊎_, inl, inr, ⊎-elim}
+use mathlib.Core.Logic.{inl, inr, ⊎-elim}
 use mathlib.Core.List.{List, [], _∷_, List·Memᴰ, List·Memᴰ·head, Memᴰ·append-right}
-use Prim.Native.Nat.{ℕ, _*_, _≤_}
+use Prim.Native.Nat.{ℕ, _≤_}
 use native.Mathlib.Nat.{le-refl, le-trans, mul-le-mul}
 use native.Mathlib.Omega.{arith}
 use lib.IntN.{ℤ, pos}
@@ -18,13 +18,12 @@ use Rattle.curve_nodes.specs.declared.Curve.{Curve}
 use Rattle.curve_nodes.specs.Nodes.{depth, nodeCurve}
 use Rattle.bound_node.proofs.Narrow.{meets-looser}
 use Rattle.outline.specs.Checks.{Outlined, toleranceFine, curves, outlined}
-use Rattle.walk_tree.specs.Leaves.{Ancestor}
 use Rattle.walk_tree.proofs.Tree.{not-both}
 use Rattle.walk_tree.proofs.Looser.{fewer-ends, passing-kept, end-or-above, end-or-below}
 use Rattle.walk_curve.specs.Walked.{nodeMeets, endsOf}
 use Rattle.walk_depths.proofs.Widest.{widest-passes}
 use Rattle.band_passes.specs.Leaves.{leavesOf, nodesOf}
-use Rattle.band_passes.specs.Meeting.{AllMeet}
+use Rattle.band_passes.specs.FirstWide.{AllMeet}
 use Rattle.band.specs.declared.banding.Banded.the-variants.{Done, Refused}
 use Rattle.band.specs.Banding.{bandGiven, banded, bandedSpline}
 use Rattle.band.proofs.Given.{Given, outline-given, spline-given}

@@ -12,7 +12,6 @@ use lib.Dec.{eqb, ltb}
 use lib.ListN.{length}
 use lib.IntN.{pos}
 use Rattle.setting.specs.Setting.{Setting, relimited, recordLength}
-use Rattle.integers.specs.First.{firstBad}
 use Rattle.integers.proofs.First.{bad-none, bad-at}
 use Rattle.integers.proofs.Clash.{clash}
 use Rattle.integers.proofs.Order.{natural, pos-le}
@@ -22,7 +21,7 @@ use Rattle.refusals.specs.Refusals.{numberOf}
 use Rattle.curve_nodes.specs.declared.Curve.{Curve}
 use Rattle.walk_tree.proofs.Tree.{either, not-both}
 use Rattle.band_passes.specs.Leaves.{firstTooWide, leavesOf, nodesOf}
-use Rattle.band_passes.specs.Meeting.{AllMeet}
+use Rattle.band_passes.specs.FirstWide.{AllMeet}
 use Rattle.band_passes.proofs.Wide.{none-wide, only-wide}
 use Rattle.band.specs.declared.banding.Banded.the-variants.{Done, Refused}
 use Rattle.band.specs.Banding.{answerFor, bandCurves}

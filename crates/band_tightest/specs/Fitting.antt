@@ -9,7 +9,7 @@ use Rattle.setting.specs.Setting.{Setting, piecesFine}
 use Rattle.curve_nodes.specs.declared.Curve.{Curve}
 use Rattle.outline.specs.Checks.{curves, outlined}
 use Rattle.band_passes.specs.Leaves.{leavesOf}
-use Rattle.band_passes.specs.Meeting.{AllMeet}
+use Rattle.band_passes.specs.FirstWide.{AllMeet}
 
 -- the checks of m and of the outline, all those of banding before the walk but that of a tolerance, find no fault, and
 -- the curves are cs

@@ -1,9 +1,9 @@
 -- Two f64 are equal as the code compares them exactly where they are one number; a zero of either sign is 0.
-use mathlib.Core.Path.{_≡_, refl, sym, ap, _∙_, subst}
+use mathlib.Core.Path.{_≡_, refl, sym, ap, _∙_}
 use mathlib.Core.Logic.{_⊎_, inl, inr}
-use mathlib.Core.Bool.{Bool, true, false, _&&_, _||_, Bool·beq, false≢true}
+use mathlib.Core.Bool.{Bool, true, false, _||_, Bool·beq}
 use Prim.Native.Nat.{ℕ, zero, suc, _*_, _<_}
-use native.Mathlib.Nat.{mul-right-comm, mul-assoc, mul-comm, zero-mul, eq-of-mul-eq-mul-right}
+use native.Mathlib.Nat.{mul-right-comm, zero-mul, eq-of-mul-eq-mul-right}
 use native.Mathlib.Omega.{arith}
 use lib.Dec.{T, eqb, eqb→eq}
 use lib.IntN.{ℤ, pos, negsuc, negℤ, natAbs}

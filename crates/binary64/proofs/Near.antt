@@ -2,24 +2,21 @@
 use mathlib.Core.Path.{_≡_, refl, sym, ap, ap₂, _∙_, subst}
 use mathlib.Core.Bool.{Bool, true, false, not, cond, _&&_, true≢false, false≢true}
 use mathlib.Core.Option.{Option, none, some}
-use Prim.Native.Nat.{ℕ, zero, suc, _+_, _-_, _*_, _/_, _%_, _^_, _≤_, _<_, zero-le}
+use Prim.Native.Nat.{ℕ, zero, suc, _+_, _-_, _*_, _%_, _^_, _≤_, _<_, zero-le}
 use native.Mathlib.Nat.{zero-mul, mul-pos, zero-lt-suc, add-zero, sub-zero, mul-mod-left, eq-of-mul-eq-mul-right, le-trans, mul-one, le-of-mul-le-mul-right, mul-lt-mul-of-pos-right}
 use native.Mathlib.Omega.{arith}
 use lib.Dec.{T, ltb, leb, eqb, le→leb, lt→ltb, eqb→eq, not-T, lit<}
-use lib.IntN.{ℤ, pos, negsuc, negℤ, natAbs}
+use lib.IntN.{ℤ, pos, natAbs}
 use lib.Signed.{mag}
 use lib.Ieee.{Float, nan, inf, fin, binary64, up, down, round, sum, add, eq, le, lt, fits, whole, inSigned, ofInt, toSigned}
 use lib.Ieee.Exact.{HasValue}
 use lib.Ieee.Back.{round-whole}
 use lib.Ieee.Scale.{round-same}
 use lib.Ieee.Fits.{and-l, and-r, and-i, eq→eqb, down-pos}
-use lib.Ieee.Casts.{toSigned-in}
 use borrow.Author.Tests.{eqb-true, leb-true, le-leb, lt-leb, lt-ltb, le-ltb}
-use mir.Syntax.{w32, w64}
-use mir.Val.{SFits, toZ, ofZ}
-use mir.ValLaws.{toZ-ofZ}
+use mir.Syntax.{w32}
+use mir.Val.{SFits}
 use Rattle.binary64.specs.Exact.{signed}
-use Rattle.binary64.specs.Read.{wholeOf, readOf}
 use Rattle.binary64.specs.Inside.{nearIn, nearOf, numberIn, nearNumber}
 use Rattle.binary64.proofs.Tests.{over, part, low-end, high-end, bound, bound-pos, within, whole-part, part-beyond, beyond-low, beyond-high}
 use Rattle.binary64.proofs.Trip.{or-l, part-le, cut-small, trip}

@@ -1,13 +1,13 @@
 -- `Exactly` leaves no freedom: of the f64 there is at most one that is exactly z / d, bit for bit. Assumes nothing.
 use mathlib.Core.Path.{_≡_, refl, sym, ap, _∙_}
-use mathlib.Core.Bool.{Bool, true, false, _&&_}
-use Prim.Native.Nat.{ℕ, zero, suc, _+_, _*_, _%_, _^_, _≤_, _<_}
-use native.Mathlib.Nat.{lt-irrefl, zero-lt-suc, zero-mul, mul-one, one-mul, mul-assoc, mul-left-comm, mul-right-comm, mul-comm, mul-pos, eq-of-mul-eq-mul-right, pow-suc, pow-succ', add-suc}
+use mathlib.Core.Bool.{Bool, _&&_}
+use Prim.Native.Nat.{ℕ, zero, suc, _+_, _*_, _%_, _^_, _<_}
+use native.Mathlib.Nat.{lt-irrefl, zero-lt-suc, zero-mul, mul-one, one-mul, mul-assoc, mul-left-comm, mul-right-comm, mul-pos, eq-of-mul-eq-mul-right, pow-suc, pow-succ'}
 use native.Mathlib.Omega.{arith}
 use lib.Dec.{T, ltb, leb, eqb, eqb→eq}
 use lib.IntN.{ℤ, pos, negsuc}
 use lib.Pow.{pow-pos, pow-add}
-use lib.Ieee.{Float, nan, inf, fin, Format, binary64, prec, emax, low, up, down, fits}
+use lib.Ieee.{Float, nan, inf, fin, binary64, up, down, fits}
 use lib.Ieee.Fits.{and-l, up-pos, down-pos}
 use Rattle.binary64.specs.Exact.{Exactly}
 

@@ -1,19 +1,16 @@
 -- The tests that the code makes, and what they say of every f64: `x == 0.0` that it is a zero of either sign, a comparison with 2^k or −2^k how it lies to
 -- that.
 use mathlib.Core.Path.{_≡_, refl, sym, ap, _∙_, subst}
-use mathlib.Core.Bool.{Bool, true, false, not, cond, _&&_, _||_, Bool·beq, true≢false, false≢true}
-use Prim.Native.Nat.{ℕ, zero, suc, _+_, _-_, _*_, _/_, _%_, _^_, _≤_, _<_}
-use native.Mathlib.Nat.{le-refl, le-of-lt, le-trans, le-of-eq, lt-of-lt-of-le, lt-of-le-of-lt, not-le-of-lt, lt-of-not-le, le-of-suc-le-suc, zero-lt-suc, add-zero, mul-assoc, mul-one, one-mul, zero-mul, mul-pos, mod-lt, mod-le, div-add-mod', eq-of-mul-eq-mul-right, le-of-mul-le-mul-right, lt-of-mul-lt-mul-right}
+use mathlib.Core.Bool.{Bool, true, false, _&&_, _||_, true≢false, false≢true}
+use Prim.Native.Nat.{ℕ, zero, suc, _+_, _*_, _/_, _%_, _^_, _≤_, _<_}
+use native.Mathlib.Nat.{le-of-lt, le-of-eq, zero-lt-suc, add-zero, mul-one, mul-pos, div-add-mod', lt-of-mul-lt-mul-right}
 use native.Mathlib.Omega.{arith}
-use lib.Dec.{T, ltb, leb, eqb, ltb→lt, leb→le, eqb→eq, lit≤, lit<}
-use lib.IntN.{ℤ, pos, negsuc}
-use lib.Pow.{pow-add, pow-pos, pow-mono, pow-lt, shl-lt}
-use lib.Ieee.{Float, nan, inf, fin, Format, binary64, prec, emax, low, up, down, round, rem, eq, le, fits}
-use lib.Ieee.Digits.{back}
-use lib.Ieee.Fits.{and-l, and-r, and-i, eq→eqb, down-pos, reach}
-use lib.Ieee.Exact.{HasValue, round-exact}
-use borrow.Author.Tests.{ltb-true, ltb-false, eqb-true, eqb-false, le-leb, lt-leb}
-use Rattle.binary64.specs.Read.{wholeOf}
+use lib.Dec.{T, ltb, leb, eqb, ltb→lt, eqb→eq}
+use lib.IntN.{ℤ, pos}
+use lib.Pow.{pow-pos}
+use lib.Ieee.{Float, fin, Format, prec, emax, low, up, down, le, fits}
+use lib.Ieee.Fits.{and-l, and-r, eq→eqb, down-pos}
+use borrow.Author.Tests.{ltb-false}
 
 -- ---- of a number m * 2 ^ e: what is over a whole number, and the whole number, both in size
 abbrev pub over : ℕ → ℤ → ℕ
@@ -42,26 +39,6 @@ one-test false false p q = refl
 pub or-r : (a b : Bool) → T b → T (a || b)
 or-r true b t = tt
 or-r false b t = t
-
--- ---- `y == 0.0`, of a y that is r / c in size: r is 0
-pub zero-test : (y : Float) (s : Bool) (r c : ℕ) → 0 < c → HasValue y s r c → eq y (fin false 0 (pos 0)) ≡ eqb r 0
-unfolding eq
-zero-test nan s r c p v = absurd v
-zero-test (inf t) s r c p v = absurd v
-zero-test (fin t m e) s r c p v =
-    let a = m * up e * 1 in
-    let b = 0 * down e in
-    one-test (eqb a b && (Bool·beq t false || eqb a 0)) (eqb r 0)
-    (λ k.
-    let z : m * up e ≡ 0 = sym (mul-one (m * up e)) ∙ eqb→eq a b (and-l (eqb a b) (Bool·beq t false || eqb a 0) k) ∙ zero-mul (down e) in
-    eq→eqb (eq-of-mul-eq-mul-right (down e) (down-pos e) r 0 (sym (v .1) ∙ ap (λ (x : ℕ). x * c) z ∙ zero-mul c ∙ sym (zero-mul (down e)))))
-    (λ k.
-    let z : m * up e ≡ 0 = eq-of-mul-eq-mul-right c p (m * up e) 0 (v .1 ∙ ap (λ (x : ℕ). x * down e) (eqb→eq r 0 k) ∙ zero-mul (down e) ∙ sym (zero-mul c)) in
-    and-i (eqb a b) (Bool·beq t false || eqb a 0) (eq→eqb (mul-one (m * up e) ∙ z ∙ sym (zero-mul (down e)))) (or-r (Bool·beq t false) (eqb a 0) (eq→eqb (mul-one (m * up e) ∙ z))))
-
--- of the argument itself
-pub is-zero : (s : Bool) (m : ℕ) (e : ℤ) → eq (fin s m e) (fin false 0 (pos 0)) ≡ eqb (m * up e) 0
-is-zero s m e = zero-test (fin s m e) s (m * up e) (down e) (down-pos e) (refl, refl)
 
 -- ---- comparisons with -2 ^ k and 2 ^ k
 or-false-l : (a b : Bool) → (a || b) ≡ false → a ≡ false
@@ -130,9 +107,6 @@ beyond-high k true m e p =
 -- a whole number is its whole part
 pub whole-part : (m : ℕ) (e : ℤ) → over m e ≡ 0 → m * up e ≡ part m e * down e
 whole-part m e z = sym (div-add-mod' (m * up e) (down e)) ∙ ap (λ (x : ℕ). part m e * down e + x) z ∙ add-zero (part m e * down e)
-
-pub part-within : (k : ℕ) (s : Bool) (m : ℕ) (e : ℤ) → over m e ≡ 0 → le (low-end k) (fin s m e) ≡ true → le (fin s m e) (high-end k) ≡ true → part m e ≤ 1 * 2 ^ k
-part-within k s m e z p q = le-of-mul-le-mul-right (subst (λ (x : ℕ). x ≤ bound k e) (whole-part m e z) (within k s m e p q)) (down-pos e)
 
 pub part-beyond : (k m : ℕ) (e : ℤ) → over m e ≡ 0 → bound k e < m * up e → 1 * 2 ^ k < part m e
 part-beyond k m e z h = lt-of-mul-lt-mul-right (down e) (subst (λ (x : ℕ). bound k e < x) (whole-part m e z) h)

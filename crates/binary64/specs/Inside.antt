@@ -1,7 +1,6 @@
 -- For contracts inside the engine alone, no part of a public promise: whole numbers of at most 2^20 in size.
 use mathlib.Core.Bool.{Bool, false}
 use mathlib.Core.Option.{Option, none, some}
-use Prim.Native.Nat.{ℕ}
 use lib.Dec.{leb}
 use lib.IntN.{ℤ, pos, natAbs}
 use lib.Ieee.{Float}

@@ -2,7 +2,7 @@
 use mathlib.Core.Path.{_≡_, refl, sym, _∙_, ap, ap₂, subst}
 use mathlib.Core.Bool.{Bool, true, false, cond}
 use mathlib.Core.List.{List, [], _∷_}
-use Prim.Native.Nat.{ℕ, _+_, _*_, _-_, _^_, _≤_, _<_}
+use Prim.Native.Nat.{ℕ, _+_, _*_, _-_, _^_, _≤_}
 use native.Mathlib.Nat.{le-trans, le-refl, le-of-eq, add-mul, mul-le-mul}
 use native.Mathlib.Omega.{arith}
 use lib.Dec.{ltb, lit≤}
@@ -23,9 +23,9 @@ use Rattle.bound_row_table.specs.Inside.{rowPlace, Copied}
 use Rattle.bound_row_table.proofs.Copying.{low-place}
 use Rattle.bound_coordinate.specs.Inside.{Computed}
 use Rattle.bound_coordinate.specs.declared.terms.Terms.{Terms}
-use Rattle.bound_coordinate.specs.declared.higher.Higher.{Higher}
-use Rattle.bound_coordinate.specs.Terms.{chosen, termsOf, Within, Computable}
-use Rattle.bound_coordinate.specs.Higher.{raiseOf, higherOf, HigherWithin, HigherComputable}
+use Rattle.bound_coordinate.specs.declared.higher.HigherTerms.{HigherTerms}
+use Rattle.bound_coordinate.specs.Terms.{chosen, termsOf, TermsWithin, Computable}
+use Rattle.bound_coordinate.specs.HigherTerms.{raiseOf, higherOf, HigherWithin, HigherComputable}
 use Rattle.bound_coordinate.proofs.Coordinates.{shift-small, pieces, bounded}
 use Rattle.bound_coordinate.proofs.Raised.{shiftedRaise, held-raise}
 
@@ -49,12 +49,12 @@ module _ (m d : ℕ) (cs : List ℤ) {start step δ ε : ℤ} {p q : ℕ}
     row1 = (f ∙ ap₂ (λ x y. chosen x y) eε eq) j;
   }
 
--- those of degrees 4 and 5, whose rows begin from p on
+-- the chosen rows of degrees 4 and 5, which begin from p on
 module _ (m d s : ℕ) (cs : List ℤ) {start step δ ε ζ η : ℤ} {p : ℕ}
     (es : start ≡ pos 10000 *ℤ (pos m *ℤ entry cs 0) +ℤ raiseOf m s) (et : step ≡ pos 10000 *ℤ (entry cs d -ℤ entry cs 0))
     (eδ : δ ≡ difference cs 0) (eε : ε ≡ difference cs 1) (eζ : ζ ≡ difference cs 2) (eη : η ≡ difference cs 3) (ep : p ≡ rowPlace d 0) where
   pub higher-terms-are : {a b c e : ℕ} → a ≡ chosen δ p → b ≡ chosen ε (p + 27) → c ≡ chosen ζ (p + 54) → e ≡ chosen η (p + 81)
-      → _≡_ {A = Higher} (record {
+      → _≡_ {A = HigherTerms} (record {
         degree = d;
         start = start;
         step = step;
@@ -140,7 +140,7 @@ module _ {B : ℕ} (f l : ℤ) (hf : natAbs f ≤ B) (hl : natAbs l ≤ B) where
   chord-size {m} {i} h = let e : m - i + i ≡ m = omega arith in
       subst (λ (k : ℕ). natAbs (pos 10000 *ℤ (pos k *ℤ f) +ℤ pos i *ℤ (pos 10000 *ℤ (l -ℤ f))) ≤ 10000 * (k * B)) e (mixed-size (m - i) i)
 
-pub terms-within : (m d s : ℕ) {cs : List ℤ} → d ≤ 3 → Each (2 ^ 20 * 2 ^ s) cs → Within m s (termsOf m d cs)
+pub terms-within : (m d s : ℕ) {cs : List ℤ} → d ≤ 3 → Each (2 ^ 20 * 2 ^ s) cs → TermsWithin m s (termsOf m d cs)
 unfolding termsOf
 terms-within m d s {cs} most h = record {
   start = start-size (entry cs 0) (entry cs d) (h .under 0) (h .under d) m;

@@ -25,7 +25,7 @@ use Rattle.bound_enclosure.specs.Bounds.{exchanged, chord, rowSum}
 use Rattle.bound_enclosure.specs.AtDepth.{lowOf, highOf}
 use Rattle.bound_enclosure.proofs.Reduced.{low-reduced, high-reduced}
 use Rattle.bound_coordinate.specs.Terms.{chosen, termsOf, chordAt, denominatorOf, lowBy, highBy}
-use Rattle.bound_coordinate.specs.Higher.{raiseOf, higherOf, higherLow, higherHigh}
+use Rattle.bound_coordinate.specs.HigherTerms.{raiseOf, higherOf, higherLow, higherHigh}
 use Rattle.bound_coordinate.proofs.Coordinates.{over-positive}
 use Rattle.bound_coordinate.proofs.Quotients.{denominator-positive}
 use Rattle.bound_coordinate.proofs.Raised.{floor-off, ceiling-off}

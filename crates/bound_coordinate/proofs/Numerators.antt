@@ -22,9 +22,9 @@ use Rattle.integers.proofs.Machine.{Held, fits!, is!, held-pos, held-count, hel
 use Rattle.curve_halves.specs.Sizes.{Each}
 use Rattle.bound_coordinate.specs.Inside.{Small, Computed}
 use Rattle.bound_coordinate.specs.declared.terms.Terms.{Terms}
-use Rattle.bound_coordinate.specs.declared.higher.Higher.{Higher}
+use Rattle.bound_coordinate.specs.declared.higher.HigherTerms.{HigherTerms}
 use Rattle.bound_coordinate.specs.Terms.{Computable, ComputableAt, NumeratorAt, chordAt, pairOf, numeratorOf, denominatorOf}
-use Rattle.bound_coordinate.specs.Higher.{raiseOf, HigherComputable, HigherComputableAt, higherNumerator, Raised, RoundedDown}
+use Rattle.bound_coordinate.specs.HigherTerms.{raiseOf, HigherComputable, HigherComputableAt, higherNumerator, Raised, RoundedDown}
 use Rattle.bound_coordinate.proofs.Coordinates.{pieces, divisors, bounded, held-left, computed-as, restored}
 use Rattle.bound_coordinate.proofs.Quotients.{factor-some, denominator-positive, ceiling-raised}
 use Rattle.bound_coordinate.proofs.Raised.{raised-of, raise-most}
@@ -103,7 +103,7 @@ module _ {i : ℕ} {rows : List ℤ} {t : Terms} (h : Most i rows t) (p q : ℕ)
 unraised : (x R : ℤ) → natAbs x ≤ natAbs (x -ℤ R) + natAbs R
 unraised x R = le-trans (le-of-eq (ap natAbs (ring (x ∷ R ∷ []) {a = x} {b = x -ℤ R +ℤ R} (search sides depth 20) refl))) (abs-add (x -ℤ R) R)
 
-pub record HigherMost (i : ℕ) (rows : List ℤ) (t : Higher) : Type 0 where
+pub record HigherMost (i : ℕ) (rows : List ℤ) (t : HigherTerms) : Type 0 where
   pub each : Each 72000 rows
   pub start : Small (2 ^ 61) (t .start)
   pub step : Small (20000 * 2 ^ 40) (t .step)
@@ -113,7 +113,7 @@ pub record HigherMost (i : ℕ) (rows : List ℤ) (t : Higher) : Type 0 where
   pub difference2 : Small (2 ^ 42) (t .difference2)
   pub difference3 : Small (2 ^ 42) (t .difference3)
 
-pub higher-most-of : {i : ℕ} {rows : List ℤ} {t : Higher} → HigherComputableAt i rows t → HigherMost i rows t
+pub higher-most-of : {i : ℕ} {rows : List ℤ} {t : HigherTerms} → HigherComputableAt i rows t → HigherMost i rows t
 higher-most-of {t} a =
     let h = a .computable in
     let w = h .within in
@@ -135,7 +135,7 @@ higher-most-of {t} a =
     }
 
 -- the number that is divided, from the sum x of the first pair
-module _ {i : ℕ} {rows : List ℤ} {t : Higher} (h : HigherMost i rows t) (at : ℕ) {x : ℤ}
+module _ {i : ℕ} {rows : List ℤ} {t : HigherTerms} (h : HigherMost i rows t) (at : ℕ) {x : ℤ}
     (hx : Computed (144000 * 2 ^ 42) (pairOf rows (t .row0 + at) (t .row1 + at) (stored w64 (t .difference0)) (stored w64 (t .difference1))) x) where
   abbrev line : ℤ
   line = stored w64 (stored w64 (t .start) +ℤ stored w64 (toZ w64 i *ℤ stored w64 (t .step)))
@@ -235,7 +235,7 @@ either-size : (b : Bool) {x : ℤ} (s : Size x) → natAbs (cond b (pos 0) x) �
 either-size true s = zero-le
 either-size false s = s .under
 
-pub higher-dividend : {m s c i : ℕ} (rows : List ℤ) {t : Higher} (at : ℕ) → HigherComputable m s c rows t → i ≤ m
+pub higher-dividend : {m s c i : ℕ} (rows : List ℤ) {t : HigherTerms} (at : ℕ) → HigherComputable m s c rows t → i ≤ m
     → HigherDividend m s c (higherNumerator rows t at i)
 higher-dividend {m} {s} {c} {i} rows {t} at h hi = record {
   size = le-trans scaled (omega (arith, mul-left-comm m (2 ^ 20) (2 ^ s)));

@@ -3,7 +3,7 @@
 use mathlib.Core.Path.{_≡_, refl, sym, _∙_, ap, subst}
 use mathlib.Core.Bool.{true}
 use mathlib.Core.List.{[], _∷_}
-use Prim.Native.Nat.{ℕ, _+_, _*_, _/_, _%_, _^_, _≤_, _<_, suc-le-suc}
+use Prim.Native.Nat.{ℕ, _+_, _*_, _/_, _%_, _^_, _≤_, suc-le-suc}
 use native.Mathlib.Nat.{le-trans, le-refl, le-of-eq, lt-of-le-of-lt, mul-le-mul, mul-assoc, mul-comm, mul-right-comm, le-of-mul-le-mul-right}
 use native.Mathlib.Nat.{div-mul-le-self, div-le-of-le-mul, mul-div-mul-right, div-div-eq-div-mul}
 use lib.Dec.{T, lit<}
@@ -20,9 +20,8 @@ use Rattle.integers.proofs.Order.{NonNeg, natural, nonneg, gap, le-by, pos-le, 
 use Rattle.integers.proofs.Machine.{Held, fits!, is!, unsigned!, held-pos, held-neg, held-count, held-add, held-stored, held-parameter}
 use Rattle.integers.proofs.Size.{abs-high, abs-low, abs-within}
 use Rattle.integers.proofs.Rounding.{floor-raised}
-use Rattle.bound_coordinate.specs.Inside.{Computed}
 use Rattle.bound_coordinate.specs.Terms.{denominatorOf}
-use Rattle.bound_coordinate.specs.Higher.{raiseOf, Raised, RoundedDown}
+use Rattle.bound_coordinate.specs.HigherTerms.{raiseOf, Raised, RoundedDown}
 use Rattle.bound_coordinate.proofs.Coordinates.{bounded, pieces, held-left}
 use Rattle.bound_coordinate.proofs.Quotients.{factor-some, ceiling-raised}
 

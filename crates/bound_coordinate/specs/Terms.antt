@@ -33,7 +33,7 @@ abbrev pub chordAt : (start step : ℤ) → ℕ → ℤ
 chordAt start step i = start +ℤ pos i *ℤ step
 
 -- the terms of m pieces, over 2^s, of a coordinate within 2^20
-pub record Within (m s : ℕ) (t : Terms) : Type 0 where
+pub record TermsWithin (m s : ℕ) (t : Terms) : Type 0 where
   pub start : natAbs (t .start) ≤ 10000 * (m * (2 ^ 20 * 2 ^ s))
   pub step : natAbs (t .step) ≤ 20000 * (2 ^ 20 * 2 ^ s)
   pub chord : (i : ℕ) → i ≤ m → natAbs (chordAt (t .start) (t .step) i) ≤ 10000 * (m * (2 ^ 20 * 2 ^ s))
@@ -47,20 +47,20 @@ pub record Within (m s : ℕ) (t : Terms) : Type 0 where
 pub record Computable (m q s c : ℕ) (rows : List ℤ) (t : Terms) : Type 0 where
   pub small : (p : ℕ) → p < 108 → natAbs (entry rows p) ≤ 5000 * m
   pub whole : length rows ≡ 297
-  pub within : Within m s t
+  pub within : TermsWithin m s t
   pub shallow : s ≤ 24
   pub scaled : c * q ≡ 5040
   pub most : m ≤ 8
   pub less : m ≤ q
   pub few : q ≤ 48
 
--- the same at break point i, for some number of pieces
+-- the bounds at break point i can be computed, for some number of pieces
 pub record ComputableAt (q s c i : ℕ) (rows : List ℤ) (t : Terms) : Type 0 where
   pub m : ℕ
   pub computable : Computable m q s c rows t
   pub point : i ≤ m
 
--- and for some divisor
+-- the number that is divided at break point i can be computed, for some divisor
 pub record NumeratorAt (i : ℕ) (rows : List ℤ) (t : Terms) : Type 0 where
   pub q : ℕ
   pub s : ℕ

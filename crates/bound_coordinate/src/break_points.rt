@@ -9,10 +9,10 @@ ghost use Rattle.bound_coordinate.specs.Terms.{ComputableAt, NumeratorAt
 ghost use Rattle.bound_coordinate.specs.Terms.{lowBy, highBy};
 use crate::terms::Terms;
 
-// 3150000 · 2^28, and 2^28: no bound is larger in size.
-const RAISE: i64 = 845571686400000;
+// A multiple of 3150000 that no dividend passes in size, and 2^28, which no bound passes in size.
+const RAISE: i64 = 3150000 << 28;
 
-const LARGEST: i64 = 268435456;
+const LARGEST: i64 = 1 << 28;
 
 // The number that is divided at break point i, for rows read from places p and q.
 fn numerator(rows: &[i64], t: Terms, p: usize, q: usize, i: usize) -> i64

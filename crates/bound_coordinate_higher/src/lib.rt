@@ -6,15 +6,15 @@ ghost use Rattle.integers.specs.Entry.{entry};
 ghost use Rattle.curve_halves.specs.Sizes.{Each};
 ghost use Rattle.bound_row_table.specs.Inside.{rowPlace};
 ghost use Rattle.bound_coordinate.specs.Inside.{HigherBoundable, Small, Computed};
-ghost use Rattle.bound_coordinate.specs.Terms.{chosen, pairOf};
-ghost use Rattle.bound_coordinate.specs.Higher.{higherOf, HigherComputable, HigherComputableAt};
-ghost use Rattle.bound_coordinate.specs.Higher.{higherNumerator, Raised, RoundedDown, higherLow, higherHigh};
-use bound_coordinate::higher::Higher;
+ghost use Rattle.bound_coordinate.specs.Terms.{pairOf};
+ghost use Rattle.bound_coordinate.specs.HigherTerms.{higherOf, HigherComputable, HigherComputableAt};
+ghost use Rattle.bound_coordinate.specs.HigherTerms.{higherNumerator, Raised, RoundedDown, higherLow, higherHigh};
+use bound_coordinate::higher::HigherTerms;
 use bound_coordinate::terms::difference_at;
 use bound_coordinate::terms::row_for;
 
 // 2^28: no bound is larger in size.
-const LARGEST: i64 = 268435456;
+const LARGEST: i64 = 1 << 28;
 
 // The last control value.
 fn last_of(c: [i64; 6], degree: u32) -> i64
@@ -33,7 +33,7 @@ fn place_of(degree: u32) -> usize
 }
 
 // The terms of a coordinate for m pieces, over 2^shift.
-pub fn higher_of(c: [i64; 6], degree: u32, shift: u32, m: usize) -> Higher
+pub fn higher_of(c: [i64; 6], degree: u32, shift: u32, m: usize) -> HigherTerms
     requires { ⌜ (HigherBoundable c degree) × (m ≤ 8) × (shift ≤ 20) ⌝ }
     ensures { λ r. ⌜ r ≡ higherOf m degree shift c ⌝ }
 {
@@ -44,7 +44,7 @@ pub fn higher_of(c: [i64; 6], degree: u32, shift: u32, m: usize) -> Higher
     let first = c[0];
     let place = place_of(degree);
     let last = last_of(c, degree);
-    Higher {
+    HigherTerms {
         degree,
         start: 10000 * (m as i64 * first) + ((LARGEST * (625 * m as i64)) << shift),
         step: 10000 * (last - first),
@@ -69,7 +69,7 @@ fn pair(rows: &[i64], p: usize, q: usize, x: i64, y: i64) -> i64
 }
 
 // The number that is divided at break point i, for rows read `at` places on.
-fn numerator(rows: &[i64], t: Higher, at: usize, i: usize) -> i64
+fn numerator(rows: &[i64], t: HigherTerms, at: usize, i: usize) -> i64
     requires { ⌜ (HigherComputableAt i (now rows) t) × (at < 26) ⌝ }
     ensures { λ r. ⌜ r ≡ higherNumerator (now (rows .entry)) t at i ⌝ }
 {
@@ -93,7 +93,7 @@ fn rounded_down(n: i64, shift: u32, scale: usize) -> i64
 }
 
 // The low at break point i, over 2^shift; the scale is 5040 over m.
-pub fn low_at(rows: &[i64], t: Higher, shift: u32, scale: usize, m: usize, i: usize) -> i64
+pub fn low_at(rows: &[i64], t: HigherTerms, shift: u32, scale: usize, m: usize, i: usize) -> i64
     requires { ⌜ (HigherComputable m shift scale (now rows) t) × (i ≤ m) ⌝ }
     ensures { λ r. ⌜ Computed (2 ^ 28) (higherLow m shift (now (rows .entry)) t i) r ⌝ }
 {
@@ -102,7 +102,7 @@ pub fn low_at(rows: &[i64], t: Higher, shift: u32, scale: usize, m: usize, i: us
 }
 
 // The high at break point i: one less than the divisor is added before it is rounded down.
-pub fn high_at(rows: &[i64], t: Higher, shift: u32, scale: usize, m: usize, i: usize) -> i64
+pub fn high_at(rows: &[i64], t: HigherTerms, shift: u32, scale: usize, m: usize, i: usize) -> i64
     requires { ⌜ (HigherComputable m shift scale (now rows) t) × (i ≤ m) ⌝ }
     ensures { λ r. ⌜ Computed (2 ^ 28) (higherHigh m shift (now (rows .entry)) t i) r ⌝ }
 {

@@ -22,7 +22,7 @@ use Rattle.curve_nodes.specs.Differences.{difference}
 use Rattle.bound_rows.specs.Rows.{Row}
 use Rattle.bound_rows.specs.Table.{rowsOf}
 use Rattle.bound_enclosure.specs.Bounds.{chord, rowSum, high, low}
-use Rattle.bound_rows.specs.Hats.{hat}
+use Rattle.bound_rows.specs.Antidifferences.{antidifference}
 use Rattle.bound_rows.specs.Joined.{Place, joined}
 use Rattle.bound_enclosure.specs.Enclosed.{Encloses}
 use Rattle.bound_rows.proofs.Negated.{negated, value-negated}
@@ -51,18 +51,18 @@ module _ (m d : ℕ) (hd : 0 < d) {i a b p r : ℕ} (hi : i < m) (w : Place m i 
       nonneg-by (pos d ∷ pow (pos (p + r)) (d - 1) ∷ pos a ∷ pos b ∷ entry (ρ .high) i ∷ entry (ρ .high) (suc i) ∷ v ∷ δ ∷ [])
       (gap (high-line m d hd h hi w ρ t) ×₀ gap (g tt)) (search sides depth 40 fits 9999) refl
 
-  sums : (ρs : List Row) (k : ℕ) (cs : List ℤ) → T (every (λ k ρ. every-below m (passes m d (hat d k) ρ)) k ρs)
+  sums : (ρs : List Row) (k : ℕ) (cs : List ℤ) → T (every (λ k ρ. every-below m (passes m d (antidifference d k) ρ)) k ρs)
       → NonNeg (weight *ℤ joined (λ j. rowSum ρs j k cs) i a b -ℤ pos 10000 *ℤ hatSum (pos p) (pos r) d (length ρs) k cs)
   unfolding rowSum hatSum
   sums [] k cs t = nonneg-by (pos d ∷ pow (pos (p + r)) (d - 1) ∷ pos a ∷ pos b ∷ []) (natural 0) (search sides depth 40 fits 9999) refl
   sums (ρ ∷ ρs) k cs t =
       let δ = difference cs k in
-      let first = every-below m (passes m d (hat d k) ρ) in
-      let rest = every (λ k ρ. every-below m (passes m d (hat d k) ρ)) (suc k) ρs in
+      let first = every-below m (passes m d (antidifference d k) ρ) in
+      let rest = every (λ k ρ. every-below m (passes m d (antidifference d k) ρ)) (suc k) ρs in
       let x : ℕ → ℤ = λ j. cond (ltZ δ (pos 0)) (entry (ρ .low) j) (entry (ρ .high) j) in
       nonneg-by (pos d ∷ pow (pos (p + r)) (d - 1) ∷ pos a ∷ pos b ∷ δ ∷ x i ∷ x (suc i) ∷ rowSum ρs i (suc k) cs ∷ rowSum ρs (suc i) (suc k) cs
-      ∷ value (pos p) (pos r) d (hat d k) ∷ hatSum (pos p) (pos r) d (length ρs) (suc k) cs ∷ [])
-      (term (hat d k) ρ (below m (passes m d (hat d k) ρ) (and-left first rest t) i hi) δ (ltZ δ (pos 0)) ltZ-yes ltZ-no
+      ∷ value (pos p) (pos r) d (antidifference d k) ∷ hatSum (pos p) (pos r) d (length ρs) (suc k) cs ∷ [])
+      (term (antidifference d k) ρ (below m (passes m d (antidifference d k) ρ) (and-left first rest t) i hi) δ (ltZ δ (pos 0)) ltZ-yes ltZ-no
       +₀ sums ρs (suc k) cs (and-right first rest t))
       (search sides depth 40 fits 9999) refl
 

@@ -3,7 +3,7 @@ use mathlib.Core.Path.{_≡_, refl, _∙_, ap, subst}
 use mathlib.Core.Bool.{Bool, true, cond, _&&_}
 use mathlib.Core.List.{List, [], _∷_}
 use Prim.Native.Nat.{ℕ, suc, _+_, _*_, _-_, _^_, _≤_, _<_, zero-le, suc-le-suc}
-use native.Mathlib.Nat.{le-refl, le-trans, mul-le-mul, mul-assoc, one-mul}
+use native.Mathlib.Nat.{le-refl, le-trans, mul-le-mul, mul-assoc}
 use native.Mathlib.Omega.{arith}
 use lib.Dec.{T, lit≤}
 use lib.ListN.{length}
@@ -107,9 +107,3 @@ module _ (d depth M : ℕ) (cs : List ℤ) (least : 1 ≤ d) (most : d ≤ 3) wh
       → (pos 125 *ℤ pos (4 ^ depth) *ℤ (highOf standard d depth cs i -ℤ lowOf standard d depth cs i))
       ≤ℤ (pos 178 *ℤ pos M +ℤ pos 250 *ℤ pos (4 ^ depth))
   width = within (4 ^ depth)
-
-  -- from the differences of the node itself
-  pub width-most : ((k : ℕ) → k < d - 1 → natAbs (difference cs k) ≤ 2 ^ (d * depth) * M)
-      → (i : ℕ) → i ≤ pieces → (pos 125 *ℤ (highOf standard d depth cs i -ℤ lowOf standard d depth cs i)) ≤ℤ (pos 178 *ℤ pos M +ℤ pos 250)
-  width-most small i hi = le-by (pos M ∷ highOf standard d depth cs i ∷ lowOf standard d depth cs i ∷ [])
-      (gap (within 1 (λ k h. rw one-mul (small k h)) i hi)) (search sides depth 20) refl

@@ -1,6 +1,8 @@
 -- The low and the high of a coordinate at a break point (document 01, "Enclosure rows"). Nothing here fixes the number
 -- m of pieces, the rows, one for each second difference, or the denominator D over which the control values `cs` of
--- degree d are whole.
+-- degree d are whole. The enclosure by second differences: D. Lutterkort, "Envelopes of Nonlinear Geometry" (thesis,
+-- Purdue, 2000); D. Lutterkort and J. Peters, "Tight linear envelopes for splines" (Numerische Mathematik 89, 2001); as
+-- here in J. Peters and X. Wu, "SLEVEs for planar spline curves" (CAGD 21, 2004), Lemma 3.2 and Definition 9.1.
 use mathlib.Core.Bool.{cond}
 use mathlib.Core.List.{List, [], _∷_}
 use Prim.Native.Nat.{ℕ, suc}

@@ -1,5 +1,6 @@
 -- What "encloses" means (document 01, "Enclosure rows"): the lows and the highs at the break points, joined by straight
--- lines, against the curve's value at each rational parameter, as for the rows (`Joined` of `bound_rows`).
+-- lines, against the curve's value at each rational parameter, as for the rows (`Joined` of `bound_rows`). Lemma 3.2
+-- of J. Peters and X. Wu, "SLEVEs for planar spline curves" (CAGD 21, 2004), claims it.
 use mathlib.Core.List.{List}
 use Prim.Native.Nat.{ℕ, _+_, _-_}
 use lib.IntN.{ℤ, pos, _*ℤ_, pow}

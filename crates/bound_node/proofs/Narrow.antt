@@ -1,5 +1,5 @@
 -- What the test says of a node that meets the tolerance: at every break point width squared plus height squared is at most the tolerance squared.
-use mathlib.Core.Path.{_≡_, refl, sym, ap₂, subst}
+use mathlib.Core.Path.{_≡_, refl, sym, subst}
 use mathlib.Core.Bool.{Bool, true, false}
 use mathlib.Core.Logic.{⊎-elim}
 use mathlib.Core.List.{[], _∷_}
@@ -9,14 +9,14 @@ use native.Mathlib.Omega.{arith}
 use lib.Dec.{T}
 use lib.IntN.{ℤ, pos, natAbs, _+ℤ_, _-ℤ_, _*ℤ_}
 use lib.Signed.{ltZ, _≤ℤ_, _<ℤ_, leZ-yes}
-use Rattle.setting.specs.Setting.{Setting, HasRows, scale, breakPoints, listsOf, mostDegree, degreePieces}
+use Rattle.setting.specs.Setting.{Setting, HasRows, scale, breakPoints, mostDegree, degreePieces}
 use Rattle.setting.proofs.Scales.{scaled-some}
 use Rattle.integers.specs.Squares.{squared}
 use Rattle.integers.proofs.Ring.{sides}
 use Rattle.integers.proofs.Order.{NonNeg, natural, nonneg, gap, le-by, lt-le, pos-lt, times-positive, *ℤ-cancel, ≤ℤ-trans, _+₀_, _×₀_}
-use Rattle.integers.proofs.Squares.{square-mono, root-mono, left-square, right-square}
+use Rattle.integers.proofs.Squares.{square-mono}
 use Rattle.integers.proofs.Table.{and-left, and-right, both-pass}
-use Rattle.integers.proofs.Ranges.{T-true, lt-yes, lt-no, yes-le, no-le}
+use Rattle.integers.proofs.Ranges.{T-true, lt-yes, no-le}
 use Rattle.curve_nodes.specs.declared.Curve.{Curve}
 use Rattle.curve_nodes.specs.Differences.{difference}
 use Rattle.bound_node.specs.declared.node_boxes.WideBox.{WideBox}
@@ -47,9 +47,6 @@ module _ (tolerance : ℤ) (b : WideBox) where
   pub longer-wide : ltZ (squared tolerance) across ≡ true → narrow tolerance b ≡ false
   longer-wide e = no-le {a = across} {b = squared tolerance} (lt-yes e)
 
-  pub shorter-narrow : ltZ (squared tolerance) across ≡ false → narrow tolerance b ≡ true
-  shorter-narrow e = yes-le {a = across} {b = squared tolerance} (lt-no e)
-
 -- ---- the test of several boxes
 module _ (tolerance : ℤ) (box : ℕ → WideBox) where
   each-narrow : (n : ℕ) → T (allNarrow n tolerance box) → (i : ℕ) → i < n → T (narrow tolerance (box i))
@@ -79,30 +76,10 @@ module _ (σ : Setting) (tolerance : ℤ) (depth : ℕ) (c : Curve) where
   unfolding meets
   wide-fails i h e = refuted (λ m. subst T e (each-narrow tolerance (boxAt σ depth c) (breakPoints σ) (subst T (sym m) tt) i (suc-le-suc h)))
 
-  -- no width and no height is above a tolerance that is not negative
-  module _ (some : NonNeg tolerance) (n : Narrow σ tolerance depth c) (i : ℕ) (hi : i ≤ σ .pieces) where
-    abbrev w : ℤ
-    w = highOf σ (c .degree) depth (c .x) i -ℤ lowOf σ (c .degree) depth (c .x) i
-
-    abbrev h : ℤ
-    h = highOf σ (c .degree) depth (c .y) i -ℤ lowOf σ (c .degree) depth (c .y) i
-
-    pub narrow-x : (highOf σ (c .degree) depth (c .x) i -ℤ lowOf σ (c .degree) depth (c .x) i) ≤ℤ tolerance
-    narrow-x = root-mono some (left-square w h (n .each i hi))
-
-    pub narrow-y : (highOf σ (c .degree) depth (c .y) i -ℤ lowOf σ (c .degree) depth (c .y) i) ≤ℤ tolerance
-    narrow-y = root-mono some (right-square w h (n .each i hi))
-
 -- a node that meets T meets every larger one
 pub meets-looser : (σ : Setting) {T U : ℤ} → NonNeg T → T ≤ℤ U → (depth : ℕ) (c : Curve) → meets σ T depth c ≡ true → meets σ U depth c ≡ true
 meets-looser σ {T} {U} some h depth c e =
     narrow-meets σ U depth c (record { each = λ i l. ≤ℤ-trans (meets-narrow σ T depth c e .each i l) (square-mono some h) })
-
--- only the number of pieces and the scale count
-pub meets-pieces : (σ τ : Setting) → σ .pieces ≡ τ .pieces → σ .sixths ≡ τ .sixths → (tolerance : ℤ) (depth : ℕ) (c : Curve)
-    → meets σ tolerance depth c ≡ meets τ tolerance depth c
-unfolding meets boxAt
-meets-pieces σ τ e f tolerance depth c = ap₂ (λ (m : ℕ) (b : Bool). meets (listsOf m b) tolerance depth c) e f
 
 -- ---- the width law of a curve: with Z = 10000 z, a width w and a height h, Z w and Z h are at most X, and 2 X² ≤ (Z T)²
 flat-narrow : {Z X w h : ℤ} (t : ℤ) → pos 0 <ℤ Z → NonNeg X → NonNeg w → NonNeg h → (Z *ℤ w) ≤ℤ X → (Z *ℤ h) ≤ℤ X

@@ -9,7 +9,8 @@ use Rattle.curve_nodes.specs.declared.Curve.{Curve}
 use Rattle.bound_enclosure.specs.AtDepth.{lowOf, highOf}
 use Rattle.bound_node.specs.declared.node_boxes.WideBox.{WideBox}
 
--- the box at break point i of a curve at depth k
+-- the box at break point i of a curve at depth k: the point enclosure of J. Peters and X. Wu, "SLEVEs for planar spline
+-- curves" (CAGD 21, 2004), section 4
 unfoldable pub boxAt : Setting → ℕ → Curve → ℕ → WideBox
 boxAt σ k c i = record {
   «x_low» = lowOf σ (c .degree) k (c .x) i;

@@ -7,7 +7,7 @@ use mathlib.Core.List.{List, [], _∷_}
 use Prim.Native.Nat.{ℕ, zero, suc, _+_, _-_, _*_, _≤_, _<_, max, suc-le-suc}
 use native.Mathlib.Nat.{le-refl, le-of-lt, mul-le-mul, max-eq-left, max-eq-right}
 use native.Mathlib.Omega.{arith}
-use lib.Dec.{T, eqb, leb, eqb→eq, leb→le}
+use lib.Dec.{T, leb, eqb→eq, leb→le}
 use lib.IntN.{ℤ, pos, natAbs, _+ℤ_, _-ℤ_}
 use lib.ListN.{getD}
 use lib.Signed.{ltZ, _≤ℤ_, clashℤ}
@@ -200,9 +200,6 @@ module _ (σ : Setting) (rows : HasRows (σ .pieces)) (tolerance : ℤ) {depth :
 
   abbrev f : ℕ
   f = times (σ .sixths)
-
-  abbrev width : List ℤ → ℕ → ℤ
-  width cs i = squared (highOf σ (c .degree) depth cs i -ℤ lowOf σ (c .degree) depth cs i)
 
   -- no break point is wider than both corners are
   under-corners : (cs : List ℤ) {ns : List ℕ} → ns ≡ sumsOf (σ .sixths) (σ .pieces) (c .degree) cs → {n : ℕ} → n ≡ max (getD ns 0 0) (getD ns 1 0)

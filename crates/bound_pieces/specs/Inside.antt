@@ -15,8 +15,8 @@ use Rattle.bound_rows.specs.Rule.{gapOf}
 use Rattle.bound_row_table.specs.Inside.{Copied}
 use Rattle.bound_coordinate.specs.declared.terms.Terms.{Terms}
 use Rattle.bound_coordinate.specs.Terms.{lowBy, highBy}
-use Rattle.bound_coordinate.specs.declared.higher.Higher.{Higher}
-use Rattle.bound_coordinate.specs.Higher.{higherLow, higherHigh}
+use Rattle.bound_coordinate.specs.declared.higher.HigherTerms.{HigherTerms}
+use Rattle.bound_coordinate.specs.HigherTerms.{higherLow, higherHigh}
 use Rattle.bound_pieces.specs.declared.Pieces.{Pieces}
 use Rattle.bound_pieces.specs.declared.Gaps.{Gaps}
 use Rattle.bound_node.specs.declared.node_boxes.WideBox.{WideBox}
@@ -140,7 +140,7 @@ abbrev pub settingOf : Pieces → Setting
 settingOf p = listsOf (p .m) (p .sixths)
 
 -- what goes with m pieces, and their rows, copied out of the table
-pub record Ready (p : Pieces) (rows : List ℤ) : Type 0 where
+pub record PiecesReady (p : Pieces) (rows : List ℤ) : Type 0 where
   pub has : HasRows (p .m)
   pub is : p ≡ piecesOf (p .m) (p .sixths)
   pub copied : Copied (p .m) rows
@@ -150,7 +150,7 @@ abbrev pub acrossBy : (q s : ℕ) → List ℤ → (x y : Terms) → ℕ → ℤ
 acrossBy q s rows x y i =
     squared (highBy q s rows x i -ℤ lowBy q s rows x i) +ℤ squared (highBy q s rows y i -ℤ lowBy q s rows y i)
 
-abbrev pub higherAcrossBy : (m s : ℕ) → List ℤ → (x y : Higher) → ℕ → ℤ
+abbrev pub higherAcrossBy : (m s : ℕ) → List ℤ → (x y : HigherTerms) → ℕ → ℤ
 higherAcrossBy m s rows x y i =
     squared (higherHigh m s rows x i -ℤ higherLow m s rows x i)
     +ℤ squared (higherHigh m s rows y i -ℤ higherLow m s rows y i)

@@ -20,7 +20,7 @@ use Rattle.integers.proofs.Size.{abs-mul}
 use Rattle.curve_halves.specs.Sizes.{Each}
 use Rattle.bound_rows.specs.Rows.{Row, rowAt}
 use Rattle.bound_rows.specs.Table.{table, fewer, startOf, rowFrom, rowsAt, rowsOf}
-use Rattle.bound_row_table.specs.Inside.{blocksOf, rowPlace, tripleAt, numberAt, Put, PutRows, Copied}
+use Rattle.bound_row_table.specs.Inside.{blocksOf, rowPlace, tripleAt, copiedNumber, Put, PutRows, Copied}
 use Rattle.bound_row_table.proofs.Entries.{entries-entry, table-entry-small, first-entry-small}
 
 -- the entries of fewer pieces, of one second difference
@@ -68,7 +68,7 @@ module _ {at : ℕ} {number : ℕ → ℤ} {l l′ : List ℤ} where
           (lt-or-ge q (at + n))
 
 -- ---- the numbers of a row, three a break point
-number-at : (m : ℕ) (ρ : Row) {p : ℕ} (i j : ℕ) → p ≡ 3 * i + j → j < 3 → numberAt m ρ p ≡ pos m *ℤ tripleAt ρ i j
+number-at : (m : ℕ) (ρ : Row) {p : ℕ} (i j : ℕ) → p ≡ 3 * i + j → j < 3 → copiedNumber m ρ p ≡ pos m *ℤ tripleAt ρ i j
 number-at m ρ {p} i j e h =
     let f : p / 3 ≡ i = omega arith in
     let g : p % 3 ≡ j = omega arith in
@@ -84,15 +84,15 @@ module _ (m from : ℕ) where
   -- from a list that is the table
   module _ {t : List ℤ} (e : t ≡ table) where
     number-is : (i j : ℕ) {p : ℕ} → i ≤ m → j < 3 → p ≡ 3 * i + j
-        → pos m *ℤ cond (eqb j 1) (entry t (from + (m + 1) + i)) (entry t (from + i)) ≡ numberAt m (rowFrom m from) p
+        → pos m *ℤ cond (eqb j 1) (entry t (from + (m + 1) + i)) (entry t (from + i)) ≡ copiedNumber m (rowFrom m from) p
     number-is i j hi hj place =
         rw e (ap (λ x. pos m *ℤ x) (sym (triple-entry i j hi)) ∙ sym (number-at m (rowFrom m from) i j place hj))
 
-    -- those of one more break point
+    -- the rows of one more break point
     pub row-more : {at i : ℕ} {l l′ : List ℤ} {x y z : ℤ} → i ≤ m → at + 3 * (m + 1) ≤ length l
         → x ≡ pos m *ℤ entry t (from + i) → y ≡ pos m *ℤ entry t (from + (m + 1) + i) → z ≡ pos m *ℤ entry t (from + i)
-        → Put at (3 * i) (numberAt m (rowFrom m from)) l l′
-        → Put at (3 * (i + 1)) (numberAt m (rowFrom m from)) l (set (set (set l′ (at + 3 * i) x) (at + 3 * i + 1) y) (at + 3 * i + 2) z)
+        → Put at (3 * i) (copiedNumber m (rowFrom m from)) l l′
+        → Put at (3 * (i + 1)) (copiedNumber m (rowFrom m from)) l (set (set (set l′ (at + 3 * i) x) (at + 3 * i + 1) y) (at + 3 * i + 2) z)
     row-more {i = i} h room ex ey ez p =
         put-more (3 * i + 2) (omega arith) (omega arith) (omega arith) (ez ∙ number-is i 2 h (omega arith) refl)
         (put-more (3 * i + 1) (omega arith) (omega arith) (omega arith) (ey ∙ number-is i 1 h (omega arith) refl)
@@ -100,7 +100,7 @@ module _ (m from : ℕ) where
 
   -- the entries of the row are at most B in size
   number-small : {B : ℕ} → ((q : ℕ) → q < from + 2 * (m + 1) → natAbs (entry table q) ≤ B)
-      → (p : ℕ) → p < 3 * (m + 1) → natAbs (numberAt m (rowFrom m from) p) ≤ B * m
+      → (p : ℕ) → p < 3 * (m + 1) → natAbs (copiedNumber m (rowFrom m from) p) ≤ B * m
   number-small {B} entries p h =
       let x = tripleAt (rowFrom m from) (p / 3) (p % 3) in
       let i : p / 3 ≤ m = omega arith in
@@ -125,7 +125,7 @@ rows-none = record {
 
 -- one more
 pub rows-more : {at n m from : ℕ} {l l′ l″ : List ℤ} → m ≤ 8
-    → Put (at + 27 * n) (3 * (m + 1)) (numberAt m (rowFrom m (from + n * (2 * (m + 1))))) l′ l″
+    → Put (at + 27 * n) (3 * (m + 1)) (copiedNumber m (rowFrom m (from + n * (2 * (m + 1))))) l′ l″
     → PutRows at n m from l l′ → PutRows at (n + 1) m from l l″
 rows-more {at} {n} {m} {from} {l} {l′} {l″} most p h = record {
   row = one;
@@ -162,7 +162,7 @@ module _ {m at : ℕ} (d : ℕ) {l l′ : List ℤ} (p : PutRows at (d - 1) m (s
 place-is : (d k : ℕ) → k < d - 1 → rowPlace d k ≡ blocksOf d + 27 * k
 place-is d k h = ap (λ (b : Bool). cond b (blocksOf d + 27 * k) 81) (lt-ltb (k + 1) d (omega arith))
 
--- those of degrees 2 and 3 stand first
+-- the rows of degrees 2 and 3 stand first
 pub low-place : (d k : ℕ) → d ≤ 3 → k ≤ 1 → rowPlace d k ≤ 81
 low-place d k l hk = rw (lt-ltb d 4 (suc-le-suc l)) (cases (ltb (k + 1) d) (ltb d 3))
   where

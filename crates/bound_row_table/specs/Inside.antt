@@ -27,8 +27,8 @@ abbrev pub tripleAt : Row → (i j : ℕ) → ℤ
 tripleAt ρ i j = cond (eqb j 1) (entry (ρ .low) i) (entry (ρ .high) i)
 
 -- number p of m times the rows of a second difference
-abbrev pub numberAt : (m : ℕ) → Row → ℕ → ℤ
-numberAt m ρ p = pos m *ℤ tripleAt ρ (p / 3) (p % 3)
+abbrev pub copiedNumber : (m : ℕ) → Row → ℕ → ℤ
+copiedNumber m ρ p = pos m *ℤ tripleAt ρ (p / 3) (p % 3)
 
 -- n numbers were put from place `at` on; all others are as before
 pub record Put (at n : ℕ) (number : ℕ → ℤ) (before after : List ℤ) : Type 0 where

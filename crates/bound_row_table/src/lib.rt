@@ -8,7 +8,7 @@ ghost use lib.IntN.{pos};
 ghost use Rattle.setting.specs.Setting.{HasRows};
 ghost use Rattle.curve_halves.specs.Sizes.{Each};
 ghost use Rattle.bound_rows.specs.Table.{table, rowFrom};
-ghost use Rattle.bound_row_table.specs.Inside.{numberAt, Put, PutRows, Copied};
+ghost use Rattle.bound_row_table.specs.Inside.{copiedNumber, Put, PutRows, Copied};
 
 pub mod comparing;
 pub mod table;
@@ -20,7 +20,7 @@ use crate::table::table;
 fn put_row(rows: &mut [i64], at: usize, entries: &[i16], from: usize, m: usize)
     requires { ⌜ (now entries ≡ table) × (from + 2 * (m + 1) ≤ length (now entries)) × (m ≤ 8)
         × (at + 3 * (m + 1) ≤ length (now rows)) ⌝ }
-    ensures { λ _. ⌜ Put at (3 * (m + 1)) (numberAt m (rowFrom m from)) (now (rows .entry)) (now (rows .exit)) ⌝ }
+    ensures { λ _. ⌜ Put at (3 * (m + 1)) (copiedNumber m (rowFrom m from)) (now (rows .entry)) (now (rows .exit)) ⌝ }
 {
     let times = m as i64;
     let mut i: usize = 0;

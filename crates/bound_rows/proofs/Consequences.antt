@@ -13,7 +13,7 @@ use Rattle.integers.proofs.Order.{gap, le-by, *ℤ-cancel, ≤ℤ-antisymm, _+�
 use Rattle.curve_bernstein.specs.Value.{choose, sum, value}
 use Rattle.curve_halves.specs.Halves.{listed}
 use Rattle.bound_rows.specs.Rows.{Row, pieces}
-use Rattle.bound_rows.specs.Hats.{hat}
+use Rattle.bound_rows.specs.Antidifferences.{antidifference}
 use Rattle.bound_rows.specs.Joined.{Place, RowBounds}
 use Rattle.bound_rows.specs.Claim.{Bounds, EachRowBounds}
 use Rattle.bound_rows.specs.Rule.{allowed, Ruled}
@@ -24,7 +24,7 @@ minus n = negℤ (pos n)
 -- ---- The rule leaves one row for two pieces of degree 2: high 0, −2500, 0 and low −625, −3125, −625.
 module _ (ρ : Row) (ruled : Ruled 2 2 0 ρ) where
   pub ruled-high : (entry (ρ .high) 0 ≡ pos 0) × (entry (ρ .high) 1 ≡ minus 2500) × (entry (ρ .high) 2 ≡ pos 0)
-  unfolding hat value sum choose pow one floor ceiling
+  unfolding antidifference value sum choose pow one floor ceiling
   ruled-high = (ruled .high 0 (lit≤ tt), ruled .high 1 (lit≤ tt), ruled .high 2 (lit≤ tt))
 
   abbrev low : ℕ → ℤ
@@ -32,7 +32,7 @@ module _ (ρ : Row) (ruled : Ruled 2 2 0 ρ) where
 
   -- at the ends of a piece the allowance bounds the low entries from below, and half-way over it the polynomial bounds them from above
   at-least : ((minus 625) ≤ℤ low 0) × ((minus 3125) ≤ℤ low 1) × ((minus 625) ≤ℤ low 2)
-  unfolding hat value sum choose pow one floor ceiling
+  unfolding antidifference value sum choose pow one floor ceiling
   at-least = (ruled .low 0 (lit≤ tt), ruled .low 1 (lit≤ tt), ruled .low 2 (lit≤ tt))
 
   first-half-way : Place 2 0 2 2 1 3
@@ -42,12 +42,12 @@ module _ (ρ : Row) (ruled : Ruled 2 2 0 ρ) where
   last-half-way = record { whole = refl; at = refl }
 
   first-piece : (low 0 +ℤ low 1) ≤ℤ minus 3750
-  unfolding hat value sum choose pow one
+  unfolding antidifference value sum choose pow one
   first-piece = *ℤ-cancel {k = pos 16} (ltZ-yes tt)
       (le-by (low 0 ∷ low 1 ∷ []) (gap (ruled .under 0 2 2 1 3 (lit< tt) first-half-way)) (search sides depth 40 fits 9999) refl)
 
   last-piece : (low 1 +ℤ low 2) ≤ℤ minus 3750
-  unfolding hat value sum choose pow one
+  unfolding antidifference value sum choose pow one
   last-piece = *ℤ-cancel {k = pos 16} (ltZ-yes tt)
       (le-by (low 1 ∷ low 2 ∷ []) (gap (ruled .under 1 2 2 3 1 (lit< tt) last-half-way)) (search sides depth 40 fits 9999) refl)
 

@@ -1,7 +1,7 @@
 -- Laws of the rows. Each file opens with what it holds.
 pub mod Negated
 pub mod Degrees
-pub mod Hats
+pub mod Antidifferences
 pub mod Lines
 pub mod Rows
 pub mod Gaps

@@ -8,7 +8,7 @@ use native.Mathlib.Omega.{arith}
 use lib.IntN.{ℤ, pos, natAbs, _+ℤ_, _-ℤ_, _*ℤ_}
 use Rattle.integers.proofs.Ring.{ring, sides}
 use Rattle.integers.proofs.Order.{lt-or-ge}
-use Rattle.bound_rows.specs.Joined.{Place, joined}
+use Rattle.bound_rows.specs.Joined.{Place}
 
 pub record Located (m p r : ℕ) : Type 0 where
   pub piece : ℕ
@@ -65,6 +65,3 @@ place-at m i a b hi = record { whole = ap natAbs all; at = ap natAbs ends }
         ring (pos m ∷ pos a ∷ pos b ∷ []) {b = pos a *ℤ pos m +ℤ pos b *ℤ pos m} (search sides depth 20) refl
         ∙ ap₂ (λ (x y : ℕ). pos a *ℤ pos x +ℤ pos b *ℤ pos y) past beyond
         ∙ ring (pos i ∷ pos a ∷ pos b ∷ pos (m - i) ∷ pos (m - suc i) ∷ []) (search sides depth 20) refl
-
-pub joined-fold : (m : ℕ) (f : ℕ → ℤ) (i a b : ℕ) → joined f i (m * a) (m * b) ≡ pos m *ℤ joined f i a b
-joined-fold m f i a b = ring (pos m ∷ pos a ∷ pos b ∷ f i ∷ f (suc i) ∷ []) (search sides depth 20) refl

@@ -20,13 +20,13 @@ use Rattle.curve_bernstein.proofs.Stretch.{stretch, stretch-value}
 use Rattle.curve_bernstein.proofs.Nonnegative.{nonnegative, nonnegative-right, value-times}
 use Rattle.curve_halves.specs.Halves.{listed}
 use Rattle.bound_rows.specs.Rows.{Row, rowAt, pieces, thirds}
-use Rattle.bound_rows.specs.Hats.{hat}
+use Rattle.bound_rows.specs.Antidifferences.{antidifference}
 use Rattle.bound_rows.specs.Joined.{Place, joined, RowBounds}
 use Rattle.bound_rows.specs.Claim.{polynomial2First, polynomial3First, polynomial3Second}
 use Rattle.bound_rows.proofs.Degrees.{degrees}
 use Rattle.bound_rows.proofs.Negated.{negated, value-negated}
 use Rattle.curve_halves.proofs.Values.{listed-entry}
-use Rattle.bound_rows.proofs.Hats.{hat-2-first, hat-3-first, hat-3-second}
+use Rattle.bound_rows.proofs.Antidifferences.{antidifference-2-first, antidifference-3-first, antidifference-3-second}
 use Rattle.bound_rows.proofs.Lines.{casteljau-line}
 
 -- ---- the test of one row; h are d times the coefficients of its polynomial
@@ -50,7 +50,7 @@ passes m d h ρ i = nonnegative d halvings (against m d h (ρ .low) i) && nonneg
 
 -- all rows of degree d, on all pieces
 abbrev pub tested : (m d : ℕ) → List Row → Bool
-tested m d ρs = every (λ k ρ. every-below m (passes m d (hat d k) ρ)) 0 ρs
+tested m d ρs = every (λ k ρ. every-below m (passes m d (antidifference d k) ρ)) 0 ρs
 
 -- ---- what it shows, at a place on piece i; both sides are multiplied by d (p + r)^d
 module _ (m d : ℕ) (hd : 0 < d) (h : List ℤ) {i a b p r : ℕ} (hi : i < m) (w : Place m i a b p r) where
@@ -114,20 +114,20 @@ module _ (m d : ℕ) (hd : 0 < d) (h : List ℤ) {i a b p r : ℕ} (hi : i < m) 
 -- ---- the rule: rows that pass, joined by lines, bound their polynomials at every rational parameter
 module _ (m d : ℕ) (ρs : List Row) (hd : 0 < d) (t : T (tested m d ρs)) {k : ℕ} (hk : k < length ρs)
     {i a b p r : ℕ} (hi : i < m) (w : Place m i a b p r) where
-  row-passes : T (passes m d (hat d k) (rowAt ρs k) i)
-  row-passes = below m (passes m d (hat d k) (rowAt ρs k))
-      (at (λ j ρ. every-below m (passes m d (hat d j) ρ)) ρs (record { high = []; low = [] }) t k hk) i hi
+  row-passes : T (passes m d (antidifference d k) (rowAt ρs k) i)
+  row-passes = below m (passes m d (antidifference d k) (rowAt ρs k))
+      (at (λ j ρ. every-below m (passes m d (antidifference d j) ρ)) ρs (record { high = []; low = [] }) t k hk) i hi
 
-  pub row-below : (pos d *ℤ pow (pos (p + r)) (d - 1) *ℤ joined (entry (rowAt ρs k .low)) i a b) ≤ℤ (pos 10000 *ℤ value (pos p) (pos r) d (hat d k))
-  row-below = low-line m d hd (hat d k) hi w (rowAt ρs k) row-passes
+  pub row-below : (pos d *ℤ pow (pos (p + r)) (d - 1) *ℤ joined (entry (rowAt ρs k .low)) i a b) ≤ℤ (pos 10000 *ℤ value (pos p) (pos r) d (antidifference d k))
+  row-below = low-line m d hd (antidifference d k) hi w (rowAt ρs k) row-passes
 
-  pub row-above : (pos 10000 *ℤ value (pos p) (pos r) d (hat d k)) ≤ℤ (pos d *ℤ pow (pos (p + r)) (d - 1) *ℤ joined (entry (rowAt ρs k .high)) i a b)
-  row-above = high-line m d hd (hat d k) hi w (rowAt ρs k) row-passes
+  pub row-above : (pos 10000 *ℤ value (pos p) (pos r) d (antidifference d k)) ≤ℤ (pos d *ℤ pow (pos (p + r)) (d - 1) *ℤ joined (entry (rowAt ρs k .high)) i a b)
+  row-above = high-line m d hd (antidifference d k) hi w (rowAt ρs k) row-passes
 
   -- in the words of P, where the polynomial's value is d times P
-  pub row-bounds : {P : ℤ} → value (pos p) (pos r) d (hat d k) ≡ pos d *ℤ P → RowBounds (rowAt ρs k) d P i a b p r
+  pub row-bounds : {P : ℤ} → value (pos p) (pos r) d (antidifference d k) ≡ pos d *ℤ P → RowBounds (rowAt ρs k) d P i a b p r
   row-bounds {P} is =
-      let v = value (pos p) (pos r) d (hat d k) in
+      let v = value (pos p) (pos r) d (antidifference d k) in
       let W = pow (pos (p + r)) (d - 1) in
       let l = joined (entry (rowAt ρs k .low)) i a b in
       let h = joined (entry (rowAt ρs k .high)) i a b in
@@ -140,7 +140,7 @@ module _ (m d : ℕ) (ρs : List Row) (hd : 0 < d) (t : T (tested m d ρs)) {k :
 
 -- ---- document 01's rows, tested once
 pub thirds-tested : (d : ℕ) → 1 ≤ d → d ≤ 3 → T (tested pieces d (thirds d))
-unfolding hat pow one
+unfolding antidifference pow one
 thirds-tested = degrees (λ d. T (tested pieces d (thirds d))) tt tt tt
 
 -- ---- document 01's rows, in its words: u is p / (p + r)
@@ -148,14 +148,14 @@ module _ {i a b p r : ℕ} (hi : i < pieces) (w : Place pieces i a b p r) where
   -- −u(1−u)
   pub row-2-first : RowBounds (rowAt (thirds 2) 0) 2 (polynomial2First (pos p) (pos r)) i a b p r
   row-2-first = row-bounds pieces 2 (thirds 2)
-      (omega arith) (thirds-tested 2 (omega arith) (omega arith)) (omega arith) hi w (hat-2-first (pos p) (pos r))
+      (omega arith) (thirds-tested 2 (omega arith) (omega arith)) (omega arith) hi w (antidifference-2-first (pos p) (pos r))
 
   -- −u(1−u)(2−u)
   pub row-3-first : RowBounds (rowAt (thirds 3) 0) 3 (polynomial3First (pos p) (pos r)) i a b p r
   row-3-first = row-bounds pieces 3 (thirds 3)
-      (omega arith) (thirds-tested 3 (omega arith) (omega arith)) (omega arith) hi w (hat-3-first (pos p) (pos r))
+      (omega arith) (thirds-tested 3 (omega arith) (omega arith)) (omega arith) hi w (antidifference-3-first (pos p) (pos r))
 
   -- −u(1−u)(1+u)
   pub row-3-second : RowBounds (rowAt (thirds 3) 1) 3 (polynomial3Second (pos p) (pos r)) i a b p r
   row-3-second = row-bounds pieces 3 (thirds 3)
-      (omega arith) (thirds-tested 3 (omega arith) (omega arith)) (omega arith) hi w (hat-3-second (pos p) (pos r))
+      (omega arith) (thirds-tested 3 (omega arith) (omega arith)) (omega arith) hi w (antidifference-3-second (pos p) (pos r))

@@ -1,12 +1,12 @@
 -- The rule of the table, by one computed test over all of it, and what the test shows of the rows of each number of pieces and degree.
 use mathlib.Core.Path.{_≡_, refl, ap, subst}
 use mathlib.Core.Bool.{Bool, true, cond, _&&_}
-use mathlib.Core.List.{List, []}
+use mathlib.Core.List.{[]}
 use Prim.Native.Nat.{ℕ, zero, suc, _+_, _*_, _-_, _≤_, _<_, suc-le-suc}
 use native.Mathlib.Omega.{arith}
 use lib.Dec.{T, leb, leb→le, lit≤}
 use lib.ListN.{length}
-use lib.IntN.{ℤ, pos, _-ℤ_, pow, one}
+use lib.IntN.{pos, _-ℤ_, pow, one}
 use lib.Signed.{leZ, leZ-yes}
 use Rattle.setting.specs.Setting.{HasRows, mostDegree, degreePieces}
 use Rattle.integers.specs.Entry.{entry}
@@ -16,7 +16,7 @@ use Rattle.integers.proofs.Table.{and-left, and-right, every-below, below, ever
 use Rattle.curve_bernstein.specs.Value.{choose, sum, value}
 use Rattle.curve_nodes.specs.Differences.{largestOf}
 use Rattle.bound_rows.specs.Rows.{Row, rowAt, pieces, thirds}
-use Rattle.bound_rows.specs.Hats.{hat}
+use Rattle.bound_rows.specs.Antidifferences.{antidifference}
 use Rattle.bound_rows.specs.Table.{table, rowsAt, rowsOf}
 use Rattle.bound_rows.specs.Rule.{roundedUp, roundedDown, allowed, Ruled, gapSum, gapOf}
 use Rattle.bound_rows.proofs.Degrees.{degrees}
@@ -52,7 +52,7 @@ there f t (suc n) d h l e = subst (λ b. T (cond b (f (suc n) d) true)) e
     (below 6 (asked f (suc n)) (below 8 (λ n. every-below 6 (asked f (suc n))) t n (h .most)) d (suc-le-suc l))
 
 table-tested : T (everywhere rowsFine)
-unfolding table rowsOf gapOf largestOf hat value sum choose pow one floor ceiling
+unfolding table rowsOf gapOf largestOf antidifference value sum choose pow one floor ceiling
 table-tested = tt
 
 -- ---- what it shows

@@ -2,7 +2,7 @@
 -- bounds its polynomial when joined by lines, document 01's claim that each does, the table of one to eight pieces, and
 -- its rule.
 pub mod Rows
-pub mod Hats
+pub mod Antidifferences
 pub mod Joined
 pub mod Claim
 pub mod Table

@@ -1,4 +1,5 @@
--- The enclosure rows of document 01, "Enclosure rows", in ten-thousandths at the break points 0 to 3.
+-- The enclosure rows of document 01, "Enclosure rows", in ten-thousandths at the break points 0 to 3: the table
+-- a[d, m, sgn, ν, μ] for m = 3 of J. Peters and X. Wu, "SLEVEs for planar spline curves" (CAGD 21, 2004), section 3.1.
 use mathlib.Core.List.{List, [], _∷_}
 use Prim.Native.Nat.{ℕ, zero, suc}
 use lib.ListN.{getD}

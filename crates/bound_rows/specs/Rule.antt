@@ -9,13 +9,13 @@ use Rattle.integers.specs.Rounding.{floor, ceiling}
 use Rattle.curve_bernstein.specs.Value.{value}
 use Rattle.curve_nodes.specs.Differences.{largestOf}
 use Rattle.bound_rows.specs.Rows.{Row}
-use Rattle.bound_rows.specs.Hats.{hat}
+use Rattle.bound_rows.specs.Antidifferences.{antidifference}
 use Rattle.bound_rows.specs.Joined.{Place, joined}
 use Rattle.bound_rows.specs.Table.{rowsOf}
 
 -- d m^d times the polynomial of second difference k at break point i of m
 abbrev pub atBreak : (m d k i : ℕ) → ℤ
-atBreak m d k i = value (pos i) (pos (m - i)) d (hat d k)
+atBreak m d k i = value (pos i) (pos (m - i)) d (antidifference d k)
 
 -- ten thousand times the polynomial there, rounded up and rounded down
 abbrev pub roundedUp : (m d k i : ℕ) → ℤ
@@ -35,9 +35,10 @@ pub record Ruled (m d k : ℕ) (ρ : Row) : Type 0 where
   pub low : (i : ℕ) → i ≤ m → (roundedDown m d k i -ℤ allowed m d) ≤ℤ entry (ρ .low) i
   pub under : (i a b p r : ℕ) → i < m → Place m i a b p r
       → (pos d *ℤ pow (pos (p + r)) (d - 1) *ℤ joined (entry (ρ .low)) i a b)
-      ≤ℤ (pos 10000 *ℤ value (pos p) (pos r) d (hat d k))
+      ≤ℤ (pos 10000 *ℤ value (pos p) (pos r) d (antidifference d k))
 
--- high less low at break point i, summed over the rows
+-- high less low at break point i, summed over the rows: the width of an enclosure whose second differences are all 1 in
+-- size. J. Peters and X. Wu, "SLEVEs for planar spline curves" (CAGD 21, 2004), section 3.1, on the width.
 abbrev pub gapSum : List Row → ℕ → ℤ
 gapSum [] i = pos 0
 gapSum (ρ ∷ ρs) i = entry (ρ .high) i -ℤ entry (ρ .low) i +ℤ gapSum ρs i

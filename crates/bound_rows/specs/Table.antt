@@ -1,5 +1,6 @@
 -- The enclosure rows of one to eight pieces (requests 05 and 08), in ten-thousandths at the break points: one table of
--- 810 entries. Its rule is in `Rule`.
+-- 810 entries. Its rule is in `Rule`. It is the table a[d, m, sgn, ν, μ] of J. Peters and X. Wu, "SLEVEs for planar
+-- spline curves" (CAGD 21, 2004), Definition 9.1.
 use mathlib.Core.List.{List, [], _∷_}
 use Prim.Native.Nat.{ℕ, zero, suc, _+_, _*_, _-_}
 use lib.ListN.{take, drop}
@@ -171,7 +172,7 @@ entriesAt at n = take n (drop at table)
 abbrev pub rowFrom : (m at : ℕ) → Row
 rowFrom m at = record { high = entriesAt at (m + 1); low = entriesAt (at + (m + 1)) (m + 1) }
 
--- those of n second differences
+-- the rows of n second differences from a place on, in their order
 abbrev pub rowsAt : (m at n : ℕ) → List Row
 rowsAt m at zero = []
 rowsAt m at (suc n) = rowFrom m at ∷ rowsAt m (at + 2 * (m + 1)) n

@@ -7,7 +7,7 @@ use Prim.Native.Nat.{ℕ, _+_, _-_, _*_, _≤_, _<_}
 use native.Mathlib.Nat.{eq-or-lt-of-le}
 use native.Mathlib.Omega.{arith}
 use lib.Dec.{T, eqb}
-use lib.IntN.{ℤ, _+ℤ_, _-ℤ_}
+use lib.IntN.{ℤ, _-ℤ_, _+ℤ_}
 use lib.Signed.{ltZ}
 use borrow.Author.Tests.{lt-ltb, le-ltb}
 use Rattle.setting.specs.Setting.{Setting}
@@ -18,12 +18,12 @@ use Rattle.curve_nodes.specs.declared.Curve.{Curve}
 use Rattle.curve_nodes.specs.Bounds.{Sized}
 use Rattle.bound_coordinate.specs.declared.terms.Terms.{Terms}
 use Rattle.bound_coordinate.specs.Terms.{termsOf, lowBy, highBy}
-use Rattle.bound_coordinate.specs.declared.higher.Higher.{Higher}
-use Rattle.bound_coordinate.specs.Higher.{higherOf, higherLow, higherHigh}
+use Rattle.bound_coordinate.specs.declared.higher.HigherTerms.{HigherTerms}
+use Rattle.bound_coordinate.specs.HigherTerms.{higherOf, higherLow, higherHigh}
 use Rattle.bound_coordinate.proofs.LowHigh.{low-is, high-is, higher-low-is, higher-high-is}
 use Rattle.bound_enclosure.specs.AtDepth.{lowOf, highOf}
 use Rattle.bound_pieces.specs.declared.Pieces.{Pieces}
-use Rattle.bound_pieces.specs.Inside.{times, farGap, otherGap, exactOf, settingOf, Ready, acrossBy, higherAcrossBy}
+use Rattle.bound_pieces.specs.Inside.{times, farGap, otherGap, exactOf, settingOf, PiecesReady, acrossBy, higherAcrossBy}
 use Rattle.bound_node.specs.Boxes.{boxAt, meets}
 use Rattle.bound_pieces.proofs.Boxes.{low-takes, many-takes}
 use Rattle.bound_pieces.proofs.PiecesLaws.{divisor-is}
@@ -62,7 +62,7 @@ module _ (σ : Setting) (depth : ℕ) (c : Curve) (across : ℕ → ℤ) (is : (
     each = λ i hi. lt-no (ap₂ ltZ (sym eq) (sym (is i hi)) ∙ f i (omega arith));
   })
 
-module _ {p : Pieces} {rows : List ℤ} (r : Ready p rows) {depth : ℕ} {c : Curve} (s : Sized depth c) where
+module _ {p : Pieces} {rows : List ℤ} (r : PiecesReady p rows) {depth : ℕ} {c : Curve} (s : Sized depth c) where
   abbrev σ : Setting
   σ = settingOf p
 
@@ -86,9 +86,9 @@ module _ {p : Pieces} {rows : List ℤ} (r : Ready p rows) {depth : ℕ} {c : Cu
     across-is i hi = ap₂ _+ℤ_ (side (c .x) ex i hi) (side (c .y) ey i hi)
 
   -- ---- degrees 4 and 5
-  module _ (many : 3 < c .degree) (l : 3 ≤ p .m) (units : p .sixths ≡ false) {x y : Higher} (ex : x ≡ higherOf (p .m) (c .degree) (c .degree * depth) (c .x))
+  module _ (many : 3 < c .degree) (l : 3 ≤ p .m) (units : p .sixths ≡ false) {x y : HigherTerms} (ex : x ≡ higherOf (p .m) (c .degree) (c .degree * depth) (c .x))
       (ey : y ≡ higherOf (p .m) (c .degree) (c .degree * depth) (c .y)) where
-    higher-side : {t : Higher} (cs : List ℤ) → t ≡ higherOf (p .m) (c .degree) (c .degree * depth) cs → (i : ℕ) → i ≤ p .m
+    higher-side : {t : HigherTerms} (cs : List ℤ) → t ≡ higherOf (p .m) (c .degree) (c .degree * depth) cs → (i : ℕ) → i ≤ p .m
         → Across cs (squared (higherHigh (p .m) shift rows t i -ℤ higherLow (p .m) shift rows t i)) i
     higher-side cs e i hi =
         let takes = many-takes (c .degree) (p .m) l in

@@ -1,2 +1,2 @@
 -- What is told of a node without its boxes.
-pub mod Told
+pub mod Verdicts

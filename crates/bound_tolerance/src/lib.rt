@@ -8,8 +8,8 @@ ghost use Rattle.integers.specs.Squares.{squared};
 ghost use Rattle.curve_nodes.specs.Bounds.{Sized};
 ghost use Rattle.bound_coordinate.specs.Inside.{Small, Boundable};
 ghost use Rattle.bound_coordinate.specs.Terms.{ComputableAt};
-ghost use Rattle.bound_pieces.specs.Inside.{piecesOf, settingOf, exactOf, sumsOf, pointSum, Ready, acrossBy};
-ghost use Rattle.bound_tolerance.specs.Told.{Told};
+ghost use Rattle.bound_pieces.specs.Inside.{piecesOf, settingOf, exactOf, sumsOf, pointSum, PiecesReady, acrossBy};
+ghost use Rattle.bound_tolerance.specs.Verdicts.{VerdictRight};
 ghost use Rattle.bound_node.specs.Boxes.{meets};
 use crate::spread::size;
 use bound_coordinate::break_points::high_at;
@@ -62,7 +62,7 @@ pub fn boxes_meet(
     t: i64,
     square: i64,
 ) -> bool
-    requires { ⌜ (Ready pieces (now rows)) × (Sized depth curve) × (curve .degree ≤ 3) × (depth ≤ 8)
+    requires { ⌜ (PiecesReady pieces (now rows)) × (Sized depth curve) × (curve .degree ≤ 3) × (depth ≤ 8)
         × (square ≡ squared t) ⌝ }
     ensures { λ r. ⌜ r ≡ meets (settingOf pieces) t depth curve ⌝ }
 {
@@ -112,7 +112,7 @@ fn sum_there(pieces: Pieces, c: [i64; 6], sums: [u64; 2], last: bool) -> u64
 }
 
 // What the gaps tell of a node.
-pub enum Verdict {
+pub enum Tested {
     Narrow,
     Wide,
     Open,
@@ -121,10 +121,10 @@ pub enum Verdict {
 // What the gaps tell of a node, by how far its lows and highs are apart before rounding: no box is wider than the wider
 // corner is, rounded up, and one more; at the break point of a corner no box is narrower than its sum, rounded up. That
 // of the corner where x is the wider is tried.
-fn verdict_by(pieces: Pieces, curve: Curve, depth: u32, t: i64) -> Verdict
+fn verdict_by(pieces: Pieces, curve: Curve, depth: u32, t: i64) -> Tested
     requires { ⌜ (HasRows (pieces .m)) × (pieces ≡ piecesOf (pieces .m) (pieces .sixths)) × (Sized depth curve)
         × (curve .degree ≤ 3) × (depth ≤ 8) × (Small (2 ^ 27) t) ⌝ }
-    ensures { λ r. ⌜ Told (settingOf pieces) t depth curve r ⌝ }
+    ensures { λ r. ⌜ VerdictRight (settingOf pieces) t depth curve r ⌝ }
 {
     let square = t * t;
     let degree = curve.degree;
@@ -138,39 +138,39 @@ fn verdict_by(pieces: Pieces, curve: Curve, depth: u32, t: i64) -> Verdict
     let x2 = x[1];
     let y1 = y[0];
     let y2 = y[1];
-    let width = crate::spread::whole(larger(x1, x2), more, shift);
-    let height = crate::spread::whole(larger(y1, y2), more, shift);
+    let width = crate::spread::rounded_up(larger(x1, x2), more, shift);
+    let height = crate::spread::rounded_up(larger(y1, y2), more, shift);
     if !is_longer(width + 1, height + 1, square) {
-        return Verdict::Narrow;
+        return Tested::Narrow;
     }
     if is_exact(pieces, degree) {
         let there = if x1 < x2 { y2 } else { y1 };
-        if is_longer(width, crate::spread::whole(there, more, shift), square) {
-            return Verdict::Wide;
+        if is_longer(width, crate::spread::rounded_up(there, more, shift), square) {
+            return Tested::Wide;
         }
-        return Verdict::Open;
+        return Tested::Open;
     }
     let last = x1 < x2;
-    let least_width = crate::spread::whole(sum_there(pieces, xs, x, last), more, shift);
-    let least_height = crate::spread::whole(sum_there(pieces, ys, y, last), more, shift);
+    let least_width = crate::spread::rounded_up(sum_there(pieces, xs, x, last), more, shift);
+    let least_height = crate::spread::rounded_up(sum_there(pieces, ys, y, last), more, shift);
     if is_longer(least_width, least_height, square) {
-        return Verdict::Wide;
+        return Tested::Wide;
     }
-    Verdict::Open
+    Tested::Open
 }
 
 // Whether a node meets the tolerance, as far as the gaps tell. A tolerance beyond 2^27 is longer than every diagonal,
 // and so no square wraps.
-pub fn verdict_of(pieces: Pieces, curve: Curve, depth: u32, t: i64) -> Verdict
+pub fn verdict_of(pieces: Pieces, curve: Curve, depth: u32, t: i64) -> Tested
     requires { ⌜ (HasRows (pieces .m)) × (pieces ≡ piecesOf (pieces .m) (pieces .sixths)) × (Sized depth curve)
         × (curve .degree ≤ 3) × (depth ≤ 8) ⌝ }
-    ensures { λ r. ⌜ Told (settingOf pieces) t depth curve r ⌝ }
+    ensures { λ r. ⌜ VerdictRight (settingOf pieces) t depth curve r ⌝ }
 {
     if t < -134217728 {
-        return Verdict::Narrow;
+        return Tested::Narrow;
     }
     if 134217728 < t {
-        return Verdict::Narrow;
+        return Tested::Narrow;
     }
     verdict_by(pieces, curve, depth, t)
 }

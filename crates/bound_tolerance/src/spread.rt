@@ -22,7 +22,7 @@ pub fn size(difference: i64) -> u64
 
 // The fraction of a sum, times 6 over the scale of control values, over 3750 times a power of 2, rounded up: one less
 // than the denominator is added.
-pub fn whole(sum: u64, more: u64, shift: u32) -> i64
+pub fn rounded_up(sum: u64, more: u64, shift: u32) -> i64
     requires { ⌜ (sum ≤ 6 * (2 ^ 36 * 2 ^ shift)) × (more ≡ 3750 * 2 ^ shift - 1) × (shift ≤ 24) ⌝ }
     ensures { λ r. ⌜ Computed (2 ^ 27) (pos (spreadOf sum shift)) r ⌝ }
 {

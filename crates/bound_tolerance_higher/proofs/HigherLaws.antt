@@ -1,5 +1,5 @@
 -- What the gaps tell of a node of degree 4 or 5: no break point has more than `mostOf`, and the two ends have at least `endOf`.
-use mathlib.Core.Path.{_≡_, refl, sym, _∙_, ap, subst}
+use mathlib.Core.Path.{_≡_, sym, ap, subst}
 use mathlib.Core.Bool.{Bool, false, _&&_}
 use mathlib.Core.Logic.{⊎-elim}
 use mathlib.Core.List.{List, [], _∷_}
@@ -21,7 +21,7 @@ use Rattle.bound_rows.specs.Rule.{gapOf}
 use Rattle.bound_pieces.specs.declared.Gaps.{Gaps}
 use Rattle.bound_pieces.specs.Inside.{gapAt, gapsAt, gapsSum, times, gapsOf}
 use Rattle.bound_pieces.specs.Inside.{SmallGaps}
-use Rattle.bound_tolerance_higher.specs.Told.{sizesOf, mostOf, endOf, SmallSizes, Spread, SpreadAt}
+use Rattle.bound_tolerance_higher.specs.Spreads.{sizesOf, mostOf, endOf, SmallSizes, Spread, SpreadAt}
 use Rattle.bound_pieces.proofs.Corners.{many-tested, both-degrees}
 use Rattle.bound_pieces.proofs.PiecesLaws.{many-gaps, small-gaps}
 
@@ -59,6 +59,16 @@ spread-most P Q W O o n outer all = ⊎-elim
     omega (arith, ap (λ k. P * k) e, mul-add P n (o - n), add-mul P Q n, mul-le-mul all (le-refl n), mul-le-mul outer (le-refl (o - n))))
     (lt-or-ge o n)
 
+-- what holds of degrees 4 and 5 holds of every degree that has three or four second differences
+four-or-five : (P : ℕ → Type 0) → P 4 → P 5 → (d : ℕ) → 3 < d → d ≤ mostDegree → P d
+four-or-five P four five zero a b = absurd (omega arith)
+four-or-five P four five (suc zero) a b = absurd (omega arith)
+four-or-five P four five (suc (suc zero)) a b = absurd (omega arith)
+four-or-five P four five (suc (suc (suc zero))) a b = absurd (omega arith)
+four-or-five P four five (suc (suc (suc (suc zero)))) a b = four
+four-or-five P four five (suc (suc (suc (suc (suc zero))))) a b = five
+four-or-five P four five (suc (suc (suc (suc (suc (suc d)))))) a b = absurd (omega arith)
+
 module _ (m : ℕ) (h : HasRows m) (l : 3 ≤ m) (cs : List ℤ) where
   abbrev size : ℕ → ℕ
   size k = natAbs (difference cs k)
@@ -89,49 +99,35 @@ module _ (m : ℕ) (h : HasRows m) (l : 3 ≤ m) (cs : List ℤ) where
   parted : (d : ℕ) → 3 < d → d ≤ mostDegree → (i : ℕ)
       → gapsSum (gapsAt (rowsOf m d) i) 0 cs ≤ outerAt m d i * outerSize d + innerAt m d i * innerSize d
   unfolding gapsSum rowsOf
-  parted zero a b i = absurd (omega arith)
-  parted (suc zero) a b i = absurd (omega arith)
-  parted (suc (suc zero)) a b i = absurd (omega arith)
-  parted (suc (suc (suc zero))) a b i = absurd (omega arith)
-  parted (suc (suc (suc (suc zero)))) a b i = omega (
-    arith,
-    mul-le-mul (le-refl (gapAt m 4 0 i)) (le-max-left (size 0) (size 2)),
-    mul-le-mul (le-refl (gapAt m 4 1 i)) (le-max-left (size 1) (size 1)),
-    mul-le-mul (le-refl (gapAt m 4 2 i)) (le-max-right (size 0) (size 2)),
-    add-mul (gapAt m 4 0 i) (gapAt m 4 2 i) (max (size 0) (size 2)),
-  )
-  parted (suc (suc (suc (suc (suc zero))))) a b i = omega (
-    arith,
-    mul-le-mul (le-refl (gapAt m 5 0 i)) (le-max-left (size 0) (size 3)),
-    mul-le-mul (le-refl (gapAt m 5 1 i)) (le-max-left (size 1) (size 2)),
-    mul-le-mul (le-refl (gapAt m 5 2 i)) (le-max-right (size 1) (size 2)),
-    mul-le-mul (le-refl (gapAt m 5 3 i)) (le-max-right (size 0) (size 3)),
-    add-mul (gapAt m 5 0 i) (gapAt m 5 3 i) (max (size 0) (size 3)),
-    add-mul (gapAt m 5 1 i) (gapAt m 5 2 i) (max (size 1) (size 2)),
-  )
-  parted (suc (suc (suc (suc (suc (suc d)))))) a b i = absurd (omega arith)
+  parted = four-or-five
+      (λ d. (i : ℕ) → gapsSum (gapsAt (rowsOf m d) i) 0 cs ≤ outerAt m d i * outerSize d + innerAt m d i * innerSize d)
+      (λ i. omega (
+        arith,
+        mul-le-mul (le-refl (gapAt m 4 0 i)) (le-max-left (size 0) (size 2)),
+        mul-le-mul (le-refl (gapAt m 4 1 i)) (le-max-left (size 1) (size 1)),
+        mul-le-mul (le-refl (gapAt m 4 2 i)) (le-max-right (size 0) (size 2)),
+        add-mul (gapAt m 4 0 i) (gapAt m 4 2 i) (max (size 0) (size 2)),
+      ))
+      (λ i. omega (
+        arith,
+        mul-le-mul (le-refl (gapAt m 5 0 i)) (le-max-left (size 0) (size 3)),
+        mul-le-mul (le-refl (gapAt m 5 1 i)) (le-max-left (size 1) (size 2)),
+        mul-le-mul (le-refl (gapAt m 5 2 i)) (le-max-right (size 1) (size 2)),
+        mul-le-mul (le-refl (gapAt m 5 3 i)) (le-max-right (size 0) (size 3)),
+        add-mul (gapAt m 5 0 i) (gapAt m 5 3 i) (max (size 0) (size 3)),
+        add-mul (gapAt m 5 1 i) (gapAt m 5 2 i) (max (size 1) (size 2)),
+      ))
 
   -- two of the terms at the first break point, and at the last
   first-least : (d : ℕ) → 3 < d → d ≤ mostDegree → gapAt m d 0 0 * size 0 + gapAt m d 1 0 * size 1 ≤ gapsSum (gapsAt (rowsOf m d) 0) 0 cs
   unfolding gapsSum rowsOf
-  first-least zero a b = absurd (omega arith)
-  first-least (suc zero) a b = absurd (omega arith)
-  first-least (suc (suc zero)) a b = absurd (omega arith)
-  first-least (suc (suc (suc zero))) a b = absurd (omega arith)
-  first-least (suc (suc (suc (suc zero)))) a b = omega arith
-  first-least (suc (suc (suc (suc (suc zero))))) a b = omega arith
-  first-least (suc (suc (suc (suc (suc (suc d)))))) a b = absurd (omega arith)
+  first-least = four-or-five (λ d. gapAt m d 0 0 * size 0 + gapAt m d 1 0 * size 1 ≤ gapsSum (gapsAt (rowsOf m d) 0) 0 cs) (omega arith) (omega arith)
 
   last-least : (d : ℕ) → 3 < d → d ≤ mostDegree
       → gapAt m d (d - 2) m * size (d - 2) + gapAt m d (d - 3) m * size (d - 3) ≤ gapsSum (gapsAt (rowsOf m d) m) 0 cs
   unfolding gapsSum rowsOf
-  last-least zero a b = absurd (omega arith)
-  last-least (suc zero) a b = absurd (omega arith)
-  last-least (suc (suc zero)) a b = absurd (omega arith)
-  last-least (suc (suc (suc zero))) a b = absurd (omega arith)
-  last-least (suc (suc (suc (suc zero)))) a b = omega arith
-  last-least (suc (suc (suc (suc (suc zero))))) a b = omega arith
-  last-least (suc (suc (suc (suc (suc (suc d)))))) a b = absurd (omega arith)
+  last-least = four-or-five (λ d. gapAt m d (d - 2) m * size (d - 2) + gapAt m d (d - 3) m * size (d - 3) ≤ gapsSum (gapsAt (rowsOf m d) m) 0 cs)
+      (omega arith) (omega arith)
 
   module _ {d : ℕ} (a : 3 < d) (b : d ≤ mostDegree) {g : Gaps} (e : g ≡ gapsOf m d) {ns : List ℕ} (en : ns ≡ sizesOf d cs) where
     -- no break point has more
@@ -141,7 +137,7 @@ module _ (m : ℕ) (h : HasRows m) (l : 3 ≤ m) (cs : List ℤ) where
         (spread-most (outerAt m d i) (innerAt m d i) (gapOf m d) (outerAt m d 0) (outerSize d) (innerSize d)
         (outer-under d a b i hi) (all-under d a b i hi)))
 
-    -- the same of sums that are multiplied as those of whole control values are
+    -- sums that are multiplied as those of whole control values are
     pub most-covers-times : {b : Bool} → b ≡ false → (i : ℕ) → i ≤ m → times b * gapsSum (gapsAt (rowsOf m d) i) 0 cs ≤ 6 * mostOf g ns
     most-covers-times units i hi = rw units (mul-le-mul (le-refl 6) (most-covers i hi))
 

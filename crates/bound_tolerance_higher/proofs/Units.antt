@@ -6,7 +6,7 @@ use native.Mathlib.Nat.{mul-comm, mul-le-mul, le-refl, lt-of-le-of-lt, div-div-e
 use native.Mathlib.Omega.{arith}
 use lib.Dec.{lit<}
 use lib.Pow.{pow-mono, pow-pos}
-use lib.IntN.{ℤ, pos}
+use lib.IntN.{pos}
 use mir.Syntax.{w64}
 use mir.Val.{toZ}
 use mir.Facts.{toZ-pos}

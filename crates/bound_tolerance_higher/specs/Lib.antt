@@ -1,2 +1,2 @@
 -- What the test of a node of degree 4 or 5 tells.
-pub mod Told
+pub mod Spreads

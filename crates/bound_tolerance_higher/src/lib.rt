@@ -7,14 +7,14 @@ ghost use lib.Signed.{ltZ};
 ghost use Rattle.setting.specs.Setting.{HasRows};
 ghost use Rattle.curve_nodes.specs.Bounds.{Sized};
 ghost use Rattle.bound_coordinate.specs.Inside.{HigherBoundable, Small, Computed};
-ghost use Rattle.bound_coordinate.specs.Higher.{HigherComputable};
-ghost use Rattle.bound_pieces.specs.Inside.{spreadOf, piecesOf, settingOf, gapsOf, Ready, higherAcrossBy};
-ghost use Rattle.bound_tolerance_higher.specs.Told.{sizesOf, mostOf, endOf, acrossAbove, acrossOf};
+ghost use Rattle.bound_coordinate.specs.HigherTerms.{HigherComputable};
+ghost use Rattle.bound_pieces.specs.Inside.{spreadOf, piecesOf, settingOf, gapsOf, PiecesReady, higherAcrossBy};
+ghost use Rattle.bound_tolerance_higher.specs.Spreads.{sizesOf, mostOf, endOf, squaresAbove, squaresOf};
 ghost use Rattle.bound_pieces.specs.Inside.{SmallGaps};
-ghost use Rattle.bound_tolerance_higher.specs.Told.{SmallSizes, Spread, SpreadAt};
-ghost use Rattle.bound_tolerance.specs.Told.{Told};
+ghost use Rattle.bound_tolerance_higher.specs.Spreads.{SmallSizes, Spread, SpreadAt};
+ghost use Rattle.bound_tolerance.specs.Verdicts.{VerdictRight};
 ghost use Rattle.bound_node.specs.Boxes.{meets};
-use bound_coordinate::higher::Higher;
+use bound_coordinate::higher::HigherTerms;
 use bound_coordinate::terms::difference_at;
 use bound_coordinate_higher::high_at;
 use bound_coordinate_higher::higher_of;
@@ -22,7 +22,7 @@ use bound_coordinate_higher::low_at;
 use bound_pieces::Gaps;
 use bound_pieces::Pieces;
 use bound_pieces::larger;
-use bound_tolerance::Verdict;
+use bound_tolerance::Tested;
 use bound_tolerance::is_longer;
 use bound_tolerance::spread::size;
 use curve_nodes::Curve;
@@ -30,8 +30,8 @@ use curve_nodes::Curve;
 // The box at break point i is too long.
 fn is_wide(
     rows: &[i64],
-    x: Higher,
-    y: Higher,
+    x: HigherTerms,
+    y: HigherTerms,
     shift: u32,
     scale: usize,
     m: usize,
@@ -51,8 +51,8 @@ fn is_wide(
 
 // The boxes at all break points are narrow.
 pub fn boxes_meet(rows: &[i64], pieces: Pieces, curve: Curve, depth: u32, t: i64) -> bool
-    requires { ⌜ (Ready pieces (now rows)) × (3 ≤ pieces .m) × (Sized depth curve) × (3 < curve .degree) × (depth ≤ 4)
-        × (Small (2 ^ 27) t) × (pieces .sixths ≡ false) ⌝ }
+    requires { ⌜ (PiecesReady pieces (now rows)) × (3 ≤ pieces .m) × (Sized depth curve) × (3 < curve .degree)
+        × (depth ≤ 4) × (Small (2 ^ 27) t) × (pieces .sixths ≡ false) ⌝ }
     ensures { λ r. ⌜ r ≡ meets (settingOf pieces) t depth curve ⌝ }
 {
     let m = pieces.m;
@@ -125,7 +125,7 @@ fn whole_units(sum: u64, more: u64, shift: u32) -> i64
 // The boxes at all break points are narrow: rounded up and one more, no box is wider.
 fn is_narrow(gaps: Gaps, x: [u64; 4], y: [u64; 4], shift: u32, square: i64) -> bool
     requires { ⌜ (Spread gaps shift x) × (Spread gaps shift y) ⌝ }
-    ensures { λ r. ⌜ r ≡ not (ltZ square (acrossAbove (6 * mostOf gaps x) (6 * mostOf gaps y) shift)) ⌝ }
+    ensures { λ r. ⌜ r ≡ not (ltZ square (squaresAbove (6 * mostOf gaps x) (6 * mostOf gaps y) shift)) ⌝ }
 {
     let more = (625u64 << shift) - 1;
     let width = whole_units(most(gaps, x), more, shift);
@@ -136,7 +136,7 @@ fn is_narrow(gaps: Gaps, x: [u64; 4], y: [u64; 4], shift: u32, square: i64) -> b
 // The box at an end is wide, by the two differences there.
 fn is_wide_at(gaps: Gaps, x: [u64; 2], y: [u64; 2], shift: u32, square: i64) -> bool
     requires { ⌜ (SpreadAt gaps shift x) × (SpreadAt gaps shift y) ⌝ }
-    ensures { λ r. ⌜ r ≡ ltZ square (acrossOf (6 * endOf gaps x) (6 * endOf gaps y) shift) ⌝ }
+    ensures { λ r. ⌜ r ≡ ltZ square (squaresOf (6 * endOf gaps x) (6 * endOf gaps y) shift) ⌝ }
 {
     let more = (625u64 << shift) - 1;
     let first = gaps.first;
@@ -149,16 +149,16 @@ fn is_wide_at(gaps: Gaps, x: [u64; 2], y: [u64; 2], shift: u32, square: i64) -> 
 // Whether a node meets the tolerance, as far as the gaps tell: by the most that its lows and highs can be apart, and
 // by how far they are apart at its two ends. A tolerance beyond 2^27 is longer than every diagonal, and so no square
 // wraps.
-pub fn verdict_of(pieces: Pieces, curve: Curve, depth: u32, t: i64) -> Verdict
+pub fn verdict_of(pieces: Pieces, curve: Curve, depth: u32, t: i64) -> Tested
     requires { ⌜ (HasRows (pieces .m)) × (pieces ≡ piecesOf (pieces .m) (pieces .sixths)) × (3 ≤ pieces .m)
         × (Sized depth curve) × (3 < curve .degree) × (depth ≤ 4) × (pieces .sixths ≡ false) ⌝ }
-    ensures { λ r. ⌜ Told (settingOf pieces) t depth curve r ⌝ }
+    ensures { λ r. ⌜ VerdictRight (settingOf pieces) t depth curve r ⌝ }
 {
     if t < -134217728 {
-        return Verdict::Narrow;
+        return Tested::Narrow;
     }
     if 134217728 < t {
-        return Verdict::Narrow;
+        return Tested::Narrow;
     }
     let degree = curve.degree;
     let gaps = gaps_for(pieces, degree);
@@ -169,13 +169,13 @@ pub fn verdict_of(pieces: Pieces, curve: Curve, depth: u32, t: i64) -> Verdict
     let x = sizes_of(xs, degree);
     let y = sizes_of(ys, degree);
     if is_narrow(gaps, x, y, shift, square) {
-        return Verdict::Narrow;
+        return Tested::Narrow;
     }
     if is_wide_at(gaps, [x[0], x[1]], [y[0], y[1]], shift, square) {
-        return Verdict::Wide;
+        return Tested::Wide;
     }
     if is_wide_at(gaps, [x[3], x[2]], [y[3], y[2]], shift, square) {
-        return Verdict::Wide;
+        return Tested::Wide;
     }
-    Verdict::Open
+    Tested::Open
 }

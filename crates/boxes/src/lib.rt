@@ -33,7 +33,7 @@ fn low_fine(low: i32, high: i32) -> bool
     low <= high
 }
 
-// Whether a low and a high are fine, by three comparisons and no branch. Every two numbers may be asked about.
+// Whether a low and a high are fine, by three comparisons and no branch. Defined for every two numbers.
 pub fn side_fine(low: i32, high: i32) -> bool
     ensures { λ r. ⌜ r ≡ sideFine low high ⌝ }
 {

@@ -40,7 +40,7 @@ pub enum ShortAnswer {
     Refused(Refusal),
 }
 
-// A box in stage units, each number exactly the sixteenth divided by 16, or check 12. Every box may be asked about.
+// A box in stage units, each number exactly the sixteenth divided by 16, or check 12. Defined for every box.
 pub fn hand_out(b: Box) -> UnitsAnswer
     ensures { λ r. ⌜ HandedOut b r ⌝ }
 {
@@ -63,7 +63,7 @@ fn in_units(b: Box) -> StageBox
     }
 }
 
-// The short form of a box, or check 12. Every box may be asked about.
+// The short form of a box, or check 12. Defined for every box.
 pub fn shorten(b: Box) -> ShortAnswer
     ensures { λ r. ⌜ Shortened b r ⌝ }
 {

@@ -84,11 +84,11 @@ module _ (σ : Setting) (T : ℤ) (ns : List ℤ) (x y : ℤ) (old : List ℤ) w
 
 -- ---- boxes handed out: where no refusal is told, the four numbers are those of the box in stage units, and the short form is of the kind that is
 -- told; a bad number of the box is told with its place
-abbrev Told : Box → BoxUnits → Type 0
-Told b n = InUnits b (record { «x_low» = n .«x_low»; «x_high» = n .«x_high»; «y_low» = n .«y_low»; «y_high» = n .«y_high» })
+abbrev UnitsMatch : Box → BoxUnits → Type 0
+UnitsMatch b n = InUnits b (record { «x_low» = n .«x_low»; «x_high» = n .«x_high»; «y_low» = n .«y_low»; «y_high» = n .«y_high» })
 
 module _ (b : Box) where
-  units-of : (a : UnitsAnswer) → HandedOut b a → unitsOf a .refusal ≡ 0 → Told b (unitsOf a)
+  units-of : (a : UnitsAnswer) → HandedOut b a → unitsOf a .refusal ≡ 0 → UnitsMatch b (unitsOf a)
   units-of (Units r) h fine = h .1
   units-of (UnitsRefused q) h fine = absurd (let e = ap numberOf (sym (h .2)) ∙ fine in omega (arith, e))
 
@@ -109,8 +109,8 @@ module _ (b : Box) where
   middle-of (ShortRefused q) h two = absurd (omega (arith, two))
 
   module _ (n : BoxUnits) (handed : UnitsInNumbers b n) where
-    pub units-told : n .refusal ≡ 0 → Told b n
-    units-told = subst (λ (m : BoxUnits). m .refusal ≡ 0 → Told b m) (sym (handed .are)) (units-of (handed .answer) (handed .handed))
+    pub units-told : n .refusal ≡ 0 → UnitsMatch b n
+    units-told = subst (λ (m : BoxUnits). m .refusal ≡ 0 → UnitsMatch b m) (sym (handed .are)) (units-of (handed .answer) (handed .handed))
 
     pub units-refused : (k : ℕ) → boxFault b ≡ some k → (n .refusal ≡ 12) × (n .spot ≡ k)
     units-refused k bad =

@@ -39,7 +39,7 @@ pub record JudgedInNumbers (σ : Setting) (ns : List ℤ) (x y : ℤ) (numbers :
   pub judged : Judged σ ns x y judgement
   pub are : numbers ≡ judgingAnswerOf judgement
 
--- and those of an outcome that banding and judging together may give
+-- the numbers are those of an outcome that banding and judging together may give
 pub record AnsweredInNumbers (σ : Setting) (T : ℤ) (ns : List ℤ) (x y : ℤ) (old : List ℤ) (numbers : OutcomeAnswer)
     : Type 0 where
   pub outcome : Outcome

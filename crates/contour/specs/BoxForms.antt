@@ -16,9 +16,9 @@ use Rattle.boxes_binary64.specs.Boxes.{HandedOut, Shortened}
 use Rattle.contour.specs.declared.c_answers.BoxUnits.{BoxUnits}
 use Rattle.contour.specs.declared.c_answers.BoxShort.{BoxShort}
 
--- the f64 0.0
-abbrev pub nil : Float
-nil = fin false 0 (pos 0)
+-- the number 0.0 in binary64
+abbrev pub zeroFloat : Float
+zeroFloat = fin false 0 (pos 0)
 
 abbrev pub unitsOf : UnitsAnswer → BoxUnits
 unitsOf (Units r) = record {
@@ -32,16 +32,16 @@ unitsOf (Units r) = record {
 unitsOf (Refused q) = record {
   refusal = numberOf q;
   spot = spotOf q;
-  «x_low» = nil;
-  «x_high» = nil;
-  «y_low» = nil;
-  «y_high» = nil;
+  «x_low» = zeroFloat;
+  «x_high» = zeroFloat;
+  «y_low» = zeroFloat;
+  «y_high» = zeroFloat;
 }
 
 -- kind 1 is a point, kind 2 a middle
 abbrev pub formOf : Short → BoxShort
 formOf (Point x y) =
-    record { refusal = 0; spot = 0; kind = 1; x = x; y = y; «half_width» = nil; «half_height» = nil }
+    record { refusal = 0; spot = 0; kind = 1; x = x; y = y; «half_width» = zeroFloat; «half_height» = zeroFloat }
 formOf (Middle x y half-width half-height) =
     record { refusal = 0; spot = 0; kind = 2; x = x; y = y; «half_width» = half-width; «half_height» = half-height }
 
@@ -51,10 +51,10 @@ shortOf (ShortRefused q) = record {
   refusal = numberOf q;
   spot = spotOf q;
   kind = 0;
-  x = nil;
-  y = nil;
-  «half_width» = nil;
-  «half_height» = nil;
+  x = zeroFloat;
+  y = zeroFloat;
+  «half_width» = zeroFloat;
+  «half_height» = zeroFloat;
 }
 
 -- the numbers are those of an answer that handing out the box may give
@@ -63,7 +63,7 @@ pub record UnitsInNumbers (b : Box) (numbers : BoxUnits) : Type 0 where
   pub handed : HandedOut b answer
   pub are : numbers ≡ unitsOf answer
 
--- and those of an answer that its short form may be given by
+-- the numbers are those of an answer that the box's short form may be given by
 pub record ShortInNumbers (b : Box) (numbers : BoxShort) : Type 0 where
   pub answer : ShortAnswer
   pub shortened : Shortened b answer

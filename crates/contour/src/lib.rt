@@ -62,7 +62,7 @@ pub extern "C" fn contour_band(
     in_numbers(banded)
 }
 
-// The same for the bench station, which takes 64 curves and 128 leaves.
+// Puts a band round an outline as `contour_band` does, for the bench station, which takes 64 curves and 128 leaves.
 #[no_mangle]
 pub extern "C" fn contour_station_band(
     outline: &[i32],
@@ -79,7 +79,7 @@ pub extern "C" fn contour_station_band(
     in_numbers(banded)
 }
 
-// The same of a uniform cubic B-spline, by its points: x and y of each.
+// Puts a band round a uniform cubic B-spline, given by its points: x and y of each.
 #[no_mangle]
 pub extern "C" fn contour_spline_band(
     points: &[i32],
@@ -96,7 +96,7 @@ pub extern "C" fn contour_spline_band(
     in_numbers(banded)
 }
 
-// The same of an outline in binary64: degrees and coordinates are f64.
+// Puts a band round an outline in binary64: degrees and coordinates are f64.
 #[no_mangle]
 pub extern "C" fn contour_binary64_band(
     outline: &[f64],

@@ -234,9 +234,6 @@ unfolding casteljau
 mixing-is p r zero cs = refl
 mixing-is p r (suc n) cs = mixing-is p r n (mixed p r cs) ∙ ap (casteljau p r n) (mixed-is p r cs) ∙ sym (casteljau-step p r n (entry cs))
 
-pub mixing-value : (p r : ℤ) (n : ℕ) (cs : List ℤ) → mixing p r n cs ≡ value p r n cs
-mixing-value p r n cs = mixing-is p r n cs ∙ sym (value-is p r n cs)
-
 module _ (p0 r0 p1 r1 : ℤ) where
   pub stretch-is : (n : ℕ) (cs : List ℤ) (k : ℕ) → k ≤ n → entry (stretch p0 r0 p1 r1 n cs) k ≡ part p0 r0 p1 r1 n (entry cs) k
   unfolding part

@@ -6,13 +6,13 @@ use Prim.Native.Nat.{ℕ, zero, suc, _+_, _*_, _^_, _≤_, _<_}
 use native.Mathlib.Nat.{le-trans, le-of-eq, lt-of-le-of-lt, mul-le-mul, two-pow-succ, add-mul, le-refl}
 use native.Mathlib.Omega.{arith}
 use lib.Dec.{T, ltb, ltb→lt, lt→ltb}
-use lib.IntN.{ℤ, pos, natAbs, _+ℤ_, _*ℤ_}
+use lib.IntN.{ℤ, pos, _+ℤ_, _*ℤ_}
 use mir.Syntax.{w64}
 use mir.Val.{SFits}
 use mir.Facts.{toZ-ofZ}
 use Rattle.integers.specs.Entry.{entry}
 use Rattle.integers.proofs.Ranges.{stored}
-use Rattle.integers.proofs.Size.{Size, fits-size, abs-mul}
+use Rattle.integers.proofs.Size.{fits-size, abs-mul}
 use Rattle.curve_halves.specs.Halves.{triangle}
 use Rattle.curve_halves.specs.Sizes.{Each}
 use Rattle.curve_halves.proofs.Sizes.{triangle-under}

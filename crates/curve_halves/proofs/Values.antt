@@ -165,11 +165,6 @@ module _ (p r : ℤ) (d : ℕ) (cs : List ℤ) where
       ∙ casteljau-ext p r d (entry (padded cs)) (entry cs) (λ k l. padded-entry cs k (omega arith))
       ∙ sym (value-is p r d cs)
 
-module _ (p r : ℤ) (b : ℕ) (hb : b < 2) where
-  pub half-padded-value : (d : ℕ) → d ≤ mostDegree → (cs : List ℤ)
-      → value p r d (padded (half b d cs)) ≡ value (pos b *ℤ (p +ℤ r) +ℤ p) (pos (1 - b) *ℤ (p +ℤ r) +ℤ r) d cs
-  half-padded-value d h cs = value-padded p r d (half b d cs) h ∙ half-value p r d cs b hb
-
 -- ---- a value lies within the largest control value
 module _ (p r B d : ℕ) (cs : List ℤ) (e : Each B cs) where
   pub value-within : natAbs (value (pos p) (pos r) d cs) ≤ (p + r) ^ d * B

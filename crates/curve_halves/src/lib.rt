@@ -146,7 +146,7 @@ fn left_quintic(c: [i64; 6]) -> [i64; 6]
     [32 * c0, 16 * s0, 8 * t0, 4 * u0, 2 * v0, v0 + v1]
 }
 
-// The same values, one by one.
+// A copy of the values, one by one.
 pub fn same_values(c: [i64; 6]) -> [i64; 6]
     requires { ⌜ Each (2 ^ 44) c ⌝ }
     ensures { λ r. ⌜ r ≡ c ⌝ }

@@ -2,7 +2,7 @@
 -- their sum; the value is then larger by the denominator of the node's control values.
 use mathlib.Core.Path.{_≡_, refl, sym, _∙_, ap, ap₂}
 use mathlib.Core.List.{List, [], _∷_}
-use Prim.Native.Nat.{ℕ, suc, _+_, _*_, _^_, _≤_, _<_}
+use Prim.Native.Nat.{ℕ, suc, _+_, _^_, _≤_, _<_}
 use lib.IntN.{ℤ, pos, _+ℤ_, _-ℤ_, _*ℤ_, pow}
 use Rattle.setting.specs.Setting.{mostDegree}
 use Rattle.integers.proofs.Ring.{ring, sides}
@@ -53,7 +53,7 @@ values-down d h cs n hn P R =
         ∙ ring (pos s ∷ pos t ∷ P ∷ R ∷ []) {b = pos (s + 1 + t) *ℤ R} (search sides depth 20) refl
         ∙ ap (λ (v : ℕ). pos v *ℤ R) e
 
--- ---- the same for the curve of a node, in x and in y
+-- ---- the values of a node's curve, in x and in y
 module _ (c : Curve) (h : c .degree ≤ mostDegree) (n : ℕ) (hn : 0 < n) where
   module _ (p r : ℤ) where
     pub node-value-x : value (pos (start n) *ℤ (p +ℤ r) +ℤ p) (pos (remaining n) *ℤ (p +ℤ r) +ℤ r) (c .degree) (c .x)

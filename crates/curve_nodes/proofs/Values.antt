@@ -1,9 +1,9 @@
 -- The halves of a curve: the mirror law, and their values; and a coordinate against its largest control value.
-use mathlib.Core.Path.{_≡_, refl, _∙_, ap, ap₂}
+use mathlib.Core.Path.{_≡_, refl, ap₂}
 use mathlib.Core.List.{List}
-use Prim.Native.Nat.{ℕ, zero, suc, _+_, _-_, _≤_, _<_}
+use Prim.Native.Nat.{ℕ, zero, suc, _+_, _≤_}
 use native.Mathlib.Nat.{le-of-eq}
-use lib.IntN.{ℤ, pos, negℤ, _+ℤ_, _*ℤ_, pow}
+use lib.IntN.{ℤ, pos, negℤ, _*ℤ_, pow}
 use lib.Signed.{_≤ℤ_}
 use Rattle.setting.specs.Setting.{mostDegree}
 use Rattle.integers.proofs.RingLaws.{pow-natural, *ℤ-neg}
@@ -11,7 +11,7 @@ use Rattle.integers.proofs.Size.{abs-high, abs-low}
 use Rattle.curve_bernstein.specs.Value.{value}
 use Rattle.curve_halves.specs.Halves.{padded}
 use Rattle.curve_halves.specs.Sizes.{Each}
-use Rattle.curve_halves.proofs.Values.{mirror-padded, half, half-padded-value, value-within}
+use Rattle.curve_halves.proofs.Values.{mirror-padded, half, value-within}
 use Rattle.curve_nodes.specs.declared.Curve.{Curve}
 use Rattle.curve_nodes.specs.Halves.{leftHalf, rightHalf, reversedOf}
 use Rattle.curve_nodes.specs.Nodes.{halfOf}
@@ -32,13 +32,6 @@ mirror-curve c h =
 -- so at the greatest degree too
 pub mirror-quintic : (c : Curve) → c .degree ≡ 5 → reversedOf (rightHalf c) ≡ leftHalf (reversedOf c)
 mirror-quintic c e = mirror-curve c (le-of-eq e)
-
-module _ (p r : ℤ) (b : ℕ) (hb : b < 2) (c : Curve) (h : c .degree ≤ mostDegree) where
-  pub curve-half-x : value p r (c .degree) (halfOf b c .x) ≡ value (pos b *ℤ (p +ℤ r) +ℤ p) (pos (1 - b) *ℤ (p +ℤ r) +ℤ r) (c .degree) (c .x)
-  curve-half-x = ap (λ a. value p r (c .degree) (a .x)) (curve-half b c) ∙ half-padded-value p r b hb (c .degree) h (c .x)
-
-  pub curve-half-y : value p r (c .degree) (halfOf b c .y) ≡ value (pos b *ℤ (p +ℤ r) +ℤ p) (pos (1 - b) *ℤ (p +ℤ r) +ℤ r) (c .degree) (c .y)
-  curve-half-y = ap (λ a. value p r (c .degree) (a .y)) (curve-half b c) ∙ half-padded-value p r b hb (c .degree) h (c .y)
 
 -- ---- a coordinate lies within its largest control value
 module _ (p r B d : ℕ) (cs : List ℤ) (e : Each B cs) where

@@ -5,7 +5,8 @@ use lib.IntN.{ℤ, pos, natAbs, _+ℤ_, _-ℤ_, _*ℤ_}
 use Rattle.integers.specs.Entry.{entry}
 use Rattle.curve_nodes.specs.declared.Curve.{Curve}
 
--- c0 − 2 c1 + c2 of the neighbours from place k on
+-- c0 − 2 c1 + c2 of the neighbours from place k on: the second difference Δ of J. Peters and X. Wu, "SLEVEs for planar
+-- spline curves" (CAGD 21, 2004), section 3.1
 abbrev pub difference : List ℤ → ℕ → ℤ
 difference cs k = entry cs k -ℤ pos 2 *ℤ entry cs (suc k) +ℤ entry cs (suc (suc k))
 

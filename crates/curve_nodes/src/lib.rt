@@ -21,7 +21,8 @@ pub struct Curve {
 }
 
 impl Curve {
-    // The same curve, value by value. A call that is handed this one does not keep the caller's own out of registers.
+    // A copy of the curve, value by value. A call that is handed the copy does not keep the caller's own curve out of
+    // registers.
     pub fn same(self) -> Curve
         requires { ⌜ Halvable self ⌝ }
         ensures { λ r. ⌜ r ≡ self ⌝ }

@@ -1,4 +1,4 @@
--- Laws of a coordinate carried on past its end, and of its rises, by which the code goes.
+-- Laws of a coordinate carried on past its end, and of its forward differences, by which the code goes.
 pub mod Onward
-mod RisesLaws
+mod ForwardDifferences
 mod Kept

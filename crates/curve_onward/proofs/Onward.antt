@@ -1,11 +1,11 @@
 -- A coordinate of one stretch carried on over the stretch that follows, which is w times as long, for every degree. The one begins where the other
--- ends, and the rises of both are stretches of the whole's rises, so the law goes by the degree.
+-- ends, and the forward differences of both are stretches of the whole's forward differences, so the law goes by the degree.
 use mathlib.Core.Path.{_≡_, refl, sym, _∙_, ap, ap₂}
-use mathlib.Core.List.{List, [], _∷_}
+use mathlib.Core.List.{[], _∷_}
 use Prim.Native.Nat.{ℕ, zero, suc, _*_, _^_, _≤_, _<_, zero-le, suc-le-suc}
 use native.Mathlib.Nat.{le-refl, le-of-suc-le-suc}
 use lib.Pow.{pow-pos}
-use lib.IntN.{ℤ, pos, _+ℤ_, _-ℤ_, _*ℤ_, pow, +ℤ-one}
+use lib.IntN.{ℤ, pos, _*ℤ_, pow, +ℤ-one, _+ℤ_, _-ℤ_}
 use lib.Signed.{shrZ}
 use Rattle.integers.proofs.Ring.{ring, sides}
 use Rattle.integers.proofs.Order.{natural, gap<, le-by, lt-by, pos-lt}
@@ -13,7 +13,7 @@ use Rattle.integers.proofs.Rounding.{floor-unique, shift-floor}
 use Rattle.curve_bernstein.proofs.Recursion.{casteljau, casteljau-times, one-on}
 use Rattle.curve_bernstein.proofs.Stretch.{mix, casteljau-step, part, part-difference, span}
 use Rattle.curve_halves.proofs.Values.{denominator}
-use Rattle.curve_onward.specs.Onward.{rise, risen, onwardAt}
+use Rattle.curve_onward.specs.Onward.{forwardDifference, accumulated, onwardAt}
 
 -- After stretch s, of those with e after it, comes stretch s′ of those that are w times as long, with e′ after it.
 pub record Follows (w s e s′ e′ : ℕ) : Type 0 where
@@ -46,15 +46,15 @@ exact m h z = shift-floor (pos m *ℤ z) m ∙ sym (floor-unique (pos-lt h) (rec
   above = lt-by (pos m ∷ z ∷ []) (gap< (pos-lt h)) (search sides depth 20) refl;
 }))
 
--- ---- the control values: the first, and the rises from each to the next
-rises : (s e n : ℕ) (f : ℕ → ℤ) (k : ℕ) → k ≤ n → rise (span s e (suc n) f) k ≡ span s e n (rise f) k
-rises s e = part-difference (pos s) (pos (suc e)) (pos (suc s)) (pos e) (sym (+ℤ-one (pos s))) (sym (+ℤ-one (pos e)))
+-- ---- the control values: the first, and the forward differences from each to the next
+forwardDifferences : (s e n : ℕ) (f : ℕ → ℤ) (k : ℕ) → k ≤ n → forwardDifference (span s e (suc n) f) k ≡ span s e n (forwardDifference f) k
+forwardDifferences s e = part-difference (pos s) (pos (suc e)) (pos (suc s)) (pos e) (sym (+ℤ-one (pos s))) (sym (+ℤ-one (pos e)))
 
-risen-is : (z : ℤ) (f g : ℕ → ℤ) (n : ℕ) → z ≡ g 0 → ((i : ℕ) → i ≤ n → f i ≡ rise g i) → (i : ℕ) → i ≤ suc n → risen z f i ≡ g i
-unfolding risen
-risen-is z f g n e h zero l = e
-risen-is z f g n e h (suc i) l =
-    ap₂ _+ℤ_ (risen-is z f g n e h i (one-on (le-of-suc-le-suc l))) (h i (le-of-suc-le-suc l))
+accumulated-is : (z : ℤ) (f g : ℕ → ℤ) (n : ℕ) → z ≡ g 0 → ((i : ℕ) → i ≤ n → f i ≡ forwardDifference g i) → (i : ℕ) → i ≤ suc n → accumulated z f i ≡ g i
+unfolding accumulated
+accumulated-is z f g n e h zero l = e
+accumulated-is z f g n e h (suc i) l =
+    ap₂ _+ℤ_ (accumulated-is z f g n e h i (one-on (le-of-suc-le-suc l))) (h i (le-of-suc-le-suc l))
     ∙ ring (g i ∷ g (suc i) ∷ []) (search sides depth 20) refl
 
 module _ (k : ℕ) {s e s′ e′ : ℕ} (follows : Follows (2 ^ k) s e s′ e′) where
@@ -68,9 +68,9 @@ module _ (k : ℕ) {s e s′ e′ : ℕ} (follows : Follows (2 ^ k) s e s′ e�
   unfolding onwardAt part
   onward-is zero f g h i l = h 0 zero-le
   onward-is (suc n) f g h i l =
-      risen-is _ _ (span s′ e′ (suc n) f) n
+      accumulated-is _ _ (span s′ e′ (suc n) f) n
       (ap (λ z. shrZ z (2 ^ (suc n * k))) (h (suc n) (le-refl (suc n))) ∙ first (suc n) f)
       (λ j m.
-      onward-is n (rise f) (rise g) (λ a b. ap₂ _-ℤ_ (h (suc a) (suc-le-suc b)) (h a (one-on b)) ∙ rises s e n f a b) j m
-      ∙ sym (rises s′ e′ n f j m))
+      onward-is n (forwardDifference f) (forwardDifference g) (λ a b. ap₂ _-ℤ_ (h (suc a) (suc-le-suc b)) (h a (one-on b)) ∙ forwardDifferences s e n f a b) j m
+      ∙ sym (forwardDifferences s′ e′ n f j m))
       i l

@@ -9,24 +9,24 @@ use Rattle.setting.specs.Setting.{mostDegree}
 use Rattle.integers.specs.Entry.{entry}
 use Rattle.curve_halves.specs.Halves.{listed}
 
--- from a number to the next
-abbrev pub rise : (ℕ → ℤ) → ℕ → ℤ
-rise f i = f (suc i) -ℤ f i
+-- the forward difference of a sequence: from number i to the next
+abbrev pub forwardDifference : (ℕ → ℤ) → ℕ → ℤ
+forwardDifference f i = f (suc i) -ℤ f i
 
--- the rises of a coordinate's control values
-abbrev pub rises : List ℤ → List ℤ
-rises cs = listed mostDegree (rise (entry cs))
+-- the forward differences of a coordinate's control values
+abbrev pub forwardDifferences : List ℤ → List ℤ
+forwardDifferences cs = listed mostDegree (forwardDifference (entry cs))
 
--- the numbers that begin with z and rise by f
-unfoldable pub risen : ℤ → (ℕ → ℤ) → ℕ → ℤ
-risen z f zero = z
-risen z f (suc i) = risen z f i +ℤ f i
+-- the sequence that begins with z and has the forward differences f
+unfoldable pub accumulated : ℤ → (ℕ → ℤ) → ℕ → ℤ
+accumulated z f zero = z
+accumulated z f (suc i) = accumulated z f i +ℤ f i
 
--- Control value i of a coordinate of degree d, at a depth less by k. The first is where the coordinate ends, and they
--- rise as the coordinate's rises, whose degree is one less, carried on.
+-- Control value i of a coordinate of degree d, at a depth less by k. The first is where the coordinate ends, and their
+-- forward differences are those of the coordinate, whose degree is one less, carried on.
 unfoldable pub onwardAt : ℕ → ℕ → (ℕ → ℤ) → ℕ → ℤ
 onwardAt zero k f i = f 0
-onwardAt (suc n) k f i = risen (shrZ (f (suc n)) (2 ^ (suc n * k))) (onwardAt n k (rise f)) i
+onwardAt (suc n) k f i = accumulated (shrZ (f (suc n)) (2 ^ (suc n * k))) (onwardAt n k (forwardDifference f)) i
 
 unfoldable pub onward : ℕ → ℕ → List ℤ → List ℤ
 onward d k cs = listed (suc d) (onwardAt d k (entry cs))

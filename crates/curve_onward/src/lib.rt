@@ -4,7 +4,7 @@ ghost use Prim.Native.Nat.{_^_, _≤_};
 ghost use Rattle.setting.specs.Setting.{mostDegree};
 ghost use Rattle.curve_halves.specs.Halves.{padded};
 ghost use Rattle.curve_halves.specs.Sizes.{Each};
-ghost use Rattle.curve_onward.specs.Onward.{rises, onward};
+ghost use Rattle.curve_onward.specs.Onward.{forwardDifferences, onward};
 
 // One coordinate of the curve carried on.
 pub fn onward_values(degree: u32, k: u32, c: [i64; 6]) -> [i64; 6]
@@ -30,8 +30,9 @@ pub fn onward_low(degree: u32, k: u32, c: [i64; 6]) -> [i64; 6]
     }
 }
 
-// One degree each. d are the coordinate's rises and e the rises of these; r are the control values made, s their rises
-// and t the rises of these. What is made begins where the coordinate ends, and so do the rises.
+// One degree each. d are the coordinate's forward differences and e those of d; r are the control values made, s their
+// forward differences and t those of s. What is made begins where the coordinate ends, and so do the forward
+// differences.
 fn onward_line(k: u32, c: [i64; 6]) -> [i64; 6]
     requires { ⌜ (k ≤ 7) × Each (2 ^ 44) c ⌝ }
     ensures { λ r. ⌜ r ≡ padded (onward 1 k c) ⌝ }
@@ -82,12 +83,12 @@ fn onward_cubic(k: u32, c: [i64; 6]) -> [i64; 6]
     [r0, r1, r2, r2 + s2, 0, 0]
 }
 
-// Here the rises are carried on by the degree below. s are what comes of them.
+// Here the forward differences are carried on by the degree below. s are what comes of them.
 fn onward_quartic(k: u32, c: [i64; 6]) -> [i64; 6]
     requires { ⌜ (k ≤ 7) × Each (2 ^ 45) c ⌝ }
     ensures { λ r. ⌜ r ≡ padded (onward 4 k c) ⌝ }
 {
-    let s = onward_cubic(k, rises(c));
+    let s = onward_cubic(k, forward_differences(c));
     let c4 = c[4];
     let s0 = s[0];
     let s1 = s[1];
@@ -104,7 +105,7 @@ fn onward_quintic(k: u32, c: [i64; 6]) -> [i64; 6]
     requires { ⌜ (k ≤ 7) × Each (2 ^ 44) c ⌝ }
     ensures { λ r. ⌜ r ≡ padded (onward 5 k c) ⌝ }
 {
-    let s = onward_quartic(k, rises(c));
+    let s = onward_quartic(k, forward_differences(c));
     let c5 = c[5];
     let s0 = s[0];
     let s1 = s[1];
@@ -119,10 +120,10 @@ fn onward_quintic(k: u32, c: [i64; 6]) -> [i64; 6]
     [r0, r1, r2, r3, r4, r4 + s4]
 }
 
-// The rises from each control value to the next, the last of degree 5.
-fn rises(c: [i64; 6]) -> [i64; 6]
+// The forward differences of the control values of one coordinate, the last one of degree 5.
+fn forward_differences(c: [i64; 6]) -> [i64; 6]
     requires { ⌜ Each (2 ^ 45) c ⌝ }
-    ensures { λ r. ⌜ r ≡ padded (rises c) ⌝ }
+    ensures { λ r. ⌜ r ≡ padded (forwardDifferences c) ⌝ }
 {
     let c0 = c[0];
     let c1 = c[1];

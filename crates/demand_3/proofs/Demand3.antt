@@ -29,7 +29,7 @@ use Rattle.band.specs.Banding.{bandGiven, writtenGiven, banded, written, banded
 use Rattle.band.specs.Banding.{bandedBinary64, writtenBinary64}
 use Rattle.band_records.specs.Ranges.{SoundList}
 use Rattle.band_passes.specs.Leaves.{leavesOf}
-use Rattle.band_passes.specs.Meeting.{AllMeet}
+use Rattle.band_passes.specs.FirstWide.{AllMeet}
 use Rattle.walk_depths.specs.Premise.{Flat}
 use Rattle.band_records.proofs.Sound.{record-curve, record-node}
 use Rattle.band_records.proofs.Standing.{Found, every-end-stands, every-record-stands}
@@ -224,7 +224,7 @@ spline-demand-3 m T ns old a b c done x y answer judged =
     given-demand-3 (splines m) T (spline-given m ns) old a b c done x y answer
     (verdict-same m (judgingFault (splines m) rs x y) rs x y answer (rw (faults-same m rs x y) at judged))
 
--- ---- the same where fewer curves may stand than in lists: the leaves are judged as every leaf list is
+-- ---- demand 3 where fewer curves may stand than in lists: the leaves are judged as every leaf list is
 pub demand-3-listed : (σ : Setting) → σ .sixths ≡ false → σ .most ≤ lists (σ .pieces) .most → (T : ℤ) (ns old : List ℤ) (a b c : ℕ)
     → banded σ T ns (length old) ≡ Done a b c
     → (x y : ℤ) (answer : Judgement) → Judged (lists (σ .pieces)) (take (recordLength σ * b) (written σ T ns old)) x y answer

@@ -2,21 +2,17 @@
 -- weaker one is seen here.
 use mathlib.Core.Path.{_≡_, refl, sym, _∙_, ap, subst}
 use mathlib.Core.List.{List, [], _∷_, _++_}
-use Prim.Native.Nat.{ℕ, suc, _+_, _-_, _*_, _/_, _%_, _≤_, _<_}
+use Prim.Native.Nat.{ℕ, suc, _+_, _-_, _*_, _/_, _≤_, _<_}
 use native.Mathlib.Omega.{arith}
 use lib.Dec.{lit<}
 use lib.ListN.{length, take, length-append}
-use lib.IntN.{ℤ, pos, _+ℤ_, _-ℤ_, _*ℤ_, pow, one}
-use lib.Signed.{_≤ℤ_}
+use lib.IntN.{ℤ, pos, _*ℤ_, pow, one}
 use Rattle.integers.specs.Entry.{entry}
-use Rattle.integers.specs.Squares.{squared}
 use Rattle.setting.specs.Setting.{lists, splines, recordLength}
-use Rattle.curve_bernstein.specs.Value.{value}
 use Rattle.curve_nodes.specs.declared.Curve.{Curve}
 use Rattle.curve_nodes.specs.Nodes.{depth}
-use Rattle.curve_nodes.specs.Points.{Equals, Within, scaled}
+use Rattle.curve_nodes.specs.Points.{Equals, Within}
 use Rattle.outline_splines.specs.Splines.{splineAt, splinesFrom, splineCount}
-use Rattle.outline_splines.specs.Basis.{splineSum}
 use Rattle.outline_splines.proofs.Basis.{curve-number, curve-value}
 use Rattle.outline_splines.proofs.Accepted.{Splines, accepted, splines-length, spline-degree}
 use Rattle.band.specs.declared.banding.Banded.the-variants.{Done}
@@ -24,8 +20,8 @@ use Rattle.band.specs.Banding.{bandedSpline, writtenSpline}
 use Rattle.walk_depths.specs.Premise.{Flat}
 use Rattle.judge.specs.declared.judging.Judgement.{Judgement}
 use Rattle.judge.specs.Judging.{Judged as JudgedSo}
-use Rattle.demand_3.specs.Demand3.{CurveOf, IsOn, Somewhere, SplineDemand3}
-use Rattle.demand_3.specs.Splines.{splineOffset, SplinePlace, OnSpline, NearSpline}
+use Rattle.demand_3.specs.Demand3.{CurveOf, IsOn, SplineDemand3}
+use Rattle.demand_3.specs.Splines.{SplinePlace, OnSpline, NearSpline}
 use Rattle.demand_3.proofs.Demand3.{same-curve, spline-demand-3}
 
 -- ---- curve k of a list of points that is accepted is that of points k to k + 3

@@ -1,12 +1,10 @@
 -- The starred examples hold: banding's and drawing's by computation, and judging's for every answer that its promise allows.
 use mathlib.Core.Path.{_≡_, refl, _∙_, subst}
-use mathlib.Core.Bool.{Bool, true, false}
+use mathlib.Core.Bool.{true, false}
 use mathlib.Core.List.{List, [], _∷_, _++_}
 use mathlib.Core.Option.{none}
-use Prim.Native.Nat.{ℕ, zero, suc, _*_, _≤_, _<_}
-use native.Mathlib.Omega.{arith}
+use Prim.Native.Nat.{_≤_}
 use borrow.Author.Tests.{le-ltb}
-use lib.Dec.{lit<}
 use lib.ListN.{length, replicate, drop}
 use lib.IntN.{ℤ, pos}
 use lib.Signed.{ltZ, leZ, ≤ℤ-refl}

@@ -67,14 +67,14 @@ pub record GivenDemand3 (σ : Setting) (T : ℤ) (o : Outlined) (rs : List ℤ) 
   pub are : o ≡ curves all
   pub demand-3 : Demand3 σ T all rs x y answer
 
--- so of the outline ns
+-- demand 3 of the outline ns
 abbrev pub OutlineDemand3 : Setting → ℤ → (ns rs : List ℤ) → (x y : ℤ) → Judgement → Type 0
 OutlineDemand3 σ T ns rs x y answer = GivenDemand3 σ T (outlined (σ .most) (σ .pieces) ns) rs x y answer
 
--- of the outline in binary64 xs, whose curves are those of the whole numbers read
+-- demand 3 of the outline in binary64 xs, whose curves are those of the whole numbers read
 abbrev pub Binary64Demand3 : ℕ → ℤ → List Float → (rs : List ℤ) → (x y : ℤ) → Judgement → Type 0
 Binary64Demand3 m T xs rs x y answer = GivenDemand3 (lists m) T (outlinedBinary64 4096 m xs) rs x y answer
 
--- and of the B-spline of the points ns
+-- demand 3 of the B-spline of the points ns
 abbrev pub SplineDemand3 : ℕ → ℤ → (ns rs : List ℤ) → (x y : ℤ) → Judgement → Type 0
 SplineDemand3 m T ns rs x y answer = GivenDemand3 (splines m) T (splined ns) rs x y answer

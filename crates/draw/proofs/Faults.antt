@@ -13,6 +13,18 @@ use Rattle.boxes.specs.Ranges.{boxNumberFine, numbersOf, boxFault, placeOr}
 use Rattle.boxes.proofs.Faults.{fault-at, place-some, place-none, box-none, place-most}
 use Rattle.draw.specs.Drawing.{twoBoxesFault}
 
+-- the test of a box's own number at place p
+abbrev own : Box → ℕ → Bool
+own c p = boxNumberFine p (entry (numbersOf c) p) (entry (numbersOf c) (suc p))
+
+-- two tests that agree at the four places of a box
+each-of-four : (f g : ℕ → Bool) → f 0 ≡ g 0 → f 1 ≡ g 1 → f 2 ≡ g 2 → f 3 ≡ g 3 → (p : ℕ) → p < 4 → f p ≡ g p
+each-of-four f g a b c d zero h = a
+each-of-four f g a b c d (suc zero) h = b
+each-of-four f g a b c d (suc (suc zero)) h = c
+each-of-four f g a b c d (suc (suc (suc zero))) h = d
+each-of-four f g a b c d (suc (suc (suc (suc p)))) h = absurd (omega arith)
+
 module _ (a b : Box) where
   abbrev fine : ℕ → Bool
   fine p = boxNumberFine p (entry (numbersOf a ++ numbersOf b) p) (entry (numbersOf a ++ numbersOf b) (suc p))
@@ -20,23 +32,15 @@ module _ (a b : Box) where
   two-faults : twoBoxesFault a b ≡ orElse (moved 0 (boxFault a)) (moved 4 (boxFault b))
   two-faults = bad-parts fine 4 4 0 ∙ ap₂ orElse (fault-at fine 0 a at-first) (fault-at fine 4 b at-second)
     where
-      at-first : (p : ℕ) → p < 4 → fine (0 + p) ≡ boxNumberFine p (entry (numbersOf a) p) (entry (numbersOf a) (suc p))
-      at-first zero h = refl
-      at-first (suc zero) h = refl
-      at-first (suc (suc zero)) h = refl
-      at-first (suc (suc (suc zero))) h = refl
-      at-first (suc (suc (suc (suc p)))) h = absurd (omega arith)
+      at-first : (p : ℕ) → p < 4 → fine (0 + p) ≡ own a p
+      at-first = each-of-four (λ p. fine (0 + p)) (own a) refl refl refl refl
 
-      at-second : (p : ℕ) → p < 4 → fine (4 + p) ≡ boxNumberFine p (entry (numbersOf b) p) (entry (numbersOf b) (suc p))
-      at-second zero h = refl
-      at-second (suc zero) h = refl
-      at-second (suc (suc zero)) h = refl
-      at-second (suc (suc (suc zero))) h = refl
-      at-second (suc (suc (suc (suc p)))) h = absurd (omega arith)
+      at-second : (p : ℕ) → p < 4 → fine (4 + p) ≡ own b p
+      at-second = each-of-four (λ p. fine (4 + p)) (own b) refl refl refl refl
 
   pub second-at-most : placeOr 4 (boxFault b) ≤ 4
   unfolding boxFault
-  second-at-most = place-most (λ p. boxNumberFine p (entry (numbersOf b) p) (entry (numbersOf b) (suc p))) 4
+  second-at-most = place-most (own b) 4
 
   pub fault-of-first : {place : ℕ} → place ≡ placeOr 4 (boxFault a) → place < 4 → place ≡ placeOr 8 (twoBoxesFault a b)
   fault-of-first e h =

@@ -25,10 +25,6 @@ unfolding numbers
 numbers-length [] = refl
 numbers-length (p ∷ ps) = let e = numbers-length ps in omega arith
 
-pub numbers-one : (p : Point) → numbers (p ∷ []) ≡ p .x ∷ p .y ∷ []
-unfolding numbers
-numbers-one p = refl
-
 -- two stores, one after the other
 pub two-sets : (l : List ℤ) (at : ℕ) {a b a′ b′ : ℤ} → a′ ≡ a → b′ ≡ b → set (set l at a′) (at + 1) b′ ≡ sets l at (a ∷ b ∷ [])
 two-sets l at ea eb = ap₂ (λ x y. set (set l at x) (at + 1) y) ea eb ∙ rw add-one

@@ -13,8 +13,8 @@ pub mod path_points;
 pub mod vertices;
 
 // Draws the convex hull of two boxes: its vertices, x and y of each, counter-clockwise from the lowest, then leftmost,
-// stand at the front of the list afterwards, and what stood behind them stays. A refusal alters nothing. Any boxes and
-// any list may be asked about.
+// stand at the front of the list afterwards, and what stood behind them stays. A refusal alters nothing. Defined for
+// every two boxes and every list.
 pub fn draw(first: Box, second: Box, vertices: &mut [i32]) -> Drawn
     ensures { λ r. ⌜ r ≡ drawn first second (length (now (vertices .entry))) ⌝ }
     ensures { λ r. ⌜ now (vertices .exit) ≡ drawnInto first second (now (vertices .entry)) ⌝ }

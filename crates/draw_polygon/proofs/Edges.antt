@@ -35,7 +35,7 @@ falling o (inr h) = h
 
 -- ---- the cross product
 module _ (u v w : Point) where
-  -- the same from each of the three
+  -- the turn from each of the three
   pub turn-round : turn v w u ≡ turn u v w
   unfolding turn
   turn-round = ring (u .x ∷ u .y ∷ v .x ∷ v .y ∷ w .x ∷ w .y ∷ []) (search sides depth 40 fits 9999) refl

@@ -34,14 +34,14 @@ module _ (σ : Setting) (T : ℤ) (ns old : List ℤ) (x y : ℤ) (r : Refusal) 
       go (Done a b c) e none f = absurd (not-judged (rw (e, Answered, f) at answered))
 
 -- ---- an outcome with a judgement: nothing was refused, the report is banding's, and the judgement is of the leaves that it left in the list
-pub record Told (σ : Setting) (T : ℤ) (ns : List ℤ) (x y : ℤ) (old : List ℤ) (a b c : ℕ) (j : Judgement) : Type 0 where
+pub record JudgedOutcome (σ : Setting) (T : ℤ) (ns : List ℤ) (x y : ℤ) (old : List ℤ) (a b c : ℕ) (j : Judgement) : Type 0 where
   pub report : banded σ T ns (length old) ≡ Done a b c
   pub list : writtenFor σ T ns x y old ≡ written σ T ns old
   pub judged : Verdict σ none (take (recordLength σ * b) (written σ T ns old)) x y j
   pub demand-3 : OutlineDemand3 σ T ns (take (recordLength σ * b) (written σ T ns old)) x y j
 
 module _ (σ : Setting) (T : ℤ) (ns old : List ℤ) (x y : ℤ) (a b c : ℕ) (j : Judgement) where
-  pub judged-told : Answered σ T ns x y old (Judged a b c j) → Told σ T ns x y old a b c j
+  pub judged-told : Answered σ T ns x y old (Judged a b c j) → JudgedOutcome σ T ns x y old a b c j
   judged-told answered = go (banded σ T ns (length old)) refl (pointFault x y) refl
     where
       same : {a′ b′ c′ : ℕ} {j′ : Judgement} → Judged a b c j ≡ Judged a′ b′ c′ j′ → (a ≡ a′) × (b ≡ b′) × (c ≡ c′) × (j ≡ j′)
@@ -50,7 +50,7 @@ module _ (σ : Setting) (T : ℤ) (ns old : List ℤ) (x y : ℤ) (a b c : ℕ) 
       not-refused : {r : Refusal} → Judged a b c j ≡ Refused r → ⊥
       not-refused e = clash (cc)
 
-      go : (d : Banded) → banded σ T ns (length old) ≡ d → (fault : Option Refusal) → pointFault x y ≡ fault → Told σ T ns x y old a b c j
+      go : (d : Banded) → banded σ T ns (length old) ≡ d → (fault : Option Refusal) → pointFault x y ≡ fault → JudgedOutcome σ T ns x y old a b c j
       go (NotBanded q) e fault f = absurd (not-refused (rw (e, Answered) at answered))
       go (Done a′ b′ c′) e (some q) f = absurd (not-refused (rw (e, Answered, f) at answered))
       go (Done a′ b′ c′) e none f =

@@ -1,6 +1,6 @@
 -- What banding and then judging answers, from what the two promise: a refusal of banding, that of a point, or a judgement of the leaves written.
 -- And what banding with no number lent says of banding into the whole list.
-use mathlib.Core.Path.{_≡_, refl, sym, _∙_, ap, subst}
+use mathlib.Core.Path.{_≡_, refl, sym, ap, subst}
 use mathlib.Core.Bool.{Bool, true, false}
 use mathlib.Core.List.{List}
 use mathlib.Core.Option.{Option, none, some}

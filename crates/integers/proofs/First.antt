@@ -62,7 +62,7 @@ module _ (fine : ℕ → Bool) where
       let e : fine i ≡ true = subst (λ j. fine j ≡ true) (add-zero i) (h 0 (omega arith)) in
       rw (firstBad, e) (bad-none n (i + 1) (λ k l. let m : i + 1 + k ≡ i + suc k = omega arith in rw m (h (suc k) (omega arith))))
 
--- ---- the same search from another place on
+-- ---- a search from another place on
 abbrev pub moved : ℕ → Option ℕ → Option ℕ
 moved i none = none
 moved i (some k) = some (i + k)

@@ -1,18 +1,17 @@
--- An order or an equation of ℤ handed to `omega`, which reads naturals: each integer is a difference of two naturals.
+-- An order of ℤ handed to `omega`, which reads naturals: each integer is a difference of two naturals.
 --     step : (a b c : ℤ) → a ≤ℤ b → b <ℤ c → (a +ℤ pos 1) ≤ℤ c
 --     step a b c h k =
 --         let ρ = a ∷ b ∷ c ∷ [] in
 --         le-from-ℕ ρ (search sides depth 20) (omega (arith, le-to-ℕ ρ (search sides depth 20) h, lt-to-ℕ ρ (search sides depth 20) k))
-use mathlib.Core.Path.{_≡_, refl, sym, _∙_, ap, ap₂, subst}
+use mathlib.Core.Path.{_≡_, refl, sym, _∙_, ap, ap₂}
 use mathlib.Core.List.{List, [], _∷_}
 use Prim.Native.Nat.{ℕ, suc, _+_, _*_, _≤_, _<_}
-use native.Mathlib.Nat.{le-antisymm, le-of-eq}
 use lib.IntN.{ℤ, pos, negsuc, negℤ, _+ℤ_, _-ℤ_, _*ℤ_, pow, +ℤ-idl, +ℤ-idr}
-use lib.Signed.{_≤ℤ_, _<ℤ_, ≤ℤ-refl}
+use lib.Signed.{_≤ℤ_, _<ℤ_}
 use Rattle.integers.specs.Entry.{entry}
 use Rattle.integers.proofs.Polynomial.{Expr, var, lit, _⊕_, _⊖_, _⊗_, neg, power, value}
 use Rattle.integers.proofs.Ring.{Sides, ring, sides}
-use Rattle.integers.proofs.Order.{gap, gap<, le-of-gap, lt-of-gap, nonneg-≡, pos-le, le-pos, pos-lt, lt-pos, ≤ℤ-antisymm}
+use Rattle.integers.proofs.Order.{gap, gap<, le-of-gap, lt-of-gap, nonneg-≡, pos-le, le-pos, lt-pos}
 
 -- ---- x is up x − down x
 abbrev pub up : ℤ → ℕ
@@ -102,9 +101,6 @@ lower {ρ} s = difference (s .left .expr) ρ .plus + difference (s .right .expr)
 abbrev pub upper : {ρ : List ℤ} {a b : ℤ} → Sides ρ a b → ℕ
 upper {ρ} s = difference (s .right .expr) ρ .plus + difference (s .left .expr) ρ .minus
 
-abbrev swapped : {ρ : List ℤ} {a b : ℤ} → Sides ρ a b → Sides ρ b a
-swapped s = record { left = s .right; right = s .left }
-
 across : {ρ : List ℤ} {a b : ℤ} (s : Sides ρ a b) → b -ℤ a ≡ pos (upper s) -ℤ pos (lower s)
 across {ρ} s =
     let x = difference (s .left .expr) ρ in
@@ -120,12 +116,3 @@ le-from-ℕ ρ s h = le-of-gap (nonneg-≡ (gap (pos-le h)) (across s))
 
 pub lt-to-ℕ : (ρ : List ℤ) {a b : ℤ} (s : Sides ρ a b) → a <ℤ b → lower s < upper s
 lt-to-ℕ ρ s h = lt-pos (lt-of-gap (nonneg-≡ (gap< h) (ap (λ z. z -ℤ pos 1) (sym (across s)))))
-
-pub lt-from-ℕ : (ρ : List ℤ) {a b : ℤ} (s : Sides ρ a b) → lower s < upper s → a <ℤ b
-lt-from-ℕ ρ s h = lt-of-gap (nonneg-≡ (gap< (pos-lt h)) (ap (λ z. z -ℤ pos 1) (across s)))
-
-pub eq-to-ℕ : (ρ : List ℤ) {a b : ℤ} (s : Sides ρ a b) → a ≡ b → lower s ≡ upper s
-eq-to-ℕ ρ {a} s e = le-antisymm (le-to-ℕ ρ s (subst (λ z. a ≤ℤ z) e (≤ℤ-refl a))) (le-to-ℕ ρ (swapped s) (subst (λ z. z ≤ℤ a) e (≤ℤ-refl a)))
-
-pub eq-from-ℕ : (ρ : List ℤ) {a b : ℤ} (s : Sides ρ a b) → lower s ≡ upper s → a ≡ b
-eq-from-ℕ ρ s e = ≤ℤ-antisymm (le-from-ℕ ρ s (le-of-eq e)) (le-from-ℕ ρ (swapped s) (le-of-eq (sym e)))

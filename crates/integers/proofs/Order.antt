@@ -3,8 +3,7 @@
 -- combination, its certificate:
 --     weighted : {r p l h m k : ℤ} → NonNeg r → NonNeg p → l ≤ℤ h → m ≤ℤ k → (r *ℤ l +ℤ p *ℤ m) ≤ℤ (r *ℤ h +ℤ p *ℤ k)
 --     weighted {r} {p} {l} {h} {m} {k} hr hp u v = le-by (r ∷ p ∷ l ∷ h ∷ m ∷ k ∷ []) (hr ×₀ gap u +₀ hp ×₀ gap v) (search sides depth 40) refl
--- `le-by` proves ≤, `lt-by` <, `clash-by` a contradiction (the combination comes to −1), and `le-rounded` an order of whole numbers where the
--- combination is less than one unit short.
+-- `le-by` proves ≤, `lt-by` <, and `clash-by` a contradiction (the combination comes to −1).
 use mathlib.Core.Path.{_≡_, refl, sym, _∙_, ap, subst}
 use mathlib.Core.Logic.{_⊎_, inl, inr, ⊎-elim}
 use mathlib.Core.List.{List, [], _∷_}
@@ -93,9 +92,6 @@ le-of-gap {a} {b} h = leZ-yes (difference-le a b (h .holds))
 pub nonneg : {z : ℤ} → pos 0 ≤ℤ z → NonNeg z
 nonneg {z} h = nonneg-≡ (gap h) (sym (+ℤ-idr z))
 
-pub from-nonneg : {z : ℤ} → NonNeg z → pos 0 ≤ℤ z
-from-nonneg {z} h = le-of-gap (nonneg-≡ h (+ℤ-idr z))
-
 -- ---- less than: the difference less one is not negative
 suc-le : (a b : ℤ) → T (ltZ a b) → T (leZ (sucℤ a) b)
 suc-le (pos a) (pos b) t = t
@@ -152,9 +148,6 @@ lt-pos {m} {n} h = ltb→lt m n (h .lt)
 pub ≤ℤ-trans : {a b c : ℤ} → a ≤ℤ b → b ≤ℤ c → a ≤ℤ c
 ≤ℤ-trans {a} {b} {c} h k = le-by (a ∷ b ∷ c ∷ []) (gap h +₀ gap k) (search sides depth 20) refl
 
-pub ≤ℤ-<ℤ-trans : {a b c : ℤ} → a ≤ℤ b → b <ℤ c → a <ℤ c
-≤ℤ-<ℤ-trans {a} {b} {c} h k = lt-by (a ∷ b ∷ c ∷ []) (gap h +₀ gap< k) (search sides depth 20) refl
-
 opposite : {d : ℤ} → NonNeg d → NonNeg (negℤ d) → d ≡ pos 0
 opposite {d = pos zero} h k = refl
 opposite {d = pos (suc n)} h k = absurd (k .holds)
@@ -191,9 +184,6 @@ lt-or-ge m n = ⊎-elim (λ h. inr (le-pos h)) (λ h. inl (lt-pos h)) (le-or-lt 
 pub +ℤ-mono : {a b c d : ℤ} → a ≤ℤ b → c ≤ℤ d → (a +ℤ c) ≤ℤ (b +ℤ d)
 +ℤ-mono {a} {b} {c} {d} h k = le-by (a ∷ b ∷ c ∷ d ∷ []) (gap h +₀ gap k) (search sides depth 20) refl
 
-pub *ℤ-mono : {a b k : ℤ} → NonNeg k → a ≤ℤ b → (k *ℤ a) ≤ℤ (k *ℤ b)
-*ℤ-mono {a} {b} {k} hk h = le-by (a ∷ b ∷ k ∷ []) (hk ×₀ gap h) (search sides depth 20) refl
-
 pub times-positive : {x y : ℤ} → pos 0 <ℤ x → pos 0 <ℤ y → pos 0 <ℤ (x *ℤ y)
 times-positive {x} {y} h k = lt-by (x ∷ y ∷ []) (gap< h ×₀ gap< k +₀ gap< h +₀ gap< k) (search sides depth 20) refl
 
@@ -229,6 +219,3 @@ nonneg-rounded k {d = negsuc n} h = absurd (go (negsuc n) (below-zero n) h)
   where
     go : (d : ℤ) → NonNeg (pos 0 -ℤ d -ℤ pos 1) → NonNeg (pos (k + 1) *ℤ d +ℤ pos k) → ⊥
     go d u v = clash-by (d ∷ pos k ∷ []) (natural (k + 1) ×₀ u +₀ v) (search sides depth 20) refl
-
-pub le-rounded : (k : ℕ) (ρ : List ℤ) {a b x : ℤ} → NonNeg x → (s : Sides ρ (pos (k + 1) *ℤ (b -ℤ a) +ℤ pos k) x) → residue s ≡ num (pos 0) → a ≤ℤ b
-le-rounded k ρ h s e = le-of-gap (nonneg-rounded k (nonneg-by ρ h s e))

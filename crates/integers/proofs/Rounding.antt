@@ -13,7 +13,7 @@ use mir.Val.{SFits, ofZ}
 use mir.Facts.{toZ-ofZ}
 use Rattle.integers.specs.Rounding.{floor, ceiling}
 use Rattle.integers.proofs.Ring.{ring, sides}
-use Rattle.integers.proofs.Order.{NonNeg, natural, nonneg-by, gap, gap<, le-by, lt-by, clash-by, pos-lt, le-or-lt, ≤ℤ-trans, ≤ℤ-antisymm}
+use Rattle.integers.proofs.Order.{NonNeg, natural, nonneg-by, gap, gap<, le-by, lt-by, clash-by, pos-lt, le-or-lt, ≤ℤ-antisymm}
 use Rattle.integers.proofs.Order.{*ℤ-cancel, times-positive, _+₀_, _×₀_}
 use Rattle.integers.proofs.Size.{abs-within}
 use Rattle.integers.proofs.Ranges.{stored, lt-yes, lt-no}
@@ -75,10 +75,6 @@ pub floor-neg : (n d : ℤ) → floor (negℤ n) d ≡ negℤ (ceiling n d)
 unfolding ceiling
 floor-neg n d = sym (negℤ-negℤ (floor (negℤ n) d))
 
-pub ceiling-neg : (n d : ℤ) → ceiling (negℤ n) d ≡ negℤ (floor n d)
-unfolding ceiling
-ceiling-neg n d = ap (λ z. negℤ (floor z d)) (negℤ-negℤ n)
-
 -- ---- the greatest whole number k with k · d ≤ n, and the least with n ≤ k · d
 module _ {n d : ℤ} (hd : pos 0 <ℤ d) where
   le-Floor : {q k : ℤ} → Floor n d q → (k *ℤ d) ≤ℤ n → k ≤ℤ q
@@ -101,19 +97,8 @@ module _ {n d : ℤ} (hd : pos 0 <ℤ d) where
   pub ceiling-unique : {q : ℤ} → Ceiling n d q → q ≡ ceiling n d
   ceiling-unique f = ≤ℤ-antisymm (Ceiling-le f (ceiling-is n d hd .above)) (ceiling-le (f .above))
 
-pub floor-le-ceiling : (n : ℤ) {d : ℤ} → pos 0 <ℤ d → floor n d ≤ℤ ceiling n d
-floor-le-ceiling n {d} hd = ⊎-elim (λ l. l) (λ l. absurd (clash-by (n ∷ d ∷ floor n d ∷ ceiling n d ∷ [])
-    (gap (floor-is n d hd .below) +₀ gap (ceiling-is n d hd .above) +₀ (gap< hd +₀ natural 1) ×₀ gap< l +₀ gap< hd) (search sides depth 20) refl))
-    (le-or-lt (floor n d) (ceiling n d))
-
--- ---- monotone in n, and a common positive factor cancels
+-- ---- a common positive factor cancels
 module _ {d : ℤ} (hd : pos 0 <ℤ d) where
-  pub floor-mono : {n k : ℤ} → n ≤ℤ k → floor n d ≤ℤ floor k d
-  floor-mono {n} h = le-floor hd (≤ℤ-trans (floor-is n d hd .below) h)
-
-  pub ceiling-mono : {n k : ℤ} → n ≤ℤ k → ceiling n d ≤ℤ ceiling k d
-  ceiling-mono {n} {k} h = ceiling-le hd (≤ℤ-trans h (ceiling-is k d hd .above))
-
   module _ {k : ℤ} (hk : pos 0 <ℤ k) (n : ℤ) where
     scaled-positive : pos 0 <ℤ (k *ℤ d)
     scaled-positive = lt-by (k ∷ d ∷ []) ((gap< hk +₀ natural 1) ×₀ gap< hd +₀ gap< hk) (search sides depth 20) refl
@@ -162,12 +147,6 @@ pub shift-floor : (n : ℤ) (k : ℕ) → shrZ n k ≡ floor n (pos k)
 unfolding floor
 shift-floor (pos a) k = refl
 shift-floor (negsuc a) k = refl
-
--- the machine's quotient of a number that is not negative
-pub quotient-floor : (n : ℤ) (d : ℕ) → NonNeg n → quotZ n (pos d) ≡ floor n (pos d)
-unfolding floor
-quotient-floor (pos a) d h = refl
-quotient-floor (negsuc a) d h = absurd (h .holds)
 
 -- at most B in size where n is at most B · d
 pub floor-size : (B : ℕ) {n d : ℤ} → pos 0 <ℤ d → n ≤ℤ (pos B *ℤ d) → (negℤ (pos B) *ℤ d) ≤ℤ n → natAbs (floor n d) ≤ B
@@ -273,7 +252,7 @@ module _ {w : Width} {n : ℤ} (d : ℤ) (hn : SFits w n) where
   pub remainder-fits : SFits w (remZ n d)
   remainder-fits = record { sfits = lt-of-le-of-lt (mag-rem n d) (hn .sfits) }
 
--- ---- the same of what the machine holds
+-- ---- rounding of what the machine holds
 divisor-bits : (w : Width) (d : ℤ) → pos 0 <ℤ d → zero < ofZ w d
 divisor-bits w (pos D) h = ltb→lt zero D (h .lt)
 divisor-bits w (negsuc D) h = absurd (h .lt)

@@ -1,6 +1,6 @@
 -- How large a number can get, computed from its text by `search`.
 --     fits-size (search sizes depth 20) tt : SFits w64 (r *ℤ a +ℤ p *ℤ b)
--- with `Size p` and so on among the hypotheses. `size-of` makes one of `mag p < 2 ^ 30`, `size-within` of −B ≤ p ≤ B.
+-- with `Size p` and so on among the hypotheses. `size-of` makes one of `mag p < 2 ^ 30`.
 use mathlib.Core.Path.{_≡_, refl}
 use mathlib.Core.Bool.{true}
 use Prim.Native.Nat.{ℕ, zero, suc, _+_, _*_, _-_, _^_, _≤_, _<_, zero-le, suc-le-suc}
@@ -86,9 +86,6 @@ abs-low {B = zero} (pos n) h = pos-le zero-le
 abs-low {B = suc B} (pos n) h = leZ-yes tt
 abs-low {B = zero} (negsuc n) h = absurd (not-suc-le-zero h)
 abs-low {B = suc B} (negsuc n) h = leZ-yes (le→leb n B (le-of-suc-le-suc h))
-
-abbrev pub size-within : (B : ℕ) (z : ℤ) → negℤ (pos B) ≤ℤ z → z ≤ℤ pos B → Size z
-size-within B z l h = record { bound = B; under = abs-within B z l h }
 
 pub mag-abs : (z : ℤ) → mag z ≤ natAbs z
 mag-abs (pos n) = le-refl n

@@ -18,7 +18,7 @@ use Rattle.boxes.proofs.Records.{record-next, one-record}
 use Rattle.judge_cover.specs.Deciding.{sidesOf, sidesX, outside, apart, held}
 use Rattle.judge_cover.proofs.Cuts.{apart-x, apart-y}
 use Rattle.judge.proofs.Passing.{pass-each}
-use Rattle.judge.specs.Inside.{heldAt, belowAll, aboveAll, beyond, apart as apartAt, ApartTo}
+use Rattle.judge.specs.Inside.{heldAt, belowAll, aboveAll, beyond, recordApart, ApartTo}
 
 -- ---- a cover
 below-out : (z a : ℤ) → ltZ z a ≡ true → ltZ (z -ℤ a) (pos 0) ≡ true
@@ -65,7 +65,7 @@ module _ (σ : Setting) (ns : List ℤ) (x y : ℤ) (at : ℕ) where
       go true f = sym (apart-x p q x y f)
       go false f = sym (apart-y p q x y f (beyond-apart σ ns (at + 4) y e i h (omega arith) (omega arith) (omega arith) (omega arith)))
 
-  pub apart-held : apartAt σ x y ns at ≡ true → (i : ℕ) → i < covers σ → heldAt ns x y at i ≡ false
+  pub apart-held : recordApart σ x y ns at ≡ true → (i : ℕ) → i < covers σ → heldAt ns x y at i ≡ false
   apart-held e = go (beyond σ x ns (at + 2)) refl e
     where
       go : (b : Bool) → beyond σ x ns (at + 2) ≡ b → (b || beyond σ y ns (at + 4)) ≡ true → (i : ℕ) → i < covers σ → heldAt ns x y at i ≡ false
@@ -77,11 +77,11 @@ module _ {σ : Setting} {ns : List ℤ} {x y : ℤ} {from : ℕ} where
   pub apart-here : from % recordLength σ ≡ 0 → ApartTo σ x y ns from from
   apart-here e = record { whole = e; after = omega arith; each = λ k h l. absurd (omega arith) }
 
-  pub apart-more : {at : ℕ} → ApartTo σ x y ns from at → apartAt σ x y ns at ≡ true → ApartTo σ x y ns from (at + recordLength σ)
+  pub apart-more : {at : ℕ} → ApartTo σ x y ns from at → recordApart σ x y ns at ≡ true → ApartTo σ x y ns from (at + recordLength σ)
   apart-more {at} a e = record {
     whole = record-next (recordLength σ) at (a .whole);
     after = let h = a .after in omega arith;
     each = λ k h l. ⊎-elim (a .each k h)
-        (λ m. subst (λ n. apartAt σ x y ns n ≡ true) (sym (one-record (recordLength σ) k (a .whole) m l)) e)
+        (λ m. subst (λ n. recordApart σ x y ns n ≡ true) (sym (one-record (recordLength σ) k (a .whole) m l)) e)
         (lt-or-ge (recordLength σ * k) at);
   }

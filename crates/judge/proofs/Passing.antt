@@ -3,16 +3,17 @@ use mathlib.Core.Path.{_≡_, refl, sym, _∙_, ap}
 use mathlib.Core.Logic.{⊎-elim}
 use mathlib.Core.Bool.{Bool, true, false, not, _&&_}
 use mathlib.Core.List.{List}
-use Prim.Native.Nat.{ℕ, zero, suc, _+_, _*_, _≤_, _<_}
+use Prim.Native.Nat.{ℕ, zero, suc, _+_, _*_, _^_, _≤_, _<_}
 use native.Mathlib.Nat.{eq-or-lt-of-le, le-of-suc-le-suc}
 use native.Mathlib.Omega.{arith}
 use lib.IntN.{ℤ}
-use lib.Signed.{leZ, ltZ}
+use lib.Signed.{mag, leZ, ltZ}
 use mir.Syntax.{w32, w64}
 use mir.Val.{SFits}
 use mir.Facts.{toZ-ofZ, sfits-widen}
 use Rattle.integers.specs.Entry.{entry}
 use Rattle.integers.proofs.Ranges.{stored, yes-lt, no-lt, le-yes, le-no}
+use Rattle.integers.proofs.Between.{element-fits}
 use Rattle.integers.proofs.Both.{and-false, both-true}
 use Rattle.judge.specs.Inside.{allPass}
 
@@ -61,15 +62,21 @@ wide-fits fits = rw (toZ-ofZ fits) (sfits-widen tt fits)
 pub widened : {z : ℤ} → SFits w32 z → stored w64 (stored w32 z) ≡ z
 widened fits = ap (stored w64) (toZ-ofZ fits) ∙ toZ-ofZ (sfits-widen {w′ = w64} tt fits)
 
--- ---- a turn of a loop that reads the numbers: the comparison says where the test fails
-module _ (test compared : ℤ → Bool) (turn : (a : ℤ) (t : Bool) → compared a ≡ t → test a ≡ not t) (ns : List ℤ) (at : ℕ) {n i : ℕ}
-    (p : Passing test ns at n i)
-    (h : i < n) (fits : SFits w32 (entry ns (at + 4 * i))) where
+-- ---- a turn of a loop that reads m + 1 numbers: the comparison says where the test fails
+module _ (test compared : ℤ → Bool) (ns : List ℤ) (at n i : ℕ) where
   abbrev read : ℤ
   read = stored w32 (entry ns (at + 4 * i))
 
-  pub read-fails : compared read ≡ true → false ≡ allPass test ns at n
-  read-fails e = pass-fails test ns at n i h (turn _ true (rw (toZ-ofZ fits) at e))
+  pub record Reading : Type 0 where
+    pub fails : compared read ≡ true → false ≡ allPass test ns at n
+    pub passes : compared read ≡ false → Passing test ns at n (i + 1)
 
-  pub read-passes : compared read ≡ false → Passing test ns at n (i + 1)
-  read-passes e = pass-more test ns at p h (turn _ false (rw (toZ-ofZ fits) at e))
+pub reading : (test compared : ℤ → Bool) → ((a : ℤ) (t : Bool) → compared a ≡ t → test a ≡ not t) → {ns : List ℤ} {at m i : ℕ}
+    → Passing test ns at (suc m) i → i ≤ m → mag (entry ns (at + 4 * i)) < 2 ^ 31 → Reading test compared ns at (suc m) i
+reading test compared turn {ns} {at} {m} {i} p h b =
+    let fits = element-fits ns (at + 4 * i) b in
+    let in-turn : i < suc m = omega arith in
+    record {
+      fails = λ e. pass-fails test ns at (suc m) i in-turn (turn _ true (rw (toZ-ofZ fits) at e));
+      passes = λ e. pass-more test ns at p in-turn (turn _ false (rw (toZ-ofZ fits) at e));
+    }

@@ -56,14 +56,15 @@ abbrev pub beyond : Setting → ℤ → List ℤ → ℕ → Bool
 beyond σ z ns at = belowAll σ z ns at || aboveAll σ z ns (at + 1)
 
 -- the record begins at index `at`: its boxes' numbers in x from index at + 2 on, in y from at + 4 on
-abbrev pub apart : Setting → (x y : ℤ) → List ℤ → ℕ → Bool
-apart σ x y ns at = beyond σ x ns (at + 2) || beyond σ y ns (at + 4)
+abbrev pub recordApart : Setting → (x y : ℤ) → List ℤ → ℕ → Bool
+recordApart σ x y ns at = beyond σ x ns (at + 2) || beyond σ y ns (at + 4)
 
 -- a record begins at index `to` or the list ends there, and every record from index `from` to there is apart
 pub record ApartTo (σ : Setting) (x y : ℤ) (ns : List ℤ) (from to : ℕ) : Type 0 where
   pub whole : to % recordLength σ ≡ 0
   pub after : from ≤ to
-  pub each : (k : ℕ) → from ≤ recordLength σ * k → recordLength σ * k < to → apart σ x y ns (recordLength σ * k) ≡ true
+  pub each : (k : ℕ) → from ≤ recordLength σ * k → recordLength σ * k < to
+      → recordApart σ x y ns (recordLength σ * k) ≡ true
 
 -- a record begins at index `to` of the list, or the list ends there
 pub record EndsAt (σ : Setting) (ns : List ℤ) (to : ℕ) : Type 0 where

@@ -3,7 +3,7 @@ ghost use mathlib.Core.Path.{_≡_};
 ghost use Prim.Native.Nat.{_+_, _*_, _%_, _≤_};
 ghost use lib.ListN.{length};
 ghost use Rattle.setting.specs.Setting.{lists, HasRows, recordLength};
-ghost use Rattle.judge.specs.Inside.{belowAll, aboveAll, beyond, apart, EndsAt, ApartTo};
+ghost use Rattle.judge.specs.Inside.{belowAll, aboveAll, beyond, recordApart, EndsAt, ApartTo};
 
 // Whether z is below the m + 1 numbers that stand four apart from index `at` on.
 fn below_all(leaves: &[i32], m: usize, at: usize, z: i32) -> bool
@@ -51,9 +51,9 @@ fn beyond(leaves: &[i32], m: usize, at: usize, z: i32) -> bool
 
 // Whether the point (x, y) is apart from the record of m pieces that begins at index `at`: beyond all its boxes on one
 // side.
-fn apart(leaves: &[i32], m: usize, at: usize, x: i32, y: i32) -> bool
+fn record_apart(leaves: &[i32], m: usize, at: usize, x: i32, y: i32) -> bool
     requires { ⌜ at + recordLength (lists m) ≤ length (now leaves) ⌝ }
-    ensures { λ r. ⌜ r ≡ apart (lists m) x y (now (leaves .entry)) at ⌝ }
+    ensures { λ r. ⌜ r ≡ recordApart (lists m) x y (now (leaves .entry)) at ⌝ }
 {
     if beyond(leaves, m, at + 2, x) {
         return true;
@@ -70,7 +70,7 @@ fn near_from(leaves: &[i32], m: usize, from: usize, to: usize, x: i32, y: i32) -
     let record_length = 6 + 4 * m;
     let mut at = from;
     while at < to {
-        if !apart(leaves, m, at, x, y) {
+        if !record_apart(leaves, m, at, x, y) {
             return at;
         }
         at += record_length;

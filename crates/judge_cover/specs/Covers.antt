@@ -14,7 +14,8 @@ pub record Mixed (a b : ℕ) (low₀ high₀ low₁ high₁ z : ℤ) : Type 0 wh
   pub low : (pos a *ℤ low₀ +ℤ pos b *ℤ low₁) ≤ℤ (pos (a + b) *ℤ z)
   pub high : (pos (a + b) *ℤ z) ≤ℤ (pos a *ℤ high₀ +ℤ pos b *ℤ high₁)
 
--- the cover between two boxes holds the point (x, y)
+-- the cover between two boxes holds the point (x, y): the convex combination of two neighbouring point enclosures of
+-- J. Peters and X. Wu, "SLEVEs for planar spline curves" (CAGD 21, 2004), section 4
 pub record Holds (first second : Box) (x y : ℤ) : Type 0 where
   pub a : ℕ
   pub b : ℕ

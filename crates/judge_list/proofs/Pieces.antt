@@ -10,13 +10,16 @@ length-is m = omega arith
 not-least : {k m : ℕ} → k ≤ m → (m ≡ k → ⊥) → suc k ≤ m
 not-least h n = omega (arith, n)
 
-pub eight-left : {m : ℕ} → HasRows m → (m ≡ 1 → ⊥) → (m ≡ 2 → ⊥) → (m ≡ 3 → ⊥) → (m ≡ 4 → ⊥) → (m ≡ 5 → ⊥) → (m ≡ 6 → ⊥) → (m ≡ 7 → ⊥)
-    → m ≡ 8
-eight-left {m} h n1 n2 n3 n4 n5 n6 n7 =
-    let three = not-least (not-least (h .least) n1) n2 in
-    let five = not-least (not-least three n3) n4 in
-    let seven = not-least (not-least five n5) n6 in
-    both-ways (not-least seven n7) (h .most)
+-- what a match on m leaves where none of its cases 1 to 7 was taken, in the order of the cases
+abbrev NoneOfSeven : ℕ → Type 0 → Type 0
+NoneOfSeven m A = ((((((A × (m ≡ 1 → ⊥)) × (m ≡ 2 → ⊥)) × (m ≡ 3 → ⊥)) × (m ≡ 4 → ⊥)) × (m ≡ 5 → ⊥)) × (m ≡ 6 → ⊥)) × (m ≡ 7 → ⊥)
+
+pub eight-left : {m : ℕ} {A : Type 0} → HasRows m → NoneOfSeven m A → m ≡ 8
+eight-left {m} h r =
+    let three = not-least (not-least (h .least) (r .0 .0 .0 .0 .0 .0 .1)) (r .0 .0 .0 .0 .0 .1) in
+    let five = not-least (not-least three (r .0 .0 .0 .0 .1)) (r .0 .0 .0 .1) in
+    let seven = not-least (not-least five (r .0 .0 .1)) (r .0 .1) in
+    both-ways (not-least seven (r .1)) (h .most)
   where
     both-ways : 8 ≤ m → m ≤ 8 → m ≡ 8
     both-ways l k = omega arith

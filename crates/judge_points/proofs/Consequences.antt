@@ -13,7 +13,7 @@ use Rattle.integers.specs.Entry.{entry}
 use Rattle.setting.specs.Setting.{Setting}
 use Rattle.judge.specs.Judgements.{judgement}
 use Rattle.judge_points.specs.Points.{judgementNumbers, pointNumbers, numbersTo, pointsFault, judgedInto}
-use Rattle.judge_points.proofs.Told.{numbers-length}
+use Rattle.judge_points.proofs.PointNumbers.{numbers-length}
 
 module _ (σ : Setting) (ns ps : List ℤ) where
   number-at : (n i k : ℕ) → i < n → k < 3 → entry (numbersTo σ ns ps n) (3 * i + k) ≡ entry (pointNumbers σ ns ps i) k

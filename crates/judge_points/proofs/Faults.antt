@@ -1,11 +1,11 @@
 -- What judging a list of points answers, check by check.
-use mathlib.Core.Path.{_≡_, refl, sym, _∙_, ap}
+use mathlib.Core.Path.{_≡_, refl, _∙_}
 use mathlib.Core.List.{List}
 use mathlib.Core.Option.{Option, none, some}
 use Prim.Native.Nat.{ℕ, _*_, _/_, _%_, _≤_, _<_}
 use native.Mathlib.Omega.{arith}
 use borrow.Author.Tests.{eq-eqb, ne-eqb, lt-ltb, le-ltb}
-use lib.ListN.{length, drop}
+use lib.ListN.{length}
 use lib.Seq.{sets}
 use lib.IntN.{ℤ}
 use Rattle.integers.proofs.Clash.{clash}
@@ -16,7 +16,7 @@ use Rattle.judge.specs.Judging.{listFault}
 use Rattle.judge_points.specs.declared.answers.PointsJudged.{PointsJudged}
 use Rattle.judge_points.specs.declared.answers.PointsJudged.the-variants.{Points, Refused}
 use Rattle.judge_points.specs.Points.{numbersTo, pointsFault, pointsJudged, judgedInto}
-use Rattle.judge_points.proofs.Told.{in-front}
+use Rattle.judge_points.proofs.PointNumbers.{in-front}
 
 module _ (σ : Setting) (ns ps : List ℤ) (room : ℕ) where
   -- ---- 18, 9 and 10

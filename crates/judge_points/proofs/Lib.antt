@@ -1,4 +1,4 @@
 -- Laws of judging a list of points. Each file opens with what it holds.
-pub mod Told
+pub mod PointNumbers
 pub mod Faults
 pub mod Consequences

@@ -2,9 +2,8 @@
 use mathlib.Core.Path.{_≡_, refl, sym, _∙_, ap, subst}
 use mathlib.Core.Logic.{⊎-elim}
 use mathlib.Core.List.{List}
-use Prim.Native.Nat.{ℕ, zero, suc, _+_, _*_, _-_, _/_, _%_, _≤_, _<_}
+use Prim.Native.Nat.{ℕ, suc, _+_, _*_, _-_, _/_, _%_, _≤_, _<_}
 use native.Mathlib.Nat.{mul-assoc, mul-suc, mul-le-mul-left, div-add-mod, mod-lt, mul-mod-right, eq-or-lt-of-le, lt-of-mul-lt-mul-left}
-use native.Mathlib.Numerals.{add-one}
 use native.Mathlib.Omega.{arith}
 use lib.ListN.{length}
 use lib.Seq.{sets}
@@ -17,7 +16,7 @@ use Rattle.boxes.specs.Records.{boxIndex, boxAtIndex}
 use Rattle.boxes.proofs.Records.{whole-is}
 use Rattle.judge.specs.Inside.{Searched}
 use Rattle.judge.proofs.Holders.{searched-past}
-use Rattle.judge_runs.specs.Inside.{roundBoxes, LiesIn, Around, RunEnd, RunBox, Runs, RunsTo, GroupBox, Groups}
+use Rattle.judge_runs.specs.Inside.{roundBoxes, LiesIn, RunEnd, RunBox, Runs, RunsTo, GroupBox, Groups}
 use Rattle.judge_runs.proofs.Boxes.{lies-on, round-each}
 use Rattle.judge_runs.proofs.Runs.{box-written, box-before}
 

@@ -1,7 +1,7 @@
 -- A run whose box a point lies outside has no record that holds it.
 use mathlib.Core.Path.{_≡_, refl, sym, _∙_, ap, subst}
 use mathlib.Core.Logic.{⊎-elim}
-use mathlib.Core.Bool.{Bool, true, false, _&&_, _||_}
+use mathlib.Core.Bool.{Bool, true, false, _||_}
 use mathlib.Core.List.{List, [], _∷_}
 use Prim.Native.Nat.{ℕ, zero, suc, _+_, _*_, _-_, _%_, _≤_, _<_}
 use native.Mathlib.Nat.{mul-suc, add-zero, add-mod, zero-mod, eq-or-lt-of-le}
@@ -9,7 +9,7 @@ use native.Mathlib.Numerals.{add-one}
 use native.Mathlib.Omega.{arith}
 use lib.ListN.{length}
 use lib.IntN.{ℤ}
-use lib.Signed.{ltZ, _≤ℤ_, _<ℤ_}
+use lib.Signed.{ltZ, _≤ℤ_}
 use mir.Syntax.{w32}
 use mir.Val.{SFits}
 use mir.Facts.{toZ-ofZ}
@@ -21,10 +21,10 @@ use Rattle.setting.specs.Setting.{Setting, breakPoints, covers, recordLength}
 use Rattle.boxes.specs.declared.Box.{Box}
 use Rattle.boxes.specs.Records.{boxIndex, boxAtIndex}
 use Rattle.judge.specs.declared.holder.Holder.{Holder}
-use Rattle.judge.specs.Inside.{allPass, belowAll, aboveAll, beyond, apart, Searched, FoundTo}
+use Rattle.judge.specs.Inside.{allPass, belowAll, aboveAll, beyond, recordApart, Searched, FoundTo}
 use Rattle.judge.proofs.Apart.{apart-held}
 use Rattle.judge.proofs.Holders.{searched-past, held-found}
-use Rattle.judge_runs.specs.Inside.{LiesIn, Around, RunEnd, RunBox, RunsTo, outside, OutsideTo}
+use Rattle.judge_runs.specs.Inside.{LiesIn, RunEnd, RunBox, RunsTo, outside, OutsideTo}
 
 -- ---- a number below a low is below every low that is no less
 low-below : (z a b : ℤ) → ltZ z a ≡ true → a ≤ℤ b → ltZ z b ≡ true
@@ -58,23 +58,23 @@ module _ (σ : Setting) (ns : List ℤ) (k : ℕ) (b : Box) (each : (i : ℕ) �
         (λ i h. let m : boxIndex σ k i + s ≡ at + 4 * i = omega arith in
         subst (λ j. ltZ (entry ns j) z ≡ true) m (high-above z high (entry ns (boxIndex σ k i + s)) e (most i h)))
 
-  pub outside-apart : (x y : ℤ) → outside b x y ≡ true → apart σ x y ns (recordLength σ * k) ≡ true
+  pub outside-apart : (x y : ℤ) → outside b x y ≡ true → recordApart σ x y ns (recordLength σ * k) ≡ true
   outside-apart x y = go (ltZ x (b .«x_low»)) (ltZ (b .«x_high») x) (ltZ y (b .«y_low»)) refl refl refl
     where
       at : ℕ
       at = recordLength σ * k
 
-      by-x : beyond σ x ns (at + 2) ≡ true → apart σ x y ns at ≡ true
+      by-x : beyond σ x ns (at + 2) ≡ true → recordApart σ x y ns at ≡ true
       by-x e = rw e
 
-      by-y : beyond σ y ns (at + 4) ≡ true → apart σ x y ns at ≡ true
+      by-y : beyond σ y ns (at + 4) ≡ true → recordApart σ x y ns at ≡ true
       by-y e = or-second (beyond σ x ns (at + 2)) e
 
       zeroth : (i : ℕ) → i < breakPoints σ → b .«x_low» ≤ℤ entry ns (boxIndex σ k i + 0)
       zeroth i h = rw (add-zero (boxIndex σ k i)) (each i h .x-low)
 
       go : (p q r : Bool) → ltZ x (b .«x_low») ≡ p → ltZ (b .«x_high») x ≡ q → ltZ y (b .«y_low») ≡ r
-          → (p || q || r || ltZ (b .«y_high») y) ≡ true → apart σ x y ns at ≡ true
+          → (p || q || r || ltZ (b .«y_high») y) ≡ true → recordApart σ x y ns at ≡ true
       go true q r e f g h = by-x (rw (below x (at + 2) 0 (b .«x_low») (omega arith) zeroth e))
       go false true r e f g h =
           by-x (or-second (belowAll σ x ns (at + 2)) (above x (at + 2 + 1) 1 (b .«x_high») (omega arith) (λ i l. each i l .x-high) f))

@@ -24,7 +24,7 @@ use native.Mathlib.Omega.{arith}
 use borrow.Author.Tests.{not-true, eqb-false}
 use lib.Dec.{eqb}
 use lib.ListN.{length, take, drop, set, length-append, List·getD-append}
-use lib.Seq.{sets, sets-eq, length-sets, length-take-le, getD-append-add, getD-set-other}
+use lib.Seq.{sets, sets-eq, length-take-le, getD-append-add, getD-set-other}
 use lib.IntN.{ℤ, pos}
 use Rattle.integers.specs.Entry.{entry}
 use Rattle.integers.proofs.Both.{both-true}

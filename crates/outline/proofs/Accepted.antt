@@ -20,7 +20,7 @@ use Rattle.outline.specs.Faults.{faultAt}
 use Rattle.outline.specs.Checks.{Outlined, curves, faulty, withCurve, outlineFrom, outlined}
 use Rattle.outline.specs.Inside.{checkedOf}
 use Rattle.integers.proofs.Clash.{clash}
-use Rattle.outline.proofs.Faultless.{Padded, faultless, curve-sized, curve-takes, curve-padded}
+use Rattle.outline.proofs.Faultless.{faultless, curve-sized, curve-takes}
 use Rattle.outline.proofs.Steps.{outline-ended, outline-step, outline-begins, outline-ends}
 
 -- ---- what holds of every curve without a fault holds of each curve of an accepted list
@@ -81,9 +81,6 @@ module _ (left m : ℕ) (ns : List ℤ) (at : ℕ) where
 
   pub accepted-pieces : (cs : List Curve) → outlineFrom left m ns at ≡ curves cs → (c : Curve) → List·Memᴰ c cs → degreePieces (c .degree) m ≡ true
   accepted-pieces cs e = each-member (λ c. degreePieces (c .degree) m ≡ true) m ns (λ i f. curve-takes (faultless m ns i f)) left at cs e
-
-  pub accepted-padded : (cs : List Curve) → outlineFrom left m ns at ≡ curves cs → (c : Curve) → List·Memᴰ c cs → Padded c
-  accepted-padded cs e = each-member Padded m ns (λ i f. curve-padded ns i) left at cs e
 
 -- a curve by its number is a member
 pub member-at : (cs : List Curve) (k : ℕ) (other : Curve) → k < length cs → List·Memᴰ (getD cs k other) cs

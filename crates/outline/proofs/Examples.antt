@@ -4,7 +4,7 @@ use mathlib.Core.Bool.{true, false}
 use mathlib.Core.List.{List, [], _∷_, _++_}
 use Prim.Native.Nat.{ℕ, zero, suc}
 use lib.ListN.{length}
-use lib.IntN.{ℤ, pos, negsuc, negℤ}
+use lib.IntN.{ℤ, pos, negℤ}
 use Rattle.refusals.specs.Refusals.{numberOf, spotOf}
 use Rattle.outline.specs.Curves.{curveAt}
 use Rattle.integers.specs.First.{firstBad}

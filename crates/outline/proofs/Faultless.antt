@@ -29,7 +29,7 @@ use Rattle.outline.specs.declared.curve_faults.Fault.the-variants.{Is, N
 use Rattle.outline.specs.Faults.{coordinateFine, firstBeyond, meetsBefore, faultAt}
 use Rattle.outline.specs.Inside.{foundOf, faultOf}
 use Rattle.integers.proofs.Between.{between-low, between-high}
-use Rattle.integers.proofs.First.{none-bad}
+use Rattle.integers.proofs.First.{none-bad, bad-below}
 use Rattle.outline.proofs.Degrees.{degree-least, degree-most}
 
 -- ---- the checks one after the other; the last two as the code has their answers
@@ -80,7 +80,7 @@ pub data Finding (m : ℕ) (ns : List ℤ) (at : ℕ) : Option Refusal → Type 
   no-degree : Finding m ns at (some (Degree at))
   few-pieces : Finding m ns at (some (DegreePieces at))
   cut-short : Finding m ns at (some (CutShort (length ns)))
-  beyond : (i : ℕ) → Finding m ns at (some (Coordinate i))
+  beyond : (i : ℕ) → i < length ns → Finding m ns at (some (Coordinate i))
   gap : meetsBefore ns at ≡ false → Finding m ns at (some (Gap at))
   none-found : Faultless m ns at → Finding m ns at none
 
@@ -109,6 +109,7 @@ finding m ns at =
     go true b false e l f o g t h = few-pieces
     go true b true e true f o g t h = cut-short
     go true b true e false f (some i) g t h = beyond i
+        (omega (arith, ltb-false (length ns) (nextAt ns at) f, bad-below (λ k. coordinateFine (entry ns k)) (coordinates (degreeAt ns at)) (at + 1) i g))
     go true b true e false f none g false h = gap h
     go true b true e false f none g true h = none-found (record {
       degree = b;

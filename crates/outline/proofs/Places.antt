@@ -29,7 +29,7 @@ not-of-a-curve m ns at i e = go (TooManyCurves i) refl (rw e at (finding m ns at
     go _ f no-degree = clash (cc)
     go _ f few-pieces = clash (cc)
     go _ f cut-short = clash (cc)
-    go _ f (beyond k) = clash (cc)
+    go _ f (beyond k l) = clash (cc)
     go _ f (gap h) = clash (cc)
 
 -- ---- where it is due

@@ -91,7 +91,7 @@ outline-ends zero m ns at e = ltb-false at (length ns) (no-room (ltb at (length 
 outline-ends (suc left) m ns at e =
     ltb-false at (length ns) (last (ltb at (length ns)) (faultAt m ns at) (curveAt ns at) (outlineFrom left m ns (nextAt ns at)) e)
 
--- ---- the same, where a loop has tested the index
+-- ---- steps where a loop has tested the index
 pub record Continues (left m : ℕ) (ns : List ℤ) (at : ℕ) (cs : List Curve) : Type 0 where
   pub rest : List Curve
   pub is : cs ≡ curveAt ns at ∷ rest
@@ -103,6 +103,3 @@ module _ (left m : ℕ) (ns : List ℤ) (at : ℕ) where
   outline-continues (c ∷ cs) e h =
       let b = outline-begins left m ns at c cs e in
       record { rest = cs; is = ap (λ (d : Curve). d ∷ cs) (b .is); begins = subst (λ d. Begins left m ns at d cs) (b .is) b }
-
-  pub outline-over : (cs : List Curve) → outlineFrom left m ns at ≡ curves cs → length ns ≤ at → cs ≡ []
-  outline-over cs e h = let f = outline-ended m ns at left h in cc

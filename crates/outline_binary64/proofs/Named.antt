@@ -1,5 +1,5 @@
 -- What a list of f64 gives, from what the whole numbers read give: the same curves, and the fault with its name.
-use mathlib.Core.Path.{_≡_, refl, sym, _∙_, ap}
+use mathlib.Core.Path.{_≡_, refl}
 use mathlib.Core.List.{List}
 use Prim.Native.Nat.{ℕ}
 use lib.Ieee.{Float}

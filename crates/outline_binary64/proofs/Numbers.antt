@@ -11,8 +11,8 @@ use Rattle.integers.proofs.Ranges.{T-true}
 use borrow.Author.Tests.{leb-true, leb-false, le-leb, lt-leb}
 use Rattle.integers.proofs.Both.{both-true}
 use lib.ListN.{length, getD, length-map}
-use lib.IntN.{ℤ, pos, negsuc, negℤ, natAbs}
-use lib.Signed.{leZ, mag}
+use lib.IntN.{ℤ, pos, negsuc, natAbs}
+use lib.Signed.{mag}
 use mir.Syntax.{w64}
 use mir.Val.{SFits, toZ, ofZ}
 use mir.ValLaws.{toZ-ofZ}
@@ -20,8 +20,7 @@ use lib.Ieee.{Float, nan, eq}
 use Rattle.integers.specs.Entry.{entry}
 use Rattle.integers.specs.Equal.{equal}
 use Rattle.integers.proofs.Equal.{equal-≡, ≡-equal}
-use Rattle.setting.specs.Setting.{mostDegree}
-use Rattle.outline.specs.Curves.{degreeFine, coordinates, degreeAt, nextAt}
+use Rattle.outline.specs.Curves.{degreeFine, degreeAt}
 use Rattle.outline.specs.Faults.{coordinateFine}
 use Rattle.binary64.specs.Exact.{Number}
 use Rattle.binary64.specs.Read.{readOf, Means}

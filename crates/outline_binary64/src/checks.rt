@@ -2,8 +2,7 @@
 ghost use mathlib.Core.Path.{_≡_};
 ghost use mathlib.Core.Bool.{true};
 ghost use Prim.Native.Nat.{_+_, _-_, _≤_, _<_};
-ghost use lib.ListN.{length, getD};
-ghost use lib.Ieee.{nan};
+ghost use lib.ListN.{length};
 ghost use Rattle.integers.specs.Entry.{entry};
 ghost use Rattle.refusals.specs.declared.Refusal.the-variants.{Coordinate};
 ghost use Rattle.outline.specs.Curves.{degreeFine};
@@ -105,8 +104,8 @@ fn fault_at(xs: &[f64], at: usize, m: u32) -> Fault
     }
 }
 
-// Checks 2 to 6, 17, 20 and 21 of an outline that may have `most` curves, for m pieces, in their order. Every list,
-// every `most` and every m may be asked about.
+// Checks 2 to 6, 17, 20 and 21 of an outline that may have `most` curves, for m pieces, in their order. Defined for
+// every list, `most` and m.
 pub fn check_outline(xs: &[f64], most: usize, m: u32) -> Checked
     ensures { λ r. ⌜ r ≡ checkedOf (outlinedBinary64 most m (now (xs .entry))) ⌝ }
 {

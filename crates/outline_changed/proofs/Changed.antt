@@ -1,37 +1,30 @@
 -- An outline in which one curve gives way to another: its curves before and after are read as they were, and its first fault is that of the
 -- new curve, or 17 of the curve after it.
-use mathlib.Core.Path.{_≡_, refl, sym, _∙_, ap, ap₂, subst}
+use mathlib.Core.Path.{_≡_, refl, sym, _∙_, ap, ap₂}
 use mathlib.Core.Bool.{Bool, true, false, _||_, _&&_}
 use mathlib.Core.List.{List, [], _∷_, _++_}
 use mathlib.Core.Option.{Option, none, some}
-use Prim.Native.Nat.{ℕ, zero, suc, _+_, _-_, _*_, _≤_, _<_}
-use native.Mathlib.Nat.{zero-add, add-zero, not-suc-le-zero, le-of-suc-le-suc}
+use Prim.Native.Nat.{ℕ, zero, suc, _+_, _-_, _≤_, _<_}
+use native.Mathlib.Nat.{not-suc-le-zero, le-of-suc-le-suc}
 use native.Mathlib.Omega.{arith}
-use borrow.Author.Tests.{lt-ltb, le-ltb, le-leb, lt-leb, ltb-true, ltb-false}
-use lib.Dec.{leb, ltb}
-use lib.ListN.{length, take, drop, length-append, length-drop, List·getD-append}
-use lib.Seq.{length-take-le, getD-take, getD-drop, getD-append-add}
-use lib.IntN.{ℤ, pos}
-use Rattle.setting.specs.Setting.{degreePieces}
+use lib.Dec.{ltb}
+use lib.ListN.{length, take, drop}
+use lib.IntN.{ℤ}
 use Rattle.integers.specs.Entry.{entry}
 use Rattle.integers.specs.Equal.{equal}
-use Rattle.integers.specs.First.{firstBad}
-use Rattle.integers.proofs.Clash.{clash}
-use Rattle.integers.proofs.First.{moved, bad-moved, none-bad}
 use Rattle.refusals.specs.declared.Refusal.{Refusal}
-use Rattle.refusals.specs.declared.Refusal.the-variants.{Degree, Coordinate, Gap, DegreePieces}
+use Rattle.refusals.specs.declared.Refusal.the-variants.{Gap}
 use Rattle.curve_nodes.specs.declared.Curve.{Curve}
 use Rattle.outline.specs.Curves.{degreeFine, coordinates, degreeAt, nextAt, curveAt}
-use Rattle.outline.specs.Faults.{coordinateFine, firstBeyond, meetsBefore, faultAt}
+use Rattle.outline.specs.Faults.{meetsBefore, faultAt}
 use Rattle.outline.specs.Checks.{Outlined, curves, faulty, withCurve, outlineFrom}
 use Rattle.outline.specs.Places.{placeOf}
-use Rattle.outline.proofs.Degrees.{degree-most}
-use Rattle.outline.proofs.Faultless.{fault-degree, fault-pieces, faultless}
-use Rattle.outline.proofs.Steps.{Begins, outline-begins, outline-ends, outline-ended, outline-step, outline-faulty}
+use Rattle.outline.proofs.Faultless.{faultless}
+use Rattle.outline.proofs.Steps.{Begins, outline-begins, outline-step, outline-faulty}
 use Rattle.outline_changed.specs.Changed.{changed}
-use Rattle.outline_changed.specs.Inside.{samePoint, ownFault, meetsOld, meetsNext, changedFault}
+use Rattle.outline_changed.specs.Inside.{ownFault, meetsOld, meetsNext, changedFault}
 use Rattle.outline_changed.proofs.OwnFaults.{own-fine}
-use Rattle.outline_changed.proofs.Transfer.{fault-beyond, Sound, sound, sound-none, sound-gap, same-degree, same-next, same-curve, same-sound}
+use Rattle.outline_changed.proofs.Transfer.{Sound, sound, sound-none, sound-gap, same-next, same-curve, same-sound}
 use Rattle.outline_changed.proofs.NewCurve.{put, put-before, begun, meets-there, own-there, own-sound, new-curve, new-next, after-new}
 
 -- ---- the curves before it

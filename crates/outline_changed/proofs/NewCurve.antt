@@ -1,13 +1,13 @@
 -- An outline in which other numbers stand for a curve's: they are read as by themselves, and the curve after them as it was.
-use mathlib.Core.Path.{_≡_, refl, sym, _∙_, ap, ap₂, subst}
+use mathlib.Core.Path.{_≡_, refl, sym, _∙_, ap, ap₂}
 use mathlib.Core.Bool.{Bool, true, false, _||_, _&&_}
 use mathlib.Core.List.{List, [], _∷_, _++_}
 use mathlib.Core.Option.{Option, none, some}
-use Prim.Native.Nat.{ℕ, zero, suc, _+_, _-_, _*_, _≤_, _<_}
-use native.Mathlib.Nat.{zero-add, add-zero, not-suc-le-zero, le-of-suc-le-suc}
+use Prim.Native.Nat.{ℕ, zero, suc, _+_, _-_, _≤_, _<_}
+use native.Mathlib.Nat.{zero-add, add-zero, not-suc-le-zero}
 use native.Mathlib.Omega.{arith}
-use borrow.Author.Tests.{lt-ltb, le-ltb, le-leb, lt-leb, ltb-true, ltb-false}
-use lib.Dec.{leb, ltb}
+use borrow.Author.Tests.{le-ltb, le-leb, lt-leb, ltb-false}
+use lib.Dec.{ltb}
 use lib.ListN.{length, take, drop, length-append, length-drop, List·getD-append}
 use lib.Seq.{length-take-le, getD-take, getD-drop, getD-append-add}
 use lib.IntN.{ℤ, pos}
@@ -22,13 +22,11 @@ use Rattle.refusals.specs.declared.Refusal.the-variants.{Degree, Coordinate, Ga
 use Rattle.curve_nodes.specs.declared.Curve.{Curve}
 use Rattle.outline.specs.Curves.{degreeFine, coordinates, degreeAt, nextAt, curveAt}
 use Rattle.outline.specs.Faults.{coordinateFine, firstBeyond, meetsBefore, faultAt}
-use Rattle.outline.specs.Checks.{Outlined, curves, faulty, withCurve, outlineFrom}
-use Rattle.outline.specs.Places.{placeOf}
+use Rattle.outline.specs.Checks.{curves, faulty, withCurve, outlineFrom}
 use Rattle.outline.proofs.Degrees.{degree-most}
 use Rattle.outline.proofs.Faultless.{fault-degree, fault-pieces, faultless}
-use Rattle.outline.proofs.Steps.{Begins, outline-begins, outline-ends, outline-ended, outline-step, outline-faulty}
-use Rattle.outline_changed.specs.Inside.{samePoint, ownFault, meetsOld, meetsNext, changedFault}
-use Rattle.outline_changed.proofs.OwnFaults.{own-fine}
+use Rattle.outline.proofs.Steps.{outline-begins, outline-ends, outline-ended, outline-step, outline-faulty}
+use Rattle.outline_changed.specs.Inside.{samePoint, ownFault, meetsOld, meetsNext}
 use Rattle.outline_changed.proofs.Transfer.{fault-beyond, Sound, sound, sound-none, sound-gap, same-degree, same-next, same-curve, same-sound}
 
 -- ---- the list with other numbers from index p up to q

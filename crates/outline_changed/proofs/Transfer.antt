@@ -1,24 +1,23 @@
 -- A curve that stands in two outlines, at any place of each: it is read the same, and where the one has no fault, the other has none but 17.
-use mathlib.Core.Path.{_≡_, refl, sym, _∙_, ap, ap₂, subst}
+use mathlib.Core.Path.{_≡_, refl, ap, ap₂}
 use mathlib.Core.Bool.{Bool, true, false, cond}
-use mathlib.Core.List.{List, [], _∷_}
-use mathlib.Core.Option.{Option, none, some}
-use Prim.Native.Nat.{ℕ, zero, suc, _+_, _-_, _*_, _≤_, _<_}
+use mathlib.Core.List.{List}
+use mathlib.Core.Option.{none, some}
+use Prim.Native.Nat.{ℕ, _+_, _*_, _≤_, _<_}
 use native.Mathlib.Nat.{add-zero}
 use native.Mathlib.Omega.{arith}
 use borrow.Author.Tests.{le-ltb, leb-true}
-use lib.Dec.{leb, ltb}
+use lib.Dec.{leb}
 use lib.ListN.{length}
 use lib.IntN.{ℤ, pos, natAbs}
 use Rattle.setting.specs.Setting.{controlValues, degreePieces}
 use Rattle.integers.specs.Entry.{entry}
 use Rattle.integers.proofs.First.{bad-none}
 use Rattle.refusals.specs.declared.Refusal.the-variants.{Coordinate, Gap}
-use Rattle.curve_nodes.specs.declared.Curve.{Curve}
 use Rattle.curve_halves.proofs.Values.{listed-ext}
 use Rattle.outline.specs.Curves.{degreeFine, coordinates, degreeAt, nextAt, values, curveAt}
 use Rattle.outline.specs.Faults.{coordinateFine, firstBeyond, meetsBefore, faultAt}
-use Rattle.outline.proofs.Faultless.{Faultless, faultless, valueAt}
+use Rattle.outline.proofs.Faultless.{faultless, valueAt}
 
 -- ---- 4, where it is the first fault
 pub fault-beyond : (m : ℕ) (ns : List ℤ) (at i : ℕ) → degreeFine (entry ns at) ≡ true → degreePieces (degreeAt ns at) m ≡ true
@@ -50,7 +49,7 @@ module _ (m : ℕ) (ns : List ℤ) (at : ℕ) where
         let n = bad-none (λ k. coordinateFine (entry ns k)) (coordinates (degreeAt ns at)) (at + 1) (s .fine) in
         rw (faultAt, s .degree, s .enough, le-ltb (length ns) (nextAt ns at) (s .ends), n, e)
 
--- ---- the same numbers at two places
+-- ---- equal numbers at two places
 module _ (ns ns′ : List ℤ) (at at′ : ℕ)
     (same : (i : ℕ) → i < 1 + coordinates (degreeAt ns at) → entry ns′ (at′ + i) ≡ entry ns (at + i)) where
   same-first : entry ns′ at′ ≡ entry ns at

@@ -10,7 +10,7 @@ use refusals::Refusal;
 
 pub mod curve_checks;
 
-// Check 1: whether a tolerance, in sixteenths of a unit, is in its range. Every number may be asked about.
+// Check 1: whether a tolerance, in sixteenths of a unit, is in its range. Defined for every number.
 pub fn tolerance_fine(t: i32) -> bool
     ensures { λ r. ⌜ r ≡ toleranceFine t ⌝ }
 {
@@ -20,8 +20,8 @@ pub fn tolerance_fine(t: i32) -> bool
     t <= 1048576
 }
 
-// Checks 2 to 6, 17 and 20 of an outline that may have `most` curves, for m pieces, in their order. Every list, every
-// `most` and every m may be asked about.
+// Checks 2 to 6, 17 and 20 of an outline that may have `most` curves, for m pieces, in their order. Defined for every
+// list, `most` and m.
 pub fn check_outline(ns: &[i32], most: usize, m: u32) -> Checked
     ensures { λ r. ⌜ r ≡ checkedOf (outlined most m (now (ns .entry))) ⌝ }
 {

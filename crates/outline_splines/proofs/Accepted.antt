@@ -1,28 +1,27 @@
 -- What holds of a list of points that passes checks 24 and 25: how many curves it gives, and that 64 bits have room to halve each.
-use mathlib.Core.Path.{_≡_, refl, ap, sym, _∙_}
+use mathlib.Core.Path.{_≡_, refl, ap, _∙_}
 use mathlib.Core.Bool.{Bool, true, false, _&&_}
 use mathlib.Core.List.{List, [], _∷_, List·Memᴰ, List·Memᴰ·not-nil, List·Memᴰ·cases-cons}
 use mathlib.Core.Logic.{⊎-elim}
 use mathlib.Core.Option.{Option, none, some}
-use Prim.Native.Nat.{ℕ, zero, suc, _+_, _-_, _*_, _/_, _%_, _^_, _≤_, _<_, zero-le}
+use Prim.Native.Nat.{ℕ, zero, suc, _+_, _%_, _≤_, _<_, zero-le}
 use native.Mathlib.Nat.{le-trans, le-refl, zero-add}
 use native.Mathlib.Omega.{arith}
 use lib.Dec.{eqb, leb, eqb→eq, lit≤}
 use lib.ListN.{length}
-use lib.IntN.{ℤ, pos, negℤ, natAbs, _+ℤ_, _*ℤ_}
-use borrow.Author.Tests.{leb-true, le-leb, eq-eqb}
+use lib.IntN.{ℤ, pos, negℤ, natAbs, _*ℤ_}
+use borrow.Author.Tests.{leb-true, le-leb}
 use Rattle.integers.specs.Entry.{entry}
 use Rattle.integers.proofs.Clash.{clash}
 use Rattle.integers.proofs.Order.{lt-or-ge}
 use Rattle.integers.proofs.Between.{between-low, between-high}
 use Rattle.integers.proofs.First.{none-bad}
-use Rattle.integers.proofs.Size.{Size, size-add, size-mul, size-pos, abs-within}
-use Rattle.integers.proofs.Table.{and-left, and-right}
+use Rattle.integers.proofs.Size.{Size, size-add, size-mul, abs-within}
 use Rattle.curve_halves.specs.Sizes.{Each}
 use Rattle.curve_nodes.specs.declared.Curve.{Curve}
 use Rattle.curve_nodes.specs.Bounds.{Sized}
-use Rattle.outline.specs.Checks.{Outlined, curves, faulty}
-use Rattle.outline_splines.specs.Splines.{sixfold, splineValues, splineAt, splinesFrom, splineCount, splineLengthFine, splineFine, firstFar, splined}
+use Rattle.outline.specs.Checks.{curves, faulty}
+use Rattle.outline_splines.specs.Splines.{splineValues, splineAt, splinesFrom, splineCount, splineLengthFine, splineFine, firstFar, splined}
 
 -- ---- 24 in words
 pub record LengthFine (n : ℕ) : Type 0 where

@@ -1,6 +1,6 @@
 -- Curve k of a list of points is the uniform cubic B-spline of points k to k + 3: its value at every parameter is the sum of the basis over them.
 -- Each curve begins where the one before it ends.
-use mathlib.Core.Path.{_≡_, refl, _∙_, sym, ap, ap₂}
+use mathlib.Core.Path.{_≡_, refl, _∙_, ap, ap₂}
 use mathlib.Core.List.{List, [], _∷_, _++_}
 use Prim.Native.Nat.{ℕ, zero, suc, _+_, _-_, _*_, _<_}
 use native.Mathlib.Omega.{arith}

@@ -1,7 +1,7 @@
 -- B-splines by computation: the control values of one curve, and both refusals with their spots.
 use mathlib.Core.Path.{_≡_, refl}
-use mathlib.Core.List.{List, [], _∷_}
-use lib.IntN.{ℤ, pos, negℤ}
+use mathlib.Core.List.{[], _∷_}
+use lib.IntN.{pos, negℤ}
 use Rattle.integers.specs.First.{firstBad}
 use Rattle.refusals.specs.declared.Refusal.the-variants.{SplineLength, SplineCoordinate}
 use Rattle.outline.specs.Checks.{curves, faulty}

@@ -24,7 +24,7 @@ sixfold b0 b1 b2 b3 =
     ∷ (b1 +ℤ pos 4 *ℤ b2 +ℤ b3)
     ∷ pos 0 ∷ pos 0 ∷ []
 
--- those of the coordinate whose first number stands at index i
+-- six times the control values of the coordinate whose first number stands at index i
 abbrev pub splineValues : List ℤ → ℕ → List ℤ
 splineValues ns i = sixfold (entry ns i) (entry ns (i + 2)) (entry ns (i + 4)) (entry ns (i + 6))
 

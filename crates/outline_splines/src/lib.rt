@@ -56,7 +56,7 @@ fn first_beyond(ns: &[i32]) -> Found
     Found::Nowhere
 }
 
-// Checks 24 and 25 of a list of points, in their order. Every list may be asked about.
+// Checks 24 and 25 of a list of points, in their order. Defined for every list.
 pub fn check_spline(ns: &[i32]) -> Checked
     ensures { λ r. ⌜ r ≡ checkedOf (splined (now (ns .entry))) ⌝ }
 {

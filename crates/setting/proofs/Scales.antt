@@ -1,5 +1,4 @@
 -- The scale of a setting is 1 or 6.
-use mathlib.Core.Path.{_≡_, refl}
 use mathlib.Core.Bool.{Bool, true, false, cond}
 use Prim.Native.Nat.{ℕ, _*_, _^_, _≤_, _<_}
 use native.Mathlib.Nat.{mul-le-mul, le-refl, le-trans, one-le-pow, zero-lt-suc}
@@ -24,13 +23,6 @@ scale-most σ = go (σ .sixths)
 -- 6 over the scale
 abbrev pub rest : Bool → ℕ
 rest sixths = cond sixths 1 6
-
-pub rest-scale : (σ : Setting) → rest (σ .sixths) * scale σ ≡ 6
-rest-scale σ = go (σ .sixths)
-  where
-    go : (b : Bool) → cond b 1 6 * cond b 6 1 ≡ 6
-    go true = refl
-    go false = refl
 
 -- control values over the scale times n, where n is not 0
 pub scaled-some : (σ : Setting) {n : ℕ} → 0 < n → 0 < scale σ * n

@@ -22,16 +22,16 @@ scale σ = cond (σ .sixths) 6 1
 abbrev pub limited : (most leaves m : ℕ) → Setting
 limited most leaves m = record { most = most; leaves = leaves; pieces = m; sixths = false }
 
--- that of a caller who gives lists, with m pieces and control values that are sixths or not
+-- the setting of a caller who gives lists, with m pieces and control values that are sixths or not
 abbrev pub listsOf : ℕ → Bool → Setting
 listsOf m sixths = record { most = 4096; leaves = 1048576; pieces = m; sixths = sixths }
 
--- that of a caller who gives lists and the number of pieces, m (requests 05 and 06); every leaf list is judged in it.
--- No curve has more than 256 leaves, so their limit is never passed.
+-- the setting of a caller who gives lists and the number of pieces, m (requests 05 and 06); every leaf list is judged
+-- in it. No curve has more than 256 leaves, so their limit is never passed.
 abbrev pub lists : ℕ → Setting
 lists m = listsOf m false
 
--- that of a caller who gives B-splines (request 13)
+-- the setting of a caller who gives B-splines (request 13)
 abbrev pub splines : ℕ → Setting
 splines m = listsOf m true
 
@@ -39,15 +39,15 @@ splines m = listsOf m true
 abbrev pub relimited : Setting → (most leaves : ℕ) → Setting
 relimited σ most leaves = record { most = most; leaves = leaves; pieces = σ .pieces; sixths = σ .sixths }
 
--- that of the bench station (request 07)
+-- the setting of the bench station (request 07)
 abbrev pub station : ℕ → Setting
 station m = limited 64 128 m
 
--- that of a caller of lists with document 01's number of pieces, which texts keep
+-- the setting of a caller of lists with document 01's number of pieces, which texts keep
 abbrev pub standard : Setting
 standard = lists 3
 
--- that of texts, which stop at their 65th curve; their limit of leaves is never passed either
+-- the setting of texts, which stop at their 65th curve; their limit of leaves is never passed either
 abbrev pub texts : Setting
 texts = limited 64 16384 3
 
@@ -55,7 +55,7 @@ texts = limited 64 16384 3
 abbrev pub piecesFine : ℕ → Bool
 piecesFine m = leb 1 m && leb m 8
 
--- the same in words: there are rows for so many pieces
+-- `piecesFine` in words: there are rows for so many pieces
 pub record HasRows (m : ℕ) : Type 0 where
   pub least : 1 ≤ m
   pub most : m ≤ 8

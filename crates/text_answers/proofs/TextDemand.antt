@@ -2,16 +2,16 @@
 use mathlib.Core.Path.{_≡_, refl, sym, _∙_, ap, subst}
 use mathlib.Core.List.{List, [], _∷_, _++_, append-assoc}
 use mathlib.Core.Option.{none}
-use Prim.Native.Nat.{ℕ, _+_, _*_, _≤_}
+use Prim.Native.Nat.{ℕ, _*_, _≤_}
 use native.Mathlib.Nat.{le-of-eq}
 use native.Mathlib.Omega.{arith}
 use lib.Dec.{lit≤}
-use lib.ListN.{length, take, replicate, length-replicate, getD}
+use lib.ListN.{length, replicate, length-replicate, getD}
 use lib.IntN.{ℤ, pos}
 use Rattle.setting.specs.Setting.{standard, texts, recordLength}
 use Rattle.curve_nodes.specs.declared.Curve.{Curve}
 use Rattle.band.specs.declared.banding.Banded.the-variants.{Done}
-use Rattle.band.specs.Banding.{banded, written}
+use Rattle.band.specs.Banding.{banded}
 use Rattle.band.specs.Outcomes.{Faultless}
 use Rattle.band.proofs.Theorems.{done-exactly, written-sound}
 use Rattle.band.proofs.Station.{faultless-listed}

@@ -8,7 +8,7 @@ use crate::pairs::spaced_pair_at;
 use crate::pairs::word_at;
 use text_numbers::numerals::Number;
 
-// The form of the line that starts at a place. Every text and every place may be asked about.
+// The form of the line that starts at a place. Defined for every text and place.
 pub fn form_at(text: &[u8], i: usize) -> Form
     ensures { λ r. ⌜ r ≡ formAt (now (text .entry)) i ⌝ }
 {

@@ -9,7 +9,7 @@ use crate::text::TextCheck;
 use refusals::Refusal;
 use text_forms::forms::Form;
 
-// Checks 16, 14 and 15 of a text. Every text may be asked about.
+// Checks 16, 14 and 15 of a text. Defined for every text.
 pub fn check_text(text: &[u8]) -> TextCheck
     ensures { λ r. ⌜ r ≡ textCheckOf (meaning (now (text .entry))) ⌝ }
 {

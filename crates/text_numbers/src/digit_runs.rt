@@ -11,7 +11,7 @@ pub struct Run {
     pub next: usize,
 }
 
-// The byte at a place, 0 past the end. Every place may be asked about.
+// The byte at a place, 0 past the end. Defined for every place.
 pub fn byte_at(text: &[u8], i: usize) -> u8
     ensures { λ r. ⌜ (r ≡ byte (now (text .entry)) i) × (r ≤ 255 * (length (now (text .entry)) - i)) ⌝ }
 {

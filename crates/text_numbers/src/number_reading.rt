@@ -9,7 +9,7 @@ use crate::numerals::Natural;
 use crate::numerals::Number;
 
 // The number that stands at a place: digits without leading zeros, a minus before them or not, within 32 bits signed.
-// Every text and every place may be asked about.
+// Defined for every text and place.
 pub fn number_at(text: &[u8], i: usize) -> Number
     ensures { λ r. ⌜ r ≡ numberAt (now (text .entry)) i ⌝ }
 {

@@ -35,7 +35,7 @@ pub fn after<'a>(reader: LineReader<'a>, line: Form) -> LineReader<'a>
     }
 }
 
-// The line that starts at a place, read by a reader. Every text and every place may be asked about.
+// The line that starts at a place, read by a reader. Defined for every text and place.
 pub fn line_from(text: &[u8], at: usize) -> Form
     ensures { λ r. ⌜ r ≡ formAt (now (text .entry)) at ⌝ }
 {

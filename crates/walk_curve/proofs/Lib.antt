@@ -2,3 +2,4 @@
 pub mod Parts
 pub mod Walks
 pub mod Counts
+pub mod Testing

@@ -20,9 +20,9 @@ use Rattle.curve_nodes.proofs.Coordinates.{node-degree}
 use Rattle.curve_nodes.proofs.Sizes.{node-sized, node-halvable}
 use Rattle.curve_nodes.proofs.Onward.{NextStretch, next-stretch, few-zeros, node-onward}
 use Rattle.bound_node.specs.Boxes.{meets}
-use Rattle.bound_tolerance.specs.declared.Verdict.{Verdict}
-use Rattle.bound_tolerance.specs.declared.Verdict.the-variants.{Narrow, Wide}
-use Rattle.bound_tolerance.specs.Told.{Told}
+use Rattle.bound_tolerance.specs.declared.Tested.{Tested}
+use Rattle.bound_tolerance.specs.declared.Tested.the-variants.{Narrow, Wide}
+use Rattle.bound_tolerance.specs.Verdicts.{VerdictRight}
 use Rattle.walk_curve.specs.declared.Part.{Part}
 use Rattle.walk_curve.specs.Inside.{PartOf, Standing, leftPart, AfterOf}
 use Rattle.walk_curve.specs.Walked.{nodeMeets}
@@ -69,7 +69,7 @@ module _ {root : Curve} {p : Part} (h : PartOf root p) where
     part-meets f = f ∙ ap₂ (meets σ T) e (h .is)
 
     -- where the verdict told it
-    module _ {v : Verdict} (t : Told σ T k (p .curve) v) where
+    module _ {v : Tested} (t : VerdictRight σ T k (p .curve) v) where
       pub part-narrow : v ≡ Narrow → r ≡ true → r ≡ nodeMeets σ T root (p .node)
       part-narrow f g = part-meets (g ∙ sym (rw f at t))
 

@@ -4,10 +4,10 @@ ghost use mathlib.Core.Bool.{false};
 ghost use Prim.Native.Nat.{_≤_, _<_, _^_};
 ghost use Rattle.setting.specs.Setting.{deepest};
 ghost use Rattle.curve_nodes.specs.Bounds.{Sized};
-ghost use Rattle.bound_pieces.specs.Inside.{Ready, settingOf};
+ghost use Rattle.bound_pieces.specs.Inside.{PiecesReady, settingOf};
 ghost use Rattle.walk_curve.specs.Inside.{Suits, Standing, leftPart, AfterOf, walkedOf};
 use bound_pieces::Pieces;
-use bound_tolerance::Verdict;
+use bound_tolerance::Tested;
 use curve_nodes::Curve;
 
 // Where a walk stands: a node, with the node's own curve. Every step follows from it alone, so no walk keeps a stack.
@@ -83,7 +83,7 @@ pub enum Walked {
 
 // The leaves of a curve, counted. The rows lent are those of the number of pieces.
 pub fn walk(rows: &[i64], pieces: Pieces, curve: Curve, t: i64) -> Walked
-    requires { ⌜ (Ready pieces (now rows)) × (Sized 0 curve) × (Suits (settingOf pieces) (curve .degree)) ⌝ }
+    requires { ⌜ (PiecesReady pieces (now rows)) × (Sized 0 curve) × (Suits (settingOf pieces) (curve .degree)) ⌝ }
     ensures { λ r. ⌜ r ≡ walkedOf (settingOf pieces) t curve ⌝ }
 {
     if 3 < curve.degree {
@@ -93,9 +93,9 @@ pub fn walk(rows: &[i64], pieces: Pieces, curve: Curve, t: i64) -> Walked
     }
 }
 
-// Those of degree 1 to 3.
+// Counts the leaves of a curve of degree 1 to 3.
 fn walk_low(rows: &[i64], pieces: Pieces, curve: Curve, t: i64) -> Walked
-    requires { ⌜ (Ready pieces (now rows)) × (Sized 0 curve) × (curve .degree ≤ 3) ⌝ }
+    requires { ⌜ (PiecesReady pieces (now rows)) × (Sized 0 curve) × (curve .degree ≤ 3) ⌝ }
     ensures { λ r. ⌜ r ≡ walkedOf (settingOf pieces) t curve ⌝ }
 {
     let mut part = Part { node: 1, curve };
@@ -105,9 +105,9 @@ fn walk_low(rows: &[i64], pieces: Pieces, curve: Curve, t: i64) -> Walked
         let own = part.curve;
         let depth = curve_nodes::depth(node);
         let met = match bound_tolerance::verdict_of(pieces, own, depth, t) {
-            Verdict::Narrow => true,
-            Verdict::Wide => false,
-            Verdict::Open => bound_tolerance::boxes_meet(rows, pieces, own, depth, t, t * t),
+            Tested::Narrow => true,
+            Tested::Wide => false,
+            Tested::Open => bound_tolerance::boxes_meet(rows, pieces, own, depth, t, t * t),
         };
         if met {
             leaves += 1;
@@ -124,9 +124,9 @@ fn walk_low(rows: &[i64], pieces: Pieces, curve: Curve, t: i64) -> Walked
     }
 }
 
-// Those of degree 4 and 5.
+// Counts the leaves of a curve of degree 4 or 5.
 fn walk_higher(rows: &[i64], pieces: Pieces, curve: Curve, t: i64) -> Walked
-    requires { ⌜ (Ready pieces (now rows)) × (Sized 0 curve) × (3 < curve .degree) × (3 ≤ pieces .m)
+    requires { ⌜ (PiecesReady pieces (now rows)) × (Sized 0 curve) × (3 < curve .degree) × (3 ≤ pieces .m)
         × (pieces .sixths ≡ false) ⌝ }
     ensures { λ r. ⌜ r ≡ walkedOf (settingOf pieces) t curve ⌝ }
 {
@@ -137,9 +137,9 @@ fn walk_higher(rows: &[i64], pieces: Pieces, curve: Curve, t: i64) -> Walked
         let own = part.curve;
         let depth = curve_nodes::depth(node);
         let met = match bound_tolerance_higher::verdict_of(pieces, own, depth, t) {
-            Verdict::Narrow => true,
-            Verdict::Wide => false,
-            Verdict::Open => bound_tolerance_higher::boxes_meet(rows, pieces, own.same(), depth, t),
+            Tested::Narrow => true,
+            Tested::Wide => false,
+            Tested::Open => bound_tolerance_higher::boxes_meet(rows, pieces, own.same(), depth, t),
         };
         if met {
             leaves += 1;

@@ -26,8 +26,8 @@ Flat σ T c j = leftSide σ c j ≤ℤ rightSide σ T j
 abbrev pub isFlat : Setting → ℤ → Curve → ℕ → Bool
 isFlat σ T c j = leZ (leftSide σ c j) (rightSide σ T j)
 
--- ---- the premise of request 04, for three pieces: 2 × (178 × M + 250 × 4^j)² ≤ (125 × T × 4^j)². At degree 3 it is
--- the same as `Flat`, by `flat-thirds` of crates/walk_depths/proofs/Thirds.antt.
+-- ---- the premise of request 04, for three pieces: 2 × (178 × M + 250 × 4^j)² ≤ (125 × T × 4^j)². At degree 3 it
+-- holds exactly where `Flat` does, by `flat-thirds` of crates/walk_depths/proofs/Thirds.antt.
 abbrev pub FlatThirds : ℤ → Curve → ℕ → Type 0
 FlatThirds T c j =
     (pos 2 *ℤ squared (pos 178 *ℤ pos (largest c) +ℤ pos 250 *ℤ pos (4 ^ j)))

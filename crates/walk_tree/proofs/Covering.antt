@@ -94,7 +94,7 @@ module _ (test : ℕ → Bool) where
   pub ends-end-to-end : (k : ℕ) → EndToEnd 0 1 (ends test k 1) 1 1
   ends-end-to-end k = rw depth-one at (below-node k 1 (omega arith))
 
--- the same by neighbours: the first stretch begins at 0, each other where the one before ends, and the last ends at 1
+-- the leaves by neighbours: the first stretch begins at 0, each other where the one before ends, and the last ends at 1
 begins : {s w n t u : ℕ} {ns : List ℕ} → EndToEnd s w (n ∷ ns) t u → s * 2 ^ depth n ≡ start n * w
 begins (next c cs) = c
 

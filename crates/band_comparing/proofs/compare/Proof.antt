@@ -1,7 +1,6 @@
 -- The pass over all curves. The loop's invariant: it stands before curve k, whatever was found before. The measure is the number of curves left.
-use mathlib.Core.Path.{_≡_, sym, _∙_, ap}
-use mathlib.Core.Bool.{true, false}
-use Prim.Native.Nat.{_+_, _-_, _*_, _≤_, _<_}
+use mathlib.Core.Path.{sym, _∙_}
+use Prim.Native.Nat.{_-_, _*_, _≤_, zero-le}
 use native.Mathlib.Nat.{mul-le-mul}
 use native.Mathlib.Omega.{arith}
 use borrow.Author.Needs.{needs}
@@ -45,13 +44,16 @@ see-curve-requires c κs =
     let l = t .before in
     let s = l .before in
     let x = rest-next (l .loop .inv .ahead) (t .loop-test .taken) .here in (
-      omega (arith, comparing-less _ _ _ _ _ _ _ (l .loop .inv), s .pre .0),
-      omega (arith, place-few l),
+      record {
+        there = omega (arith, comparing-less _ _ _ _ _ _ _ (l .loop .inv), s .pre .0);
+        place = omega (arith, place-few l);
+        lent = s .pre .1;
+        sized = rw (c .before .curve-at .ensures) (x .sized);
+        takes = rw (c .before .curve-at .ensures) (x .suits .takes);
+        shallow = zero-le;
+        small = rw (toZ-ofZ (s .fits .t)) (s .pre .2);
+      },
       omega (arith, l .loop .inv .ahead .done, s .pre .3 .few),
-      s .pre .1,
-      rw (c .before .curve-at .ensures) (x .sized),
-      rw (c .before .curve-at .ensures) (x .suits .takes),
-      rw (toZ-ofZ (s .fits .t)) (s .pre .2),
     )
 
 returns : tie.Need-returns Inv-loop μ-loop

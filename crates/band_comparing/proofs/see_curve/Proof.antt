@@ -1,14 +1,13 @@
 -- The walk of a curve that compares. The loop's invariant: the walk stands at this part of the curve, and the numbers given agree so far with the
 -- records of the leaves passed. The measure is the part's rank.
-use mathlib.Core.Path.{_≡_, sym, _∙_, ap}
-use Prim.Native.Nat.{_+_, _*_, _^_, _≤_, _<_}
-use native.Mathlib.Nat.{le-trans}
+use mathlib.Core.Path.{sym, _∙_}
+use Prim.Native.Nat.{_+_, _^_, _≤_, _<_}
 use native.Mathlib.Omega.{arith}
 use borrow.Author.Needs.{needs}
 use mir.Syntax.{w64}
 use mir.Val.{toZ}
 use mir.Facts.{toZ-ofZ}
-use Rattle.setting.specs.Setting.{lists, recordLength, deepest}
+use Rattle.setting.specs.Setting.{lists, deepest}
 use Rattle.setting.proofs.Pieces.{record-length-is}
 use Rattle.walk_curve.proofs.Parts.{part-node, part-degree, part-sized, part-shallow}
 use Rattle.walk_curve.proofs.Walks.{partRank, left-falls, after-falls}
@@ -24,35 +23,35 @@ abbrev μ-loop : tie.MeasureT-loop
 μ-loop given reach at rows m scale number t record-length last part₀ place₀ to₀ part place to = partRank (part₀ .curve) part
 
 mul-record-length : tie.Need-mul-record-length Inv-loop μ-loop
-mul-record-length c = omega (arith, c .pre .3 .has .most)
+mul-record-length c = omega (arith, c .pre .0 .lent .has .most)
 
 add-record-length : tie.Need-add-record-length Inv-loop μ-loop
-add-record-length c = omega (arith, c .pre .3 .has .most)
+add-record-length c = omega (arith, c .pre .0 .lent .has .most)
 
 loop-holds : tie.Need-loop-holds Inv-loop μ-loop
-loop-holds c = seeing-start (c .before .pre .4)
+loop-holds c = seeing-start (c .before .pre .0 .sized)
 
 -- there is room for all places
 place-few : (l : tie.At-loop Inv-loop μ-loop) → l .loop .place ≤ l .before .before .args .at + 9728
-place-few l = omega (arith, seeing-few (l .loop .inv), l .before .before .pre .3 .has .most)
+place-few l = omega (arith, seeing-few (l .loop .inv), l .before .before .pre .0 .lent .has .most)
 
 -- ---- the node
 try-node-requires : tie.Need-try-node-requires Inv-loop μ-loop
 try-node-requires c κs =
     let l = c .before in
     let s = l .before .before in
-    let p = s .pre in
+    let p = s .pre .0 in
     let o = l .loop .inv .walk .of in (
-      omega (arith, seeing-less (l .loop .inv), p .0),
-      omega (arith, place-few l, p .1),
-      p .2,
-      part-node o,
-      o .some,
-      p .3,
-      part-sized o,
-      rw (part-degree o) (p .5),
-      part-shallow o,
-      rw (toZ-ofZ (s .fits .t)) (p .6),
+      record {
+        there = omega (arith, seeing-less (l .loop .inv), p .there);
+        place = omega (arith, place-few l, p .place);
+        lent = p .lent;
+        sized = part-sized o;
+        takes = rw (part-degree o) (p .takes);
+        shallow = part-shallow o;
+        small = rw (toZ-ofZ (s .fits .t)) (p .small);
+      },
+      record { curve = s .pre .1; below = part-node o; some = o .some },
     )
 
 -- ---- a node that is too wide
@@ -87,8 +86,8 @@ loop-again c =
 add-place : tie.Need-add-place Inv-loop μ-loop
 add-place c =
     let l = c .before .before .before .before .before in
-    let p = l .before .before .pre in
-    omega (arith, place-few l, p .1, p .3 .has .most)
+    let p = l .before .before .pre .0 in
+    omega (arith, place-few l, p .place, p .lent .has .most)
 
 after-requires : tie.Need-after-requires Inv-loop μ-loop
 after-requires c κs = (_, c .before .before .before .before .before .loop .inv .walk .of)

@@ -18,8 +18,8 @@ use Rattle.band_records.proofs.put_record.Tie as tie
 slice-set-from-records-2 : tie.Need-slice-set-from-records-2
 slice-set-from-records-2 c = simp length-set (omega arith)
 
-put-boxes-requires : tie.Need-put-boxes-requires
-put-boxes-requires c κs =
+put-low-boxes-requires : tie.Need-put-low-boxes-requires
+put-low-boxes-requires c κs =
     let s = c .before .before in
     let p = s .pre in (
       simp length-set (omega arith),
@@ -35,7 +35,7 @@ returns c =
     let s = d .before in
     let a = s .args in
     head-sets (a .records .now) (a .at) (a .number) (a .node) (boxesTo (settingOf (a .pieces)) (breakPoints (settingOf (a .pieces))) (depth (a .node)) (a .curve))
-    (toZ-pos w32 (s .pre .1)) (toZ-pos w32 (lt-trans (s .pre .2) (lit< tt))) (rw (← (d .depth .ensures)) (c .before .put-boxes .ensures))
+    (toZ-pos w32 (s .pre .1)) (toZ-pos w32 (lt-trans (s .pre .2) (lit< tt))) (rw (← (d .depth .ensures)) (c .before .put-low-boxes .ensures))
 
 same-length : tie.Need-same-length
 same-length c =
@@ -47,5 +47,5 @@ pub put-record-spec : {M : Type 1} → statement M
 put-record-spec =
     tie.close
     (tie.spec (λ c. search needs) (λ c. search needs) (λ c. search needs) (λ c. search needs) (λ c. search needs)
-    (λ c. search needs) slice-set-from-records-2 (λ c κs. search needs) (λ c. search needs) put-boxes-requires
+    (λ c. search needs) slice-set-from-records-2 (λ c κs. search needs) (λ c. search needs) put-low-boxes-requires
     same-length returns)

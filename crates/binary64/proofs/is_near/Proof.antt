@@ -3,7 +3,7 @@
 use borrow.Author.Needs.{needs}
 use mathlib.Core.Path.{_≡_, sym, ap, _∙_, subst}
 use lib.IntN.{ℤ}
-use lib.Ieee.{Float, binary64, ofBits, neg, eq, ofInt, toSigned}
+use lib.Ieee.{binary64, ofBits, neg, eq, ofInt, toSigned}
 use lib.Ieee.Casts.{toSigned-in}
 use mir.Syntax.{w32, w64}
 use mir.Val.{SFits, toZ, ofZ}

@@ -4,7 +4,7 @@ use native.Mathlib.Nat.{le-trans}
 use native.Mathlib.Omega.{arith}
 use borrow.Author.Needs.{needs}
 use Rattle.integers.proofs.Machine.{fits! }
-use Rattle.bound_coordinate.specs.Higher.{higherHigh}
+use Rattle.bound_coordinate.specs.HigherTerms.{higherHigh}
 use Rattle.bound_coordinate.proofs.Coordinates.{bounded, pieces}
 use Rattle.bound_coordinate.proofs.Numerators.{less-fits, higher-dividend, higher-raised-fits, higher-high-raised, higher-high-computed}
 use Rattle.bound_coordinate_higher.proofs.high_at.Statement.{statement}

@@ -1,7 +1,7 @@
 -- The low at a break point: the number that is divided, rounded down.
 use Prim.Native.Nat.{_+_, _*_}
 use borrow.Author.Needs.{needs}
-use Rattle.bound_coordinate.specs.Higher.{higherLow}
+use Rattle.bound_coordinate.specs.HigherTerms.{higherLow}
 use Rattle.bound_coordinate.proofs.Numerators.{higher-dividend, higher-low-raised, higher-low-computed}
 use Rattle.bound_coordinate_higher.proofs.low_at.Statement.{statement}
 use Rattle.bound_coordinate_higher.proofs.low_at.Tie as tie

@@ -1,6 +1,5 @@
 -- The gaps of degree 4 or 5, from those at the break points 0 and 1.
 use mathlib.Core.Path.{_≡_}
-use Prim.Native.Nat.{_≤_}
 use native.Mathlib.Omega.{arith}
 use borrow.Author.Needs.{needs}
 use Rattle.bound_pieces.proofs.Boxes.{many-takes}

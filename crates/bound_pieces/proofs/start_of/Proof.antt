@@ -1,7 +1,6 @@
 -- Where the rows of a second difference begin, by the degree.
 use Prim.Native.Nat.{_+_}
 use native.Mathlib.Omega.{arith}
-use borrow.Author.Needs.{needs}
 use borrow.Author.Tests.{lt-ltb, le-ltb}
 use Rattle.bound_pieces.proofs.start_of.Statement.{statement}
 use Rattle.bound_pieces.proofs.start_of.Tie as tie

@@ -2,7 +2,6 @@
 use mathlib.Core.Path.{_≡_}
 use Prim.Native.Nat.{_≤_, _-_}
 use native.Mathlib.Omega.{arith}
-use borrow.Author.Needs.{needs}
 use Rattle.bound_row_table.specs.Inside.{PutRows}
 use Rattle.bound_row_table.proofs.Copying.{row-inside, rows-none, rows-more}
 use Rattle.bound_row_table.proofs.put_degree.Statement.{statement}

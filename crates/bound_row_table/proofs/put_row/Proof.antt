@@ -6,14 +6,14 @@ use lib.ListN.{length-set}
 use borrow.Author.Needs.{needs}
 use Rattle.integers.proofs.Machine.{fits!, is! }
 use Rattle.bound_rows.specs.Table.{rowFrom}
-use Rattle.bound_row_table.specs.Inside.{numberAt, Put}
+use Rattle.bound_row_table.specs.Inside.{copiedNumber, Put}
 use Rattle.bound_row_table.proofs.Entries.{products}
 use Rattle.bound_row_table.proofs.Copying.{put-none, row-more}
 use Rattle.bound_row_table.proofs.put_row.Statement.{statement}
 use Rattle.bound_row_table.proofs.put_row.Tie as tie
 
 abbrev Inv-loop : tie.InvT-loop
-Inv-loop rows₀ at entries from m times i₀ rows i = (i ≤ m + 1) × Put at (3 * i) (numberAt m (rowFrom m from)) rows₀ rows
+Inv-loop rows₀ at entries from m times i₀ rows i = (i ≤ m + 1) × Put at (3 * i) (copiedNumber m (rowFrom m from)) rows₀ rows
 
 abbrev μ-loop : tie.MeasureT-loop
 μ-loop rows₀ at entries from m times i₀ rows i = m + 1 - i

@@ -1,6 +1,5 @@
 -- Whether the corners of a degree are break points.
 use mathlib.Core.Path.{_∙_}
-use borrow.Author.Needs.{needs}
 use Rattle.bound_tolerance.proofs.SpreadLaws.{exact-is}
 use Rattle.bound_tolerance.proofs.ToleranceLaws.{exact-below, exact-cubic}
 use Rattle.bound_tolerance.proofs.is_exact.Statement.{statement}

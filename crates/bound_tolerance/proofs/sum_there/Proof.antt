@@ -1,6 +1,4 @@
 -- The sum of a coordinate at the break point of a corner.
-use mathlib.Core.Path.{_≡_}
-use Prim.Native.Nat.{_*_, _^_, _≤_}
 use native.Mathlib.Omega.{arith}
 use borrow.Author.Needs.{needs}
 use Rattle.bound_tolerance.proofs.SpreadLaws.{size-is, less-is, less-under, product-under, first-less, second-less}

@@ -2,14 +2,14 @@
 use mathlib.Core.Path.{_≡_, sym, _∙_, ap, subst}
 use mathlib.Core.Bool.{Bool}
 use mathlib.Core.Logic.{inl, inr, ⊎-elim}
-use Prim.Native.Nat.{ℕ, _*_, _^_, _≤_}
+use Prim.Native.Nat.{ℕ, _*_, _≤_}
 use native.Mathlib.Omega.{arith}
 use lib.Dec.{ltb}
 use lib.ListN.{getD}
 use borrow.Author.Needs.{needs}
 use borrow.Author.Tests.{not-true}
 use Rattle.integers.proofs.Machine.{fits!, flag! }
-use Rattle.bound_coordinate.specs.Inside.{Small, Boundable}
+use Rattle.bound_coordinate.specs.Inside.{Boundable}
 use Rattle.bound_coordinate.proofs.Coordinates.{bounded, small!, shift-small}
 use Rattle.bound_pieces.specs.Inside.{settingOf, sumsOf, pointSum}
 use Rattle.bound_pieces.proofs.Boxes.{boundable-x, boundable-y}
@@ -37,15 +37,15 @@ sums-requires c κs = let p = begin c .pre in (p .0, p .1, boundable-x (p .2) (p
 sums-requires-2 : tie.Need-sums-requires-2
 sums-requires-2 c κs = let p = begin (c .before) .pre in (p .0, p .1, boundable-y (p .2) (p .3) (p .4))
 
-whole-requires : tie.Need-whole-requires
-whole-requires c κs =
+rounded-up-requires : tie.Need-rounded-up-requires
+rounded-up-requires c κs =
     let y = c .before in
     let s = y .before .before in
     let under = sums-under (begin s .args .pieces .sixths) (begin s .pre .0) (begin s .pre .2) (begin s .pre .3) (y .before .sums .ensures) (y .sums2 .ensures) in
     (omega (arith, under, c .larger .ensures), unit-less (shift-under s), shift-under s)
 
-whole-requires-2 : tie.Need-whole-requires-2
-whole-requires-2 c κs =
+rounded-up-requires-2 : tie.Need-rounded-up-requires-2
+rounded-up-requires-2 c κs =
     let y = c .before .before .before in
     let s = y .before .before in
     let under = sums-under (begin s .args .pieces .sixths) (begin s .pre .0) (begin s .pre .2) (begin s .pre .3) (y .before .sums .ensures) (y .sums2 .ensures) in
@@ -54,7 +54,7 @@ whole-requires-2 c κs =
 is-longer-requires : tie.Need-is-longer-requires
 is-longer-requires c κs =
     let w = c .before .before in
-    (small! (search (w .whole .ensures, bounded) depth 40) tt, small! (search (c .whole2 .ensures, bounded) depth 40) tt)
+    (small! (search (w .rounded-up .ensures, bounded) depth 40) tt, small! (search (c .rounded-up2 .ensures, bounded) depth 40) tt)
 
 returns : tie.Need-returns
 returns c =
@@ -67,11 +67,11 @@ returns c =
     close-meets (settingOf (s .args .pieces)) (s .pre .0) (s .args .t) (s .pre .2) (s .pre .3) (x .sums .ensures) (y .sums2 .ensures)
     (w .before .larger .ensures) (h .before .larger2 .ensures)
     (flag! (sym (n .is-longer .ensures) ∙ not-true (n .is-longer .result) (c .if1 .taken))
-    (search (w .whole .ensures, h .whole2 .ensures, s .pre .5, bounded) depth 40) tt)
+    (search (w .rounded-up .ensures, h .rounded-up2 .ensures, s .pre .5, bounded) depth 40) tt)
 
 -- ---- the corners are break points
-whole-requires-3 : tie.Need-whole-requires-3
-whole-requires-3 c κs =
+rounded-up-requires-3 : tie.Need-rounded-up-requires-3
+rounded-up-requires-3 c κs =
     let y = c .before .before .before .before .before .before .before .before .before in
     let s = y .before .before in
     let under = sums-under (begin s .args .pieces .sixths) (begin s .pre .0) (begin s .pre .2) (begin s .pre .3) (y .before .sums .ensures) (y .sums2 .ensures) in
@@ -80,7 +80,7 @@ whole-requires-3 c κs =
 is-longer-requires-2 : tie.Need-is-longer-requires-2
 is-longer-requires-2 c κs =
     let w = c .before .before .before .before .before .before .before .before in
-    (small! (search (w .whole .ensures, bounded) depth 40) tt, small! (search (c .whole3 .ensures, bounded) depth 40) tt)
+    (small! (search (w .rounded-up .ensures, bounded) depth 40) tt, small! (search (c .rounded-up3 .ensures, bounded) depth 40) tt)
 
 returns-2 : tie.Need-returns-2
 returns-2 c =
@@ -94,7 +94,7 @@ returns-2 c =
     wider-fails (settingOf (s .args .pieces)) (s .pre .0) (s .args .t) (s .pre .2) (s .pre .3) (x .sums .ensures) (y .sums2 .ensures) exact
     (w .before .larger .ensures) (⊎-elim (λ l. inl (l .0 .taken, l .1)) (λ l. inr (l .0 .left, l .1)) (j .if3 .came))
     (flag! (sym (n .is-longer2 .ensures) ∙ c .if4 .taken)
-    (search (w .whole .ensures, n .before .whole3 .ensures, s .pre .5, bounded) depth 40) tt)
+    (search (w .rounded-up .ensures, n .before .rounded-up3 .ensures, s .pre .5, bounded) depth 40) tt)
 
 -- ---- they are not: the degree is 3
 abbrev second : tie.Else2 → tie.After-sums2
@@ -135,8 +135,8 @@ sum-there-requires-2 c κs =
       second e .sums2 .ensures ∙ ap (λ d. sumsOf (a .pieces .sixths) (a .pieces .m) d (a .curve .y)) (cubic e),
     )
 
-whole-requires-4 : tie.Need-whole-requires-4
-whole-requires-4 c κs =
+rounded-up-requires-4 : tie.Need-rounded-up-requires-4
+rounded-up-requires-4 c κs =
     let e = c .before in
     let y = second e in
     let s = start e in
@@ -147,8 +147,8 @@ whole-requires-4 c κs =
       shift-under (y .before .before),
     )
 
-whole-requires-5 : tie.Need-whole-requires-5
-whole-requires-5 c κs =
+rounded-up-requires-5 : tie.Need-rounded-up-requires-5
+rounded-up-requires-5 c κs =
     let e = c .before .before .before in
     let y = second e in
     let s = start e in
@@ -162,7 +162,7 @@ whole-requires-5 c κs =
 is-longer-requires-3 : tie.Need-is-longer-requires-3
 is-longer-requires-3 c κs =
     let w = c .before .before in
-    (small! (search (w .whole4 .ensures, bounded) depth 40) tt, small! (search (c .whole5 .ensures, bounded) depth 40) tt)
+    (small! (search (w .rounded-up4 .ensures, bounded) depth 40) tt, small! (search (c .rounded-up5 .ensures, bounded) depth 40) tt)
 
 returns-4 : tie.Need-returns-4
 returns-4 c =
@@ -180,7 +180,7 @@ returns-4 c =
     let iy = hs .sum-there2 .ensures ∙ ap (λ d. pointSum (a .pieces .sixths) (a .pieces .m) d (last e) (a .curve .y)) (sym (cubic e)) in
     point-fails (settingOf (a .pieces)) (s .pre .0) (a .t) (s .pre .2) (s .pre .3) (x .sums .ensures) (y .sums2 .ensures) (last e)
     (rw (ix, iy) at (flag! (sym (n .is-longer3 .ensures) ∙ c .if5 .taken)
-    (search (w .whole4 .ensures, h .whole5 .ensures, s .pre .5, bounded) depth 40) tt))
+    (search (w .rounded-up4 .ensures, h .rounded-up5 .ensures, s .pre .5, bounded) depth 40) tt))
 
 pub verdict-by-spec : {M : Type 1} → statement M
 verdict-by-spec =
@@ -189,8 +189,8 @@ verdict-by-spec =
     (λ c. omega (arith, shift-under (c .before .before))) (λ c. omega (arith, shift-under (c .before .before)))
     (λ c. omega (arith, shift-under (c .before .before)))
     (λ c. rw (unit-is (shift-under (c .before .before))) (unit-some (shift (c .before .before)))) (λ c. search needs) (λ c. search needs)
-    (λ c. search needs) (λ c. search needs) (λ c κs. search needs) whole-requires (λ c κs. search needs) whole-requires-2
-    (λ c. fits! (search (c .before .before .whole .ensures, bounded) depth 40) tt)
-    (λ c. fits! (search (c .whole2 .ensures, bounded) depth 40) tt) is-longer-requires returns (λ c κs. search needs)
-    whole-requires-3 is-longer-requires-2 returns-2 (λ c. search needs) sum-there-requires whole-requires-4 sum-there-requires-2
-    whole-requires-5 is-longer-requires-3 returns-4 (λ c. search needs))
+    (λ c. search needs) (λ c. search needs) (λ c κs. search needs) rounded-up-requires (λ c κs. search needs) rounded-up-requires-2
+    (λ c. fits! (search (c .before .before .rounded-up .ensures, bounded) depth 40) tt)
+    (λ c. fits! (search (c .rounded-up2 .ensures, bounded) depth 40) tt) is-longer-requires returns (λ c κs. search needs)
+    rounded-up-requires-3 is-longer-requires-2 returns-2 (λ c. search needs) sum-there-requires rounded-up-requires-4 sum-there-requires-2
+    rounded-up-requires-5 is-longer-requires-3 returns-4 (λ c. search needs))

@@ -1,5 +1,5 @@
 -- What the gaps tell of a node, by the tolerance: beyond 2^27 every node meets it.
-use mathlib.Core.Path.{_∙_, ap, subst}
+use mathlib.Core.Path.{subst}
 use Prim.Native.Nat.{_^_}
 use mir.Facts.{toZ-ofZ}
 use Rattle.integers.proofs.Ranges.{lt-yes}
@@ -9,7 +9,7 @@ use Rattle.bound_coordinate.proofs.Coordinates.{bounded}
 use Rattle.bound_pieces.specs.Inside.{settingOf}
 use Rattle.bound_pieces.proofs.Boxes.{low-takes}
 use Rattle.bound_pieces.proofs.Apart.{below-meets, above-meets, tolerance-small}
-use Rattle.bound_tolerance.specs.Told.{Told}
+use Rattle.bound_tolerance.specs.Verdicts.{VerdictRight}
 use Rattle.bound_tolerance.proofs.verdict_of.Statement.{statement}
 use Rattle.bound_tolerance.proofs.verdict_of.Tie as tie
 
@@ -39,7 +39,7 @@ verdict-by-requires c κs =
 returns-3 : tie.Need-returns-3
 returns-3 c =
     let s = c .before .before .before in
-    subst (λ t. Told (settingOf (s .args .pieces)) t (s .args .depth) (s .args .curve) (c .verdict-by .result)) (toZ-ofZ (s .fits .t))
+    subst (λ t. VerdictRight (settingOf (s .args .pieces)) t (s .args .depth) (s .args .curve) (c .verdict-by .result)) (toZ-ofZ (s .fits .t))
     (c .verdict-by .ensures)
 
 pub verdict-of-spec : {M : Type 1} → statement M

@@ -1,7 +1,6 @@
 -- The boxes at all break points, by the most that lows and highs can be apart.
-use mathlib.Core.Path.{_≡_, refl, sym, _∙_, ap}
+use mathlib.Core.Path.{refl, sym, _∙_, ap}
 use mathlib.Core.Bool.{not}
-use native.Mathlib.Omega.{arith}
 use borrow.Author.Needs.{needs}
 use Rattle.integers.proofs.Machine.{fits!, flag! }
 use Rattle.bound_coordinate.proofs.Coordinates.{bounded, small! }

@@ -1,8 +1,8 @@
 -- The box at an end, by two gaps and two differences.
-use mathlib.Core.Path.{_≡_, refl, sym, _∙_, ap}
+use mathlib.Core.Path.{refl, sym, _∙_}
 use native.Mathlib.Omega.{arith}
 use borrow.Author.Needs.{needs}
-use Rattle.integers.proofs.Machine.{fits!, flag! }
+use Rattle.integers.proofs.Machine.{flag! }
 use Rattle.bound_coordinate.proofs.Coordinates.{bounded, small! }
 use Rattle.bound_tolerance.proofs.SpreadLaws.{product-under}
 use Rattle.bound_tolerance_higher.proofs.Units.{units-is, units-some, units-less}

@@ -1,11 +1,10 @@
 -- The most that lows and highs of a coordinate can be apart.
-use mathlib.Core.Path.{_≡_, refl, sym, _∙_, ap, ap₂}
+use mathlib.Core.Path.{_≡_, _∙_, ap₂}
 use mathlib.Core.Logic.{⊎-elim}
-use Prim.Native.Nat.{ℕ, _+_, _*_, _-_, _^_, _≤_, max}
+use Prim.Native.Nat.{_+_, _*_, _-_, _^_, _≤_}
 use native.Mathlib.Omega.{arith}
-use lib.ListN.{getD}
 use borrow.Author.Needs.{needs}
-use Rattle.bound_tolerance_higher.specs.Told.{mostOf}
+use Rattle.bound_tolerance_higher.specs.Spreads.{mostOf}
 use Rattle.bound_tolerance.proofs.SpreadLaws.{product-under}
 use Rattle.bound_tolerance_higher.proofs.most.Statement.{statement}
 use Rattle.bound_tolerance_higher.proofs.most.Tie as tie

@@ -1,17 +1,16 @@
 -- What the gaps tell of a node of degree 4 or 5.
-use mathlib.Core.Path.{_≡_, refl, sym, _∙_, ap, subst}
+use mathlib.Core.Path.{_≡_, refl, sym, _∙_, ap}
 use mathlib.Core.Bool.{Bool, true, false, not}
-use mathlib.Core.List.{List, [], _∷_}
-use Prim.Native.Nat.{ℕ, _*_, _^_, _≤_, zero-le}
+use mathlib.Core.List.{[], _∷_}
+use Prim.Native.Nat.{_*_, _^_, _≤_, zero-le}
 use native.Mathlib.Nat.{le-refl, le-trans, mul-le-mul}
 use native.Mathlib.Omega.{arith}
 use lib.Dec.{lit≤}
 use lib.ListN.{getD}
-use lib.IntN.{ℤ, _*ℤ_}
+use lib.IntN.{_*ℤ_}
 use lib.Signed.{ltZ}
 use mir.Syntax.{w64}
 use borrow.Author.Needs.{needs}
-use borrow.Author.Tests.{not-true}
 use Rattle.setting.specs.Setting.{degreePieces}
 use Rattle.integers.specs.Squares.{squared}
 use Rattle.integers.proofs.Ranges.{stored, lt-yes}
@@ -19,7 +18,7 @@ use Rattle.integers.proofs.Machine.{fits!, is!, flag! }
 use Rattle.bound_coordinate.specs.Inside.{Small}
 use Rattle.bound_coordinate.proofs.Coordinates.{bounded}
 use Rattle.bound_pieces.specs.Inside.{settingOf}
-use Rattle.bound_tolerance_higher.specs.Told.{mostOf, endOf, acrossOf, acrossAbove}
+use Rattle.bound_tolerance_higher.specs.Spreads.{mostOf, endOf, squaresOf, squaresAbove}
 use Rattle.bound_pieces.proofs.Boxes.{many-takes, higher-boundable-x, higher-boundable-y}
 use Rattle.bound_pieces.proofs.Apart.{below-meets, above-meets, tolerance-small}
 use Rattle.bound_pieces.proofs.Corners.{covered-meets, reached-fails}
@@ -100,8 +99,8 @@ returns-3 c =
     covered-meets (settingOf (a .pieces)) (p .0) (a .t) (p .3) (takes s) w h
     (most-covers-times (a .pieces .m) (p .0) (p .2) (a .curve .x) (p .4) (p .3 .most) e (x .sizes-of .ensures) (p .6))
     (most-covers-times (a .pieces .m) (p .0) (p .2) (a .curve .y) (p .4) (p .3 .most) e (y .sizes-of2 .ensures) (p .6))
-    (ap (λ q. ltZ q (acrossAbove w h (a .curve .degree * a .depth))) (sym (square-is (g .before)))
-    ∙ opposite (ltZ (stored w64 (stored w64 (a .t) *ℤ stored w64 (a .t))) (acrossAbove w h (a .curve .degree * a .depth)))
+    (ap (λ q. ltZ q (squaresAbove w h (a .curve .degree * a .depth))) (sym (square-is (g .before)))
+    ∙ opposite (ltZ (stored w64 (stored w64 (a .t) *ℤ stored w64 (a .t))) (squaresAbove w h (a .curve .degree * a .depth)))
     (sym (n .is-narrow .ensures) ∙ c .if3 .taken))
 
 is-wide-at-requires : tie.Need-is-wide-at-requires
@@ -134,7 +133,7 @@ returns-4 c =
     reached-fails (settingOf (a .pieces)) (p .0) (a .t) (p .3) (takes s) u v 0 zero-le
     (times-reaches (p .6) (first-reaches (a .pieces .m) (p .0) (p .2) (a .curve .x) (p .4) (p .3 .most) e ex (ap (λ ns. getD ns 0 0) ex) (ap (λ ns. getD ns 1 0) ex)))
     (times-reaches (p .6) (first-reaches (a .pieces .m) (p .0) (p .2) (a .curve .y) (p .4) (p .3 .most) e ey (ap (λ ns. getD ns 0 0) ey) (ap (λ ns. getD ns 1 0) ey)))
-    (ap (λ q. ltZ q (acrossOf u v (a .curve .degree * a .depth))) (sym (square-is (g .before))) ∙ sym (w .is-wide-at .ensures) ∙ c .if4 .taken)
+    (ap (λ q. ltZ q (squaresOf u v (a .curve .degree * a .depth))) (sym (square-is (g .before))) ∙ sym (w .is-wide-at .ensures) ∙ c .if4 .taken)
 
 is-wide-at-requires-2 : tie.Need-is-wide-at-requires-2
 is-wide-at-requires-2 c κs =
@@ -166,7 +165,7 @@ returns-5 c =
     reached-fails (settingOf (a .pieces)) (p .0) (a .t) (p .3) (takes s) u v (a .pieces .m) (le-refl (a .pieces .m))
     (times-reaches (p .6) (last-reaches (a .pieces .m) (p .0) (p .2) (a .curve .x) (p .4) (p .3 .most) e ex (ap (λ ns. getD ns 3 0) ex) (ap (λ ns. getD ns 2 0) ex)))
     (times-reaches (p .6) (last-reaches (a .pieces .m) (p .0) (p .2) (a .curve .y) (p .4) (p .3 .most) e ey (ap (λ ns. getD ns 3 0) ey) (ap (λ ns. getD ns 2 0) ey)))
-    (ap (λ q. ltZ q (acrossOf u v (a .curve .degree * a .depth))) (sym (square-is (g .before))) ∙ sym (w .is-wide-at2 .ensures) ∙ c .if5 .taken)
+    (ap (λ q. ltZ q (squaresOf u v (a .curve .degree * a .depth))) (sym (square-is (g .before))) ∙ sym (w .is-wide-at2 .ensures) ∙ c .if5 .taken)
 
 returns-6 : tie.Need-returns-6
 returns-6 c = small (c .before .before .before .before .before .before .before .before .before .before .before)

@@ -1,5 +1,4 @@
 -- `boxes_binary64::hand_out` meets its contract: check 12, then the four numbers.
-use mathlib.Core.Path.{_≡_, refl, sym, ap, _∙_, subst}
 use borrow.Author.Needs.{needs}
 use Rattle.boxes_binary64.proofs.Checked.{faulty, fine}
 use Rattle.boxes_binary64.proofs.hand_out.Statement.{statement}

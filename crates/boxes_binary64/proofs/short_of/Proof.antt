@@ -1,6 +1,6 @@
 -- `boxes_binary64::short_of` meets its contract: the two tests say whether the box is a single point, and each number is what its function ensures.
 use borrow.Author.Needs.{needs}
-use mathlib.Core.Path.{_≡_, ap}
+use mathlib.Core.Path.{ap}
 use mathlib.Core.Logic.{⊎-elim}
 use lib.IntN.{ℤ, _+ℤ_, _-ℤ_}
 use mir.Syntax.{w32}

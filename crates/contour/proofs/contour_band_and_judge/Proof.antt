@@ -4,15 +4,6 @@ use mir.Facts.{toZ-ofZ}
 use Rattle.contour.proofs.contour_band_and_judge.Statement.{statement}
 use Rattle.contour.proofs.contour_band_and_judge.Tie as tie
 
-band-and-judge-requires : tie.Need-band-and-judge-requires
-band-and-judge-requires c κs = search needs
-
-outcome-in-numbers-requires : tie.Need-outcome-in-numbers-requires
-outcome-in-numbers-requires c κs = search needs
-
-same-length : tie.Need-same-length
-same-length c = search needs
-
 returns : tie.Need-returns
 returns c =
     let s = c .before .before .before .before in
@@ -21,4 +12,5 @@ returns c =
 
 pub contour-band-and-judge-spec : {M : Type 1} → statement M
 contour-band-and-judge-spec =
-    tie.close (tie.spec band-and-judge-requires outcome-in-numbers-requires same-length returns)
+    tie.close
+    (tie.spec (λ c κs. search needs) (λ c κs. search needs) (λ c. search needs) returns)

@@ -6,19 +6,10 @@ use Rattle.contour.specs.Foretellings.{foretoldAnswerOf}
 use Rattle.contour.proofs.contour_foretell.Statement.{statement}
 use Rattle.contour.proofs.contour_foretell.Tie as tie
 
-foretell-requires : tie.Need-foretell-requires
-foretell-requires c κs = search needs
-
-foretold-in-numbers-requires : tie.Need-foretold-in-numbers-requires
-foretold-in-numbers-requires c κs = search needs
-
-same-length : tie.Need-same-length
-same-length c = search needs
-
 returns : tie.Need-returns
 returns c =
     let r = rw (toZ-ofZ (c .before .before .before .before .fits .tolerance)) at (c .before .before .foretell .ensures) in
     (c .foretold-in-numbers .ensures ∙ ap foretoldAnswerOf (r .0), r .1)
 
 pub contour-foretell-spec : {M : Type 1} → statement M
-contour-foretell-spec = tie.close (tie.spec foretell-requires foretold-in-numbers-requires same-length returns)
+contour-foretell-spec = tie.close (tie.spec (λ c κs. search needs) (λ c κs. search needs) (λ c. search needs) returns)

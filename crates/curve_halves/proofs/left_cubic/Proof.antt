@@ -1,6 +1,6 @@
 -- The left half of one coordinate of a cubic: the sums are those of de Casteljau's triangle.
-use mathlib.Core.Path.{_≡_, refl, sym, _∙_, ap₂}
 use mathlib.Core.List.{_∷_}
+use mathlib.Core.Path.{refl, sym, _∙_, ap₂}
 use Prim.Native.Nat.{_^_}
 use lib.IntN.{pow, one}
 use borrow.Author.Needs.{needs}

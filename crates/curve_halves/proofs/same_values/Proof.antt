@@ -1,4 +1,4 @@
--- The same values, one by one.
+-- A copy of the values, one by one, has those values.
 use mathlib.Core.Path.{_∙_}
 use mir.Syntax.{w64}
 use borrow.Author.Needs.{needs}

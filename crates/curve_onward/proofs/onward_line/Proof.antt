@@ -1,8 +1,8 @@
--- One coordinate of a line carried on: it rises as before.
+-- One coordinate of a line carried on: its forward difference stays.
 use Prim.Native.Nat.{_^_}
 use borrow.Author.Needs.{needs}
 use Rattle.curve_halves.specs.Sizes.{Each}
-use Rattle.curve_onward.proofs.Kept.{rise-fits, sum-fits, onward-are}
+use Rattle.curve_onward.proofs.Kept.{forward-difference-fits, sum-fits, onward-are}
 use Rattle.curve_onward.proofs.onward_line.Statement.{statement}
 use Rattle.curve_onward.proofs.onward_line.Tie as tie
 
@@ -15,5 +15,5 @@ returns c = onward-are (each c) 0 (c .before .before .args .k) tt
 pub onward-line-spec : {M : Type 1} → statement M
 onward-line-spec =
     tie.close
-    (tie.spec (λ c. search needs) (λ c. search needs) (λ c. search needs) (λ c. search needs) (λ c. rise-fits (each c) 0 0 tt)
+    (tie.spec (λ c. search needs) (λ c. search needs) (λ c. search needs) (λ c. search needs) (λ c. forward-difference-fits (each c) 0 0 tt)
     (λ c. sum-fits (each c) 0 _ 0 0 tt tt) returns)

@@ -7,15 +7,6 @@ use Rattle.curve_halves.proofs.Sizes.{each-wider}
 use Rattle.curve_onward.proofs.onward_low.Statement.{statement}
 use Rattle.curve_onward.proofs.onward_low.Tie as tie
 
-onward-cubic-requires : tie.Need-onward-cubic-requires
-onward-cubic-requires c κs = let p = c .before .pre in (p .2, each-wider (lit≤ tt) (p .3))
-
-returns : tie.Need-returns
-returns c = rw (c .before .match .keys1) (c .onward-line .ensures)
-
-returns-2 : tie.Need-returns-2
-returns-2 c = rw (c .before .match .keys2) (c .onward-quadratic .ensures)
-
 returns-3 : tie.Need-returns-3
 returns-3 c =
     let e : c .before .before .args .degree ≡ 3 = omega arith in
@@ -24,4 +15,7 @@ returns-3 c =
 pub onward-low-spec : {M : Type 1} → statement M
 onward-low-spec =
     tie.close
-    (tie.spec (λ c κs. search needs) (λ c κs. search needs) onward-cubic-requires returns returns-2 returns-3)
+    (tie.spec (λ c κs. search needs) (λ c κs. search needs)
+    (λ c κs. let p = c .before .pre in (p .2, each-wider (lit≤ tt) (p .3)))
+    (λ c. rw (c .before .match .keys1) (c .onward-line .ensures))
+    (λ c. rw (c .before .match .keys2) (c .onward-quadratic .ensures)) returns-3)

@@ -9,12 +9,6 @@ use Rattle.integers.proofs.Machine.{machine, tests, fits!, unsigned!, unsigned-
 use Rattle.integers_uses.proofs.size.Statement.{statement}
 use Rattle.integers_uses.proofs.size.Tie as tie
 
-cast-w : tie.Need-cast-w
-cast-w c = fits! (search (machine, c .fits .a) depth 40) tt
-
-sub-result : tie.Need-sub-result
-sub-result c = fits! (search (machine, c .before .fits .a) depth 40) tt
-
 cast-result : tie.Need-cast-result
 cast-result c =
     let a = c .before .args .a in
@@ -37,4 +31,7 @@ returns-2 : tie.Need-returns-2
 returns-2 c = let a = c .before .args .a in unsigned-is! (stored w64 (stored w32 a)) (search (machine, c .before .fits .a) depth 40) tt
 
 pub size-spec : {M : Type 1} → statement M
-size-spec = tie.close (tie.spec cast-w sub-result cast-result cast-result-2 returns returns-2)
+size-spec =
+    tie.close
+    (tie.spec (λ c. fits! (search (machine, c .fits .a) depth 40) tt)
+    (λ c. fits! (search (machine, c .before .fits .a) depth 40) tt) cast-result cast-result-2 returns returns-2)

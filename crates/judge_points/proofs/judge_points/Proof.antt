@@ -30,11 +30,10 @@ returns c =
 returns-2 : tie.Need-returns-2
 returns-2 c =
     let e = c .before in
-    let d = e .before in
-    let a = d .before .before .before .args in
+    let a = e .before .before .before .before .args in
     let σ = lists (a .m) in
     refused σ (a .leaves .now) (a .points .now) (a .answers .now)
-    (room-bad σ (a .leaves .now) (a .points .now) (length (a .answers .now)) (fine d) (e .if1 .left) (c .if2 .taken))
+    (room-bad σ (a .leaves .now) (a .points .now) (length (a .answers .now)) (fine (e .before)) (e .if1 .left) (c .if2 .taken))
 
 -- there is room for every point
 room : (c : tie.Else2) → let a = c .before .before .before .before .before .args in 3 * (length (a .points .now) / 2) ≤ length (a .answers .now)
@@ -59,15 +58,13 @@ returns-3 c =
 
 returns-4 : tie.Need-returns-4
 returns-4 c =
-    let p = c .before in
-    let f = p .before .before in
+    let f = c .before .before .before in
     let e = f .before in
-    let d = e .before in
-    let a = d .before .before .before .args in
+    let a = e .before .before .before .before .args in
     let σ = lists (a .m) in
     accepted σ (a .leaves .now) (a .points .now) (a .answers .now)
-    (none-bad σ (a .leaves .now) (a .points .now) (length (a .answers .now)) (fine d) (e .if1 .left) (f .if2 .left))
-    (room f) (p .put-all .ensures)
+    (none-bad σ (a .leaves .now) (a .points .now) (length (a .answers .now)) (fine (e .before)) (e .if1 .left) (f .if2 .left))
+    (room f) (c .before .put-all .ensures)
 
 pub judge-points-spec : {M : Type 1} → statement M
 judge-points-spec =

@@ -1,7 +1,6 @@
 -- Checks 2, 20 and 4 of a curve given by itself: each return is one of them.
 use mathlib.Core.Path.{_≡_, sym, _∙_, ap}
 use mathlib.Core.Bool.{true}
-use Prim.Native.Nat.{_<_}
 use native.Mathlib.Omega.{arith}
 use lib.IntN.{pos}
 use borrow.Author.Needs.{needs}
@@ -9,7 +8,7 @@ use borrow.Author.Tests.{not-true, not-false}
 use Rattle.setting.specs.Setting.{mostDegree, degreePieces}
 use Rattle.integers.specs.Entry.{entry}
 use Rattle.integers.proofs.Between.{element-fits, found-below, found-above, found-within}
-use Rattle.outline.specs.Curves.{degreeFine, degreeAt, nextAt}
+use Rattle.outline.specs.Curves.{degreeFine, degreeAt}
 use Rattle.outline.specs.Inside.{faultOf}
 use Rattle.outline.proofs.Degrees.{degree-most}
 use Rattle.outline_changed.specs.Inside.{ownFault}

@@ -1,21 +1,20 @@
 -- Checks 24 and 25, in their order.
 use mathlib.Core.Path.{_≡_, refl, sym, _∙_, ap}
 use mathlib.Core.Bool.{Bool, true, false, _&&_}
-use mathlib.Core.List.{List, [], _∷_}
+use mathlib.Core.List.{List}
 use mathlib.Core.Option.{Option, none, some}
-use Prim.Native.Nat.{ℕ, zero, suc, _+_, _-_, _/_, _%_, _≤_, _<_}
-use native.Mathlib.Omega.{arith}
+use Prim.Native.Nat.{ℕ, zero, suc, _%_}
 use lib.Dec.{eqb, leb, eqb·suc-zero}
 use lib.ListN.{length}
 use lib.IntN.{ℤ}
 use borrow.Author.Needs.{needs}
-use borrow.Author.Tests.{le-leb, lt-leb, eq-eqb}
+use borrow.Author.Tests.{lt-leb}
 use Rattle.integers.proofs.Clash.{clash}
 use Rattle.refusals.specs.declared.Refusal.the-variants.{SplineLength, SplineCoordinate}
 use Rattle.outline.specs.declared.Checked.the-variants.{Curves, Faulty}
 use Rattle.outline.specs.declared.curve_faults.Found.the-variants.{At, Nowhere}
 use Rattle.outline.specs.Inside.{foundOf, checkedOf}
-use Rattle.outline_splines.specs.Splines.{splineLengthFine, firstFar, splinesFrom, splineCount, splined}
+use Rattle.outline_splines.specs.Splines.{splineLengthFine, firstFar, splineCount, splined}
 use Rattle.outline_splines.proofs.Accepted.{length-fine, splines-length}
 use Rattle.outline_splines.proofs.check_spline.Statement.{statement}
 use Rattle.outline_splines.proofs.check_spline.Tie as tie

@@ -1,5 +1,5 @@
 -- Check 25. The loop's invariant: the search from the start comes to the search from `i` on. The measure is what is left of the list.
-use mathlib.Core.Path.{_≡_, refl, sym, _∙_, ap}
+use mathlib.Core.Path.{_≡_, sym, _∙_, ap}
 use mathlib.Core.Bool.{Bool}
 use mathlib.Core.List.{List}
 use Prim.Native.Nat.{ℕ, _-_, _≤_}

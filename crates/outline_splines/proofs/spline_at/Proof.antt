@@ -1,5 +1,4 @@
 -- The curve of four points: both coordinates, one number apart.
-use mathlib.Core.Path.{_≡_}
 use borrow.Author.Needs.{needs}
 use Rattle.outline_splines.specs.Splines.{splineAt}
 use Rattle.outline_splines.proofs.spline_at.Statement.{statement}

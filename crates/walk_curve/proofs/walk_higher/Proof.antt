@@ -1,22 +1,20 @@
 -- The walk of a curve of degree 4 or 5. The loop's invariant: the walk stands at this part of the curve, with as many leaves passed as were
 -- counted. The measure is the part's rank.
-use mathlib.Core.Path.{_≡_, sym, _∙_, ap}
-use mathlib.Core.Logic.{⊎-elim}
+use mathlib.Core.Path.{sym, _∙_, ap}
 use Prim.Native.Nat.{_^_, _<_}
 use native.Mathlib.Omega.{arith}
 use borrow.Author.Needs.{needs}
 use mir.Syntax.{w64}
 use mir.Val.{toZ}
 use mir.Facts.{toZ-ofZ}
-use Rattle.integers.proofs.Ranges.{stored}
 use Rattle.setting.specs.Setting.{deepest}
 use Rattle.bound_pieces.specs.Inside.{settingOf}
 use Rattle.setting.proofs.Depths.{deepest-high}
 use Rattle.bound_node.specs.Boxes.{meets}
-use Rattle.walk_curve.specs.Walked.{nodeMeets}
-use Rattle.walk_curve.proofs.Parts.{part-degree, part-high, part-halvable, part-meets, part-narrow, part-wide}
+use Rattle.walk_curve.proofs.Parts.{part-degree, part-halvable}
 use Rattle.walk_curve.proofs.Walks.{partRank, left-falls, after-falls}
 use Rattle.walk_curve.proofs.Counts.{Counted, counted-start, counted-few, counted-left, counted-failed, counted-after, counted-done}
+use Rattle.walk_curve.proofs.Testing.{Tells, higher-verdict-asks, higher-boxes-ask, tested}
 use Rattle.walk_curve.proofs.walk_higher.Statement.{statement}
 use Rattle.walk_curve.proofs.walk_higher.Tie as tie
 
@@ -26,48 +24,29 @@ Inv-loop rows pieces t part₀ leaves₀ part leaves = Counted (settingOf pieces
 abbrev μ-loop : tie.MeasureT-loop
 μ-loop rows pieces t part₀ leaves₀ part leaves = partRank (part₀ .curve) part
 
-loop-holds : tie.Need-loop-holds Inv-loop μ-loop
-loop-holds c = counted-start (c .pre .1)
-
 -- ---- the test of the node
-depth-requires : tie.Need-depth-requires Inv-loop μ-loop
-depth-requires c κs = c .before .loop .inv .walk .of .some
-
 verdict-of-requires : tie.Need-verdict-of-requires Inv-loop μ-loop
 verdict-of-requires c κs =
     let l = c .before .before in
     let h = l .before .pre in
-    let p = part-high (l .loop .inv .walk .of) (h .2) in
-    rw (c .depth .ensures) (h .0 .has, h .0 .is, h .3, p .0, p .1, p .2, h .4)
+    higher-verdict-asks (l .loop .inv .walk) (c .depth .ensures) (h .0) (h .3) (h .2) (h .4)
 
 same-requires : tie.Need-same-requires Inv-loop μ-loop
 same-requires c κs = part-halvable (c .before .before .before .before .before .loop .inv .walk .of)
 
 boxes-meet-requires : tie.Need-boxes-meet-requires Inv-loop μ-loop
 boxes-meet-requires c κs =
-    let e = c .before in
-    let v = e .before .before in
+    let v = c .before .before .before in
     let l = v .before .before .before in
     let h = l .before .pre in
-    let p = part-high (l .loop .inv .walk .of) (h .2) in
-    rw (v .before .depth .ensures, c .same .ensures) (h .0, h .3, p .0, p .1, p .2, rw (e .enum-told3 .given .1) at (v .verdict-of .ensures), h .4)
+    higher-boxes-ask (l .loop .inv .walk) (v .before .depth .ensures) (h .0) (h .3) (h .2) (h .4) (v .verdict-of .ensures)
+    (c .before .enum-told3 .given .1) (c .same .ensures)
 
-met : (c : tie.At-match-came Inv-loop μ-loop)
-    → let l = c .before .before .before .before in
-    let a = l .before .args in
-    c .match .met ≡ nodeMeets (settingOf (a .pieces)) (stored w64 (a .t)) (a .curve) (l .loop .part .node)
+met : (c : tie.At-match-came Inv-loop μ-loop) → Tells (c .before .before .before .before .loop .inv .walk) (c .match .met)
 met c =
     let v = c .before in
-    let l = v .before .before .before in
-    let a = l .before .args in
-    let p = l .loop .inv .walk .of in
-    let e = v .before .depth .ensures in
-    ⊎-elim
-    (λ w. part-narrow p _ (stored w64 (a .t)) e (v .verdict-of .ensures) (w .1 .given .1) (w .2))
-    (⊎-elim
-    (λ w. part-wide p _ (stored w64 (a .t)) e (v .verdict-of .ensures) (w .1 .given .1) (w .2))
-    (λ w. part-meets p (settingOf (a .pieces)) (stored w64 (a .t)) e (w .4 ∙ w .3 .ensures ∙ ap (meets _ _ _) (w .2 .ensures))))
-    (c .match .came)
+    tested (v .before .before .before .loop .inv .walk) (v .before .depth .ensures) (v .verdict-of .ensures) (c .match .came)
+    (λ w. (w .1 .given .1, w .2)) (λ w. (w .1 .given .1, w .2)) (λ w. w .4 ∙ w .3 .ensures ∙ ap (meets _ _ _) (w .2 .ensures))
 
 -- ---- a leaf
 add-leaves : tie.Need-add-leaves Inv-loop μ-loop
@@ -122,5 +101,6 @@ loop-again-2 c =
 pub walk-higher-spec : {M : Type 1} → statement M
 walk-higher-spec =
     tie.close
-    (tie.spec Inv-loop μ-loop loop-holds depth-requires verdict-of-requires (λ c. search needs) (λ c. search needs) (λ c. search needs)
+    (tie.spec Inv-loop μ-loop (λ c. counted-start (c .pre .1)) (λ c κs. c .before .loop .inv .walk .of .some) verdict-of-requires
+    (λ c. search needs) (λ c. search needs) (λ c. search needs)
     same-requires boxes-meet-requires add-leaves after-requires returns loop-less loop-again returns-2 left-requires loop-less-2 loop-again-2)

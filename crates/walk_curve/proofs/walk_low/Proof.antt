@@ -1,24 +1,19 @@
 -- The walk of a curve of degree 1 to 3. The loop's invariant: the walk stands at this part of the curve, with as many leaves passed as were
 -- counted. The measure is the part's rank.
-use mathlib.Core.Path.{_≡_, sym, _∙_}
-use mathlib.Core.Logic.{⊎-elim}
+use mathlib.Core.Path.{sym, _∙_}
 use Prim.Native.Nat.{_^_, _<_}
 use native.Mathlib.Omega.{arith}
 use borrow.Author.Needs.{needs}
 use mir.Syntax.{w64}
 use mir.Val.{toZ}
 use mir.Facts.{toZ-ofZ}
-use Rattle.integers.proofs.Ranges.{stored}
 use Rattle.setting.specs.Setting.{deepest}
 use Rattle.bound_pieces.specs.Inside.{settingOf}
 use Rattle.setting.proofs.Depths.{deepest-low}
-use Rattle.integers.proofs.Machine.{fits!, is! }
-use Rattle.bound_coordinate.specs.Inside.{Small}
-use Rattle.bound_coordinate.proofs.Coordinates.{bounded}
-use Rattle.walk_curve.specs.Walked.{nodeMeets}
-use Rattle.walk_curve.proofs.Parts.{part-degree, part-low, part-meets, part-narrow, part-wide}
+use Rattle.walk_curve.proofs.Parts.{part-degree}
 use Rattle.walk_curve.proofs.Walks.{partRank, left-falls, after-falls}
 use Rattle.walk_curve.proofs.Counts.{Counted, counted-start, counted-few, counted-left, counted-failed, counted-after, counted-done}
+use Rattle.walk_curve.proofs.Testing.{Tells, square-fits, verdict-asks, boxes-ask, tested}
 use Rattle.walk_curve.proofs.walk_low.Statement.{statement}
 use Rattle.walk_curve.proofs.walk_low.Tie as tie
 
@@ -28,54 +23,14 @@ Inv-loop rows pieces t part₀ leaves₀ part leaves = Counted (settingOf pieces
 abbrev μ-loop : tie.MeasureT-loop
 μ-loop rows pieces t part₀ leaves₀ part leaves = partRank (part₀ .curve) part
 
-loop-holds : tie.Need-loop-holds Inv-loop μ-loop
-loop-holds c = counted-start (c .pre .1)
-
--- ---- the test of the node
-depth-requires : tie.Need-depth-requires Inv-loop μ-loop
-depth-requires c κs = c .before .loop .inv .walk .of .some
-
-verdict-of-requires : tie.Need-verdict-of-requires Inv-loop μ-loop
-verdict-of-requires c κs =
-    let l = c .before .before in
-    let h = l .before .pre in
-    let p = part-low (l .loop .inv .walk .of) (h .2) in
-    rw (c .depth .ensures) (h .0 .has, h .0 .is, p .0, p .1, p .2)
-
--- where nothing is told, the square of the tolerance does not wrap
-small : (c : tie.After-enum-told3 Inv-loop μ-loop)
-    → let l = c .before .before .before .before .before in Small (2 ^ 27) (stored w64 (l .before .args .t))
-small c = rw (c .enum-told3 .given .1) at (c .before .before .verdict-of .ensures)
-
-mul-boxes-meet : tie.Need-mul-boxes-meet Inv-loop μ-loop
-mul-boxes-meet c = fits! (search (small c, bounded) depth 40) tt
-
-boxes-meet-requires : tie.Need-boxes-meet-requires Inv-loop μ-loop
-boxes-meet-requires c κs =
-    let v = c .before .before in
-    let l = v .before .before .before in
-    let h = l .before .pre in
-    let p = part-low (l .loop .inv .walk .of) (h .2) in
-    rw (v .before .depth .ensures) (h .0, p .0, p .1, p .2, is! (search (small c, bounded) depth 40) tt)
-
-met : (c : tie.At-match-came Inv-loop μ-loop)
-    → let l = c .before .before .before .before in
-    let a = l .before .args in
-    c .match .met ≡ nodeMeets (settingOf (a .pieces)) (stored w64 (a .t)) (a .curve) (l .loop .part .node)
+-- the test of the node, whichever of the three told it
+met : (c : tie.At-match-came Inv-loop μ-loop) → Tells (c .before .before .before .before .loop .inv .walk) (c .match .met)
 met c =
     let v = c .before in
-    let l = v .before .before .before in
-    let a = l .before .args in
-    let p = l .loop .inv .walk .of in
-    let e = v .before .depth .ensures in
-    ⊎-elim
-    (λ w. part-narrow p _ (stored w64 (a .t)) e (v .verdict-of .ensures) (w .1 .given .1) (w .2))
-    (⊎-elim
-    (λ w. part-wide p _ (stored w64 (a .t)) e (v .verdict-of .ensures) (w .1 .given .1) (w .2))
-    (λ w. part-meets p (settingOf (a .pieces)) (stored w64 (a .t)) e (w .3 ∙ w .2 .ensures)))
-    (c .match .came)
+    tested (v .before .before .before .loop .inv .walk) (v .before .depth .ensures) (v .verdict-of .ensures) (c .match .came)
+    (λ w. (w .1 .given .1, w .2)) (λ w. (w .1 .given .1, w .2)) (λ w. w .3 ∙ w .2 .ensures)
 
--- ---- a leaf
+-- ---- a leaf, counted
 add-leaves : tie.Need-add-leaves Inv-loop μ-loop
 add-leaves c = omega (arith, counted-few (c .before .before .before .before .before .loop .inv))
 
@@ -134,5 +89,9 @@ loop-again-2 c =
 pub walk-low-spec : {M : Type 1} → statement M
 walk-low-spec =
     tie.close
-    (tie.spec Inv-loop μ-loop loop-holds depth-requires verdict-of-requires (λ c. search needs) (λ c. search needs) (λ c. search needs)
-    mul-boxes-meet boxes-meet-requires add-leaves after-low-requires returns loop-less loop-again returns-2 left-low-requires loop-less-2 loop-again-2)
+    (tie.spec Inv-loop μ-loop (λ c. counted-start (c .pre .1)) (λ c κs. c .before .loop .inv .walk .of .some)
+    (λ c κs. let l = c .before .before in verdict-asks (l .loop .inv .walk) (c .depth .ensures) (l .before .pre .0) (l .before .pre .2))
+    (λ c. search needs) (λ c. search needs) (λ c. search needs) (λ c. square-fits (rw (c .enum-told3 .given .1) at (c .before .before .verdict-of .ensures)))
+    (λ c κs. let l = c .before .before .before .before .before in boxes-ask (l .loop .inv .walk) (c .before .before .before .depth .ensures)
+    (l .before .pre .0) (l .before .pre .2) (c .before .before .verdict-of .ensures) (c .enum-told3 .given .1))
+    add-leaves after-low-requires returns loop-less loop-again returns-2 left-low-requires loop-less-2 loop-again-2)

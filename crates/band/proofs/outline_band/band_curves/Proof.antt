@@ -15,7 +15,7 @@ use Rattle.integers.specs.Entry.{entry}
 use Rattle.curve_halves.specs.Sizes.{Each}
 use Rattle.bound_row_table.specs.Inside.{Copied}
 use Rattle.bound_pieces.specs.declared.Pieces.{Pieces}
-use Rattle.bound_pieces.specs.Inside.{piecesBy, piecesOf, Ready}
+use Rattle.bound_pieces.specs.Inside.{piecesBy, piecesOf, PiecesReady}
 use Rattle.band.proofs.outline_band.band_curves.Statement.{statement}
 use Rattle.band.proofs.outline_band.band_curves.Tie as tie
 
@@ -28,7 +28,7 @@ scale-is : (m : ℕ) (b : Bool) {p : Pieces} → p ≡ piecesOf m b → p .sixth
 unfolding piecesOf piecesBy
 scale-is m b e = ap (λ (q : Pieces). q .sixths) e
 
-ready : (m : ℕ) (b : Bool) {p : Pieces} {rows : List ℤ} → HasRows m → p ≡ piecesOf m b → Copied m rows → Ready p rows
+ready : (m : ℕ) (b : Bool) {p : Pieces} {rows : List ℤ} → HasRows m → p ≡ piecesOf m b → Copied m rows → PiecesReady p rows
 unfolding piecesOf piecesBy
 ready m b h e copied = rw e (record { has = h; is = refl; copied = copied })
 

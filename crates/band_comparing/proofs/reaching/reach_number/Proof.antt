@@ -1,6 +1,5 @@
 -- One number compared.
 use mathlib.Core.Path.{sym}
-use native.Mathlib.Omega.{arith}
 use borrow.Author.Needs.{needs}
 use Rattle.integers.proofs.Between.{element-fits}
 use Rattle.integers.proofs.Equal.{bits-equal, bits-differ}

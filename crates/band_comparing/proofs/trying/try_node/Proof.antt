@@ -1,22 +1,21 @@
 -- A node tried: its two numbers, then its boxes.
-use mathlib.Core.Path.{_≡_, sym, _∙_, ap}
-use Prim.Native.Nat.{_+_, _≤_}
+use mathlib.Core.Path.{_≡_, _∙_, ap}
+use Prim.Native.Nat.{_+_, _^_, _≤_}
 use native.Mathlib.Nat.{lt-trans}
 use native.Mathlib.Omega.{arith}
 use borrow.Author.Needs.{needs}
 use lib.Dec.{lit<}
 use lib.ListN.{length}
 use lib.IntN.{pos}
-use mir.Syntax.{w32}
+use mir.Syntax.{w32, w64}
 use mir.Val.{toZ}
 use mir.Facts.{toZ-ofZ, toZ-pos}
 use Rattle.setting.specs.Setting.{lists, breakPoints}
-use Rattle.setting.proofs.Depths.{deepest-low, deepest-high}
-use Rattle.setting.proofs.Pieces.{degree-takes}
 use Rattle.curve_nodes.specs.Nodes.{depth}
 use Rattle.bound_node.specs.Boxes.{meets}
 use Rattle.band_records.specs.Records.{boxesTo}
-use Rattle.band_comparing.specs.Inside.{triedOf}
+use Rattle.integers.proofs.Ranges.{stored}
+use Rattle.band_comparing.specs.Inside.{triedOf, Tryable}
 use Rattle.band_comparing.proofs.ReachLaws.{number-less}
 use Rattle.band_comparing.proofs.TryLaws.{node-head}
 use Rattle.band_comparing.proofs.trying.try_node.Statement.{statement}
@@ -24,15 +23,15 @@ use Rattle.band_comparing.proofs.trying.try_node.Tie as tie
 
 -- the two numbers as they are stored
 number-is : (s : tie.Start) → toZ w32 (s .args .number) ≡ pos (s .args .number)
-number-is s = toZ-pos w32 (s .pre .2)
+number-is s = toZ-pos w32 (s .pre .1 .curve)
 
 node-is : (s : tie.Start) → toZ w32 (s .args .node) ≡ pos (s .args .node)
-node-is s = toZ-pos w32 (lt-trans (s .pre .3) (lit< tt))
+node-is s = toZ-pos w32 (lt-trans (s .pre .1 .below) (lit< tt))
 
 reach-number-requires-2 : tie.Need-reach-number-requires-2
 reach-number-requires-2 c κs =
     let a = c .before .args in
-    omega (arith, c .reach-number .ensures, number-less (a .given .now) (a .reach) (a .at) (toZ w32 (a .number)), c .before .pre .0)
+    omega (arith, c .reach-number .ensures, number-less (a .given .now) (a .reach) (a .at) (toZ w32 (a .number)), c .before .pre .0 .there)
 
 -- they leave no more
 less : (c : tie.After-reach-number2) → c .reach-number2 .result ≤ length (c .before .before .args .given .now)
@@ -45,39 +44,25 @@ less c =
       number-less (a .given .now) (f .reach-number .result) (a .at + 1) (toZ w32 (a .node)),
       f .reach-number .ensures,
       number-less (a .given .now) (a .reach) (a .at) (toZ w32 (a .number)),
-      f .before .pre .0,
+      f .before .pre .0 .there,
     )
 
-try-higher-requires : tie.Need-try-higher-requires
-try-higher-requires c κs =
-    let d = c .before .before in
+-- what the test of the boxes asks, at the depth that was computed
+tryable : (d : tie.After-depth) → let n = d .before in let a = n .before .before .args in
+    Tryable (a .given .now) (n .reach-number2 .result) (a .at + 2) (2 ^ 60) (a .m) (a .scale) (a .rows .now) (d .depth .result) (a .curve) (stored w64 (a .t))
+tryable d =
     let n = d .before in
     let s = n .before .before in
-    let p = s .pre in (
-      less n,
-      omega (arith, p .1),
-      p .5,
-      rw (d .depth .ensures) (p .6),
-      c .if1 .taken,
-      rw (d .depth .ensures) (rw (deepest-high _ (c .if1 .taken)) at (p .8)),
-      degree-takes (s .args .curve .degree) (s .args .m) .0 (p .7) (c .if1 .taken),
-      rw (toZ-ofZ (s .fits .t)) (p .9),
-    )
-
-try-low-requires : tie.Need-try-low-requires
-try-low-requires c κs =
-    let d = c .before .before in
-    let n = d .before in
-    let s = n .before .before in
-    let p = s .pre in (
-      less n,
-      omega (arith, p .1),
-      p .5,
-      rw (d .depth .ensures) (p .6),
-      c .if1 .left,
-      rw (d .depth .ensures) (rw (deepest-low _ (c .if1 .left)) at (p .8)),
-      rw (toZ-ofZ (s .fits .t)) (p .9),
-    )
+    let p = s .pre .0 in
+    record {
+      there = less n;
+      place = omega (arith, p .place);
+      lent = p .lent;
+      sized = rw (d .depth .ensures) (p .sized);
+      takes = p .takes;
+      shallow = rw (d .depth .ensures) (p .shallow);
+      small = rw (toZ-ofZ (s .fits .t)) (p .small);
+    }
 
 returns : tie.Need-returns
 returns c =
@@ -107,4 +92,5 @@ pub try-node-spec : {M : Type 1} → statement M
 try-node-spec =
     tie.close
     (tie.spec (λ c. search needs) (λ c κs. search needs) (λ c. search needs) (λ c. search needs) reach-number-requires-2
-    (λ c κs. search needs) (λ c. search needs) try-higher-requires (λ c. search needs) try-low-requires returns returns-2)
+    (λ c κs. search needs) (λ c. search needs) (λ c κs. (tryable (c .before .before), c .if1 .taken)) (λ c. search needs)
+    (λ c κs. (tryable (c .before .before), c .if1 .left)) returns returns-2)

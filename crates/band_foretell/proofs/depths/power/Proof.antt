@@ -1,6 +1,6 @@
 -- A power of 2 up to 2^8.
 use mathlib.Core.Path.{_≡_, refl, _∙_, ap}
-use Prim.Native.Nat.{ℕ, _^_, _*_, _%_, _≤_, _<_}
+use Prim.Native.Nat.{ℕ, _^_, _*_, _%_, _≤_}
 use native.Mathlib.Nat.{mod-eq-of-lt, lt-of-le-of-lt, one-mul}
 use lib.Dec.{lit<}
 use lib.Pow.{pow-mono, pow-pos}

@@ -5,7 +5,7 @@ use Prim.Native.Nat.{suc, _+_, _-_, _≤_}
 use native.Mathlib.Omega.{arith}
 use lib.ListN.{length, length-set}
 use Rattle.integers.proofs.Machine.{fits!, is! }
-use Rattle.bound_coordinate.specs.Higher.{higherLow, higherHigh}
+use Rattle.bound_coordinate.specs.HigherTerms.{higherLow, higherHigh}
 use Rattle.bound_coordinate.proofs.Coordinates.{bounded}
 use Rattle.band_records.specs.Inside.{putPairsBy}
 use Rattle.band_records.proofs.Writing.{pairs-length, pairs-more}

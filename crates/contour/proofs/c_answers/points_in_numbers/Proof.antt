@@ -5,9 +5,6 @@ use Rattle.contour.specs.Points.{pointsAnswerOf}
 use Rattle.contour.proofs.c_answers.points_in_numbers.Statement.{statement}
 use Rattle.contour.proofs.c_answers.points_in_numbers.Tie as tie
 
-returns : tie.Need-returns
-returns c = ap pointsAnswerOf (sym (c .before .answered .given .1))
-
 returns-2 : tie.Need-returns-2
 returns-2 c =
     ap₂ (λ n s. record { refusal = n; spot = s; points = 0 }) (c .before .number .ensures) (c .spot .ensures)
@@ -16,4 +13,5 @@ returns-2 c =
 pub points-in-numbers-spec : {M : Type 1} → statement M
 points-in-numbers-spec =
     tie.close
-    (tie.spec (λ c. search needs) (λ c. search needs) (λ c κs. search needs) (λ c κs. search needs) returns returns-2)
+    (tie.spec (λ c. search needs) (λ c. search needs) (λ c κs. search needs) (λ c κs. search needs)
+    (λ c. ap pointsAnswerOf (sym (c .before .answered .given .1))) returns-2)

@@ -2,7 +2,7 @@
 use mathlib.Core.Path.{sym, _∙_, ap, ap₂}
 use lib.Ieee.{ofBits}
 use borrow.Author.Needs.{needs}
-use Rattle.contour.specs.BoxForms.{nil, shortOf}
+use Rattle.contour.specs.BoxForms.{zeroFloat, shortOf}
 use Rattle.contour.proofs.c_answers.short_in_numbers.Statement.{statement}
 use Rattle.contour.proofs.c_answers.short_in_numbers.Tie as tie
 
@@ -12,7 +12,7 @@ returns c = c .form-in-numbers .ensures ∙ ap shortOf (sym (c .before .before .
 returns-2 : tie.Need-returns-2
 unfolding ofBits
 returns-2 c =
-    ap₂ (λ n s. record { refusal = n; spot = s; kind = 0; x = nil; y = nil; «half_width» = nil; «half_height» = nil }) (c .before .number .ensures)
+    ap₂ (λ n s. record { refusal = n; spot = s; kind = 0; x = zeroFloat; y = zeroFloat; «half_width» = zeroFloat; «half_height» = zeroFloat }) (c .before .number .ensures)
     (c .spot .ensures)
     ∙ ap shortOf (sym (c .before .before .before .shortened2 .given .1))
 

@@ -1,4 +1,4 @@
--- The same curve, coordinate by coordinate.
+-- A copy of a curve, coordinate by coordinate, is that curve.
 use borrow.Author.Needs.{needs}
 use Rattle.curve_nodes.proofs.Curve.same.Statement.{statement}
 use Rattle.curve_nodes.proofs.Curve.same.Tie as tie

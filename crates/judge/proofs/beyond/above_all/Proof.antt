@@ -1,60 +1,31 @@
 -- `judge::beyond::above_all` meets its contract. The loop's invariant: the first i numbers pass.
-use Prim.Native.Nat.{suc, _+_, _*_, _-_, _<_}
+use Prim.Native.Nat.{suc, _-_}
 use native.Mathlib.Omega.{arith}
 use borrow.Author.Needs.{needs}
 use lib.Signed.{leZ, ltZ}
 use mir.Syntax.{w32}
-use mir.Val.{SFits, toZ}
+use mir.Val.{toZ}
 use mir.Facts.{toZ-ofZ}
-use Rattle.integers.specs.Entry.{entry}
 use Rattle.integers.proofs.Ranges.{stored}
-use Rattle.integers.proofs.Between.{element-fits}
-use Rattle.judge.proofs.Passing.{Passing, pass-none, pass-done, turned, read-fails, read-passes}
+use Rattle.judge.proofs.Passing.{Passing, pass-none, pass-done, turned, Reading, reading}
 use Rattle.judge.proofs.beyond.above_all.Statement.{statement}
 use Rattle.judge.proofs.beyond.above_all.Tie as tie
 
 abbrev Inv-loop : tie.InvT-loop
-Inv-loop leaves m at z i₀ i = Passing (λ a. ltZ a (toZ w32 z)) leaves at (suc m) i
+Inv-loop leaves m at z i₀ i = Passing (λ x. ltZ x (toZ w32 z)) leaves at (suc m) i
 
 abbrev μ-loop : tie.MeasureT-loop
 μ-loop leaves m at z i₀ i = suc m - i
 
-fits : (c : tie.After-high Inv-loop μ-loop)
-    → let l = c .before .before in SFits w32 (entry (l .before .args .leaves .now) (l .before .args .at + 4 * l .loop .i))
-fits c = let l = c .before .before in element-fits (l .before .args .leaves .now) (l .before .args .at + 4 * l .loop .i) (c .high .given)
-
-in-turn : (c : tie.In-loop Inv-loop μ-loop) → c .before .loop .i < suc (c .before .before .args .m)
-in-turn c = omega (arith, c .loop-test .taken)
-
-returns : tie.Need-returns Inv-loop μ-loop
-returns c =
-    let r = c .before in
-    let l = r .before .before in
-    let s = l .before in
-    let z = stored w32 (s .args .z) in
-    rw (toZ-ofZ (s .fits .z)) at
-    (read-fails (λ a. ltZ a z) (leZ z) (turned z) (s .args .leaves .now) (s .args .at) (l .loop .inv) (in-turn (r .before)) (fits r)
-    (c .if1 .taken))
-
-loop-again : tie.Need-loop-again Inv-loop μ-loop
-loop-again c =
-    let r = c .before in
-    let l = r .before .before in
-    let s = l .before in
-    let z = stored w32 (s .args .z) in
-    read-passes (λ a. ltZ a z) (leZ z) (turned z) (s .args .leaves .now) (s .args .at) (l .loop .inv) (in-turn (r .before)) (fits r)
-    (c .if1 .left)
-
-returns-2 : tie.Need-returns-2 Inv-loop μ-loop
-returns-2 c =
-    let s = c .before .before in
-    let z = stored w32 (s .args .z) in
-    rw (toZ-ofZ (s .fits .z)) at (pass-done (λ a. ltZ a z) (s .args .leaves .now) (s .args .at) (c .before .loop .inv) (c .loop-test .left))
+turn : (c : tie.After-high Inv-loop μ-loop) → let l = c .before .before in let a = l .before .args in let z = stored w32 (a .z) in
+    Reading (λ x. ltZ x z) (leZ z) (a .leaves .now) (a .at) (suc (a .m)) (l .loop .i)
+turn c =
+    let z = stored w32 (c .before .before .before .args .z) in
+    reading (λ x. ltZ x z) (leZ z) (turned z) (c .before .before .loop .inv) (c .before .loop-test .taken) (c .high .given)
 
 pub above-all-spec : {M : Type 1} → statement M
 above-all-spec =
-    tie.close
-    (tie.spec Inv-loop μ-loop
-    (λ c. let z = stored w32 (c .args .z) in pass-none (λ a. ltZ a z) (c .args .leaves .now) (c .args .at) (suc (c .args .m)))
-    (λ c. search needs) (λ c. search needs) (λ c. search needs) (λ c. search needs) returns (λ c. search needs)
-    (λ c. omega arith) loop-again returns-2)
+    tie.close (tie.spec Inv-loop μ-loop (λ c. pass-none _ _ _ _) (λ c. search needs) (λ c. search needs) (λ c. search needs) (λ c. search needs)
+    (λ c. rw (toZ-ofZ (c .before .before .before .before .fits .z)) at (turn (c .before) .fails (c .if1 .taken)))
+    (λ c. search needs) (λ c. omega arith) (λ c. turn (c .before) .passes (c .if1 .left))
+    (λ c. rw (toZ-ofZ (c .before .before .fits .z)) at (pass-done _ _ _ (c .before .loop .inv) (c .loop-test .left))))

@@ -30,26 +30,19 @@ more c =
     let e = s .pre .1 in
     omega (arith, record-left (recordLength (lists (s .args .m))) (c .before .loop .inv .whole) (e .whole) (c .loop-test .taken), e .within)
 
-returns : tie.Need-returns Inv-loop μ-loop
-returns c =
-    let l = c .before .before .before in
-    let f = l .before .fits in
-    rw (toZ-ofZ (f .x), toZ-ofZ (f .y)) at (l .loop .inv)
+-- what the invariant says of the point as it was passed
+passed : (l : tie.At-loop Inv-loop μ-loop) → let a = l .before .args in ApartTo (lists (a .m)) (a .x) (a .y) (a .leaves .now) (a .from) (l .loop .at)
+passed l = rw (toZ-ofZ (l .before .fits .x), toZ-ofZ (l .before .fits .y)) at (l .loop .inv)
 
 loop-again : tie.Need-loop-again Inv-loop μ-loop
 loop-again c =
     let l = c .before .before .before in
-    let e = sym (c .before .apart .ensures) ∙ not-false (c .before .apart .result) (c .if1 .left) in
+    let e = sym (c .before .record-apart .ensures) ∙ not-false (c .before .record-apart .result) (c .if1 .left) in
     rw (length-is (l .before .args .m)) (apart-more (l .loop .inv) e)
-
-returns-2 : tie.Need-returns-2 Inv-loop μ-loop
-returns-2 c =
-    let f = c .before .before .fits in
-    rw (toZ-ofZ (f .x), toZ-ofZ (f .y)) at (c .before .loop .inv)
 
 pub near-from-spec : {M : Type 1} → statement M
 near-from-spec =
-    tie.close
-    (tie.spec Inv-loop μ-loop (λ c. let h = c .pre .0 .most in search needs) (λ c. let h = c .pre .0 .most in search needs)
-    (λ c. apart-here (c .pre .2)) (λ c κs. let h = more c in let f = c .before .loop .inv .after in omega arith) returns
-    (λ c. let h = more (c .before .before) in search needs) (λ c. omega arith) loop-again returns-2)
+    tie.close (tie.spec Inv-loop μ-loop (λ c. let h = c .pre .0 .most in search needs) (λ c. let h = c .pre .0 .most in search needs)
+    (λ c. apart-here (c .pre .2)) (λ c κs. let h = more c in let f = c .before .loop .inv .after in omega arith)
+    (λ c. passed (c .before .before .before)) (λ c. let h = more (c .before .before) in search needs) (λ c. omega arith) loop-again
+    (λ c. passed (c .before)))

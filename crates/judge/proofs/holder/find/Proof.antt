@@ -1,5 +1,4 @@
 -- `judge::holder::find` meets its contract: a search as far as the list goes.
-use mathlib.Core.Path.{_≡_}
 use native.Mathlib.Nat.{le-refl}
 use mir.Facts.{toZ-ofZ}
 use lib.ListN.{length}

@@ -1,6 +1,6 @@
 -- `judge::holder::find_to` meets its contract. The loop's invariant: no cover of the records before `at` holds the point.
 use mathlib.Core.Path.{_≡_, refl, sym, subst}
-use Prim.Native.Nat.{_+_, _-_, _/_}
+use Prim.Native.Nat.{_-_, _/_}
 use native.Mathlib.Omega.{arith}
 use borrow.Author.Needs.{needs}
 use mir.Syntax.{w32}

@@ -10,7 +10,7 @@ use Rattle.integers.proofs.Between.{element-fits}
 use Rattle.setting.specs.Setting.{lists}
 use Rattle.judge_points.specs.Points.{pointNumbers, numbersTo}
 use Rattle.judge_points.specs.Inside.{threeNumbers}
-use Rattle.judge_points.proofs.Told.{written-none, written-more, written-length}
+use Rattle.judge_points.proofs.PointNumbers.{written-none, written-more, written-length}
 use Rattle.judge_points.proofs.answers.put_points.Statement.{statement}
 use Rattle.judge_points.proofs.answers.put_points.Tie as tie
 

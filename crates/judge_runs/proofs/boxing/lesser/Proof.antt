@@ -1,23 +1,9 @@
 -- `judge_runs::boxing::lesser` meets its contract: each branch returns the number that the comparison names.
-use mathlib.Core.Path.{sym, _∙_, ap}
-use mathlib.Core.Bool.{cond}
-use mir.Facts.{toZ-ofZ}
+use Rattle.judge_runs.proofs.Choices.{chosen-then, chosen-else}
 use Rattle.judge_runs.proofs.boxing.lesser.Statement.{statement}
 use Rattle.judge_runs.proofs.boxing.lesser.Tie as tie
 
-returns : tie.Need-returns
-returns c =
-    let s = c .before in
-    let f = s .fits in
-    let e = rw (toZ-ofZ (f .b), toZ-ofZ (f .a)) at (c .if1 .taken) in
-    toZ-ofZ (f .b) ∙ sym (ap (λ t. cond t (s .args .b) (s .args .a)) e)
-
-returns-2 : tie.Need-returns-2
-returns-2 c =
-    let s = c .before in
-    let f = s .fits in
-    let e = rw (toZ-ofZ (f .b), toZ-ofZ (f .a)) at (c .if1 .left) in
-    toZ-ofZ (f .a) ∙ sym (ap (λ t. cond t (s .args .b) (s .args .a)) e)
-
 pub lesser-spec : {M : Type 1} → statement M
-lesser-spec = tie.close (tie.spec returns returns-2)
+lesser-spec =
+    tie.close (tie.spec (λ c. let s = c .before in chosen-then (s .fits .b) (s .fits .a) (s .args .b) (s .args .a) (s .fits .b) (c .if1 .taken))
+    (λ c. let s = c .before in chosen-else (s .fits .b) (s .fits .a) (s .args .b) (s .args .a) (s .fits .a) (c .if1 .left)))

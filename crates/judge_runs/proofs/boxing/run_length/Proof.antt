@@ -1,10 +1,9 @@
 -- `judge_runs::boxing::run_length` meets its contract: no more than the list's numbers, and a 2,048th of them at least.
-use mathlib.Core.Path.{_≡_, sym, subst}
+use mathlib.Core.Path.{sym, subst}
 use Prim.Native.Nat.{_+_, _*_, _-_, _/_, _≤_}
 use native.Mathlib.Nat.{div-le-self}
-use native.Mathlib.Omega.{arith}
 use borrow.Author.Needs.{needs}
-use Rattle.setting.specs.Setting.{lists, recordLength}
+use Rattle.setting.specs.Setting.{lists}
 use Rattle.judge_list.proofs.Pieces.{length-is}
 use Rattle.judge_runs.specs.Inside.{RunLength}
 use Rattle.judge_runs.proofs.Runs.{records-some, run-few, run-within, run-length}

@@ -72,11 +72,7 @@ next-box-requires-2 c κs =
 
 loop-less : tie.Need-loop-less Inv-loop μ-loop
 loop-less c =
-    let t = c .before .before .before .before .before .loop-test .taken in
-    let o = c .next-box2 .ensures in
-    let a = o .after in
-    let b = o .before in
-    omega arith
+    let o = c .next-box2 .ensures in omega (arith, c .before .before .before .before .before .loop-test .taken, o .after, o .before)
 
 loop-again : tie.Need-loop-again Inv-loop μ-loop
 loop-again c =

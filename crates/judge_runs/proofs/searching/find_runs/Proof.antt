@@ -1,6 +1,6 @@
 -- `judge_runs::searching::find_runs` meets its contract. The loop's invariant: no record of the runs before k holds the point.
 use mathlib.Core.Path.{_≡_, refl}
-use Prim.Native.Nat.{_+_, _*_, _-_, _≤_, _<_}
+use Prim.Native.Nat.{_+_, _*_, _-_, _≤_}
 use native.Mathlib.Omega.{arith}
 use borrow.Author.Needs.{needs}
 use lib.ListN.{length}
@@ -9,9 +9,9 @@ use mir.Val.{toZ}
 use mir.Facts.{toZ-ofZ}
 use Rattle.integers.proofs.Ranges.{stored}
 use Rattle.setting.specs.Setting.{lists, recordLength}
-use Rattle.judge.specs.Inside.{InRange, Searched, FoundTo}
+use Rattle.judge.specs.Inside.{Searched}
 use Rattle.judge.proofs.Judgements.{whole-of}
-use Rattle.judge.proofs.Holders.{none-found, searched-back}
+use Rattle.judge.proofs.Holders.{none-found}
 use Rattle.judge_runs.specs.Inside.{RunBox}
 use Rattle.judge_runs.proofs.Runs.{end-whole}
 use Rattle.judge_runs.proofs.Passed.{runs-passed, run-searched, runs-from, found-farther}
@@ -89,11 +89,7 @@ next-box-requires-2 c κs =
 
 loop-less : tie.Need-loop-less Inv-loop μ-loop
 loop-less c =
-    let t = c .before .before .before .before .before .loop-test .taken in
-    let o = c .next-box2 .ensures in
-    let a = o .after in
-    let b = o .before in
-    omega arith
+    let o = c .next-box2 .ensures in omega (arith, c .before .before .before .before .before .loop-test .taken, o .after, o .before)
 
 loop-again : tie.Need-loop-again Inv-loop μ-loop
 loop-again c =

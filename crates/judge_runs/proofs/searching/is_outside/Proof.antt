@@ -1,6 +1,6 @@
 -- `judge_runs::searching::is_outside` meets its contract: four comparisons, in turn.
 use mathlib.Core.Path.{_≡_, refl}
-use mathlib.Core.Bool.{true, false}
+use mathlib.Core.Bool.{false}
 use Prim.Native.Nat.{_+_}
 use lib.Signed.{ltZ}
 use borrow.Author.Needs.{needs}

@@ -18,11 +18,9 @@ Inv-loop boxes from to x y k₀ k = OutsideTo boxes (toZ w32 x) (toZ w32 y) from
 abbrev μ-loop : tie.MeasureT-loop
 μ-loop boxes from to x y k₀ k = to - k
 
-returns : tie.Need-returns Inv-loop μ-loop
-returns c =
-    let l = c .before .before .before in
-    let f = l .before .fits in
-    rw (toZ-ofZ (f .x), toZ-ofZ (f .y)) at (l .loop .inv)
+-- what the invariant says of the point as it was passed
+passed : (l : tie.At-loop Inv-loop μ-loop) → let a = l .before .args in OutsideTo (a .boxes .now) (a .x) (a .y) (a .from) (a .to) (l .loop .k)
+passed l = rw (toZ-ofZ (l .before .fits .x), toZ-ofZ (l .before .fits .y)) at (l .loop .inv)
 
 loop-again : tie.Need-loop-again Inv-loop μ-loop
 loop-again c =
@@ -31,13 +29,7 @@ loop-again c =
     outside-more (t .before .loop .inv) (t .loop-test .taken)
     (sym (i .is-outside .ensures) ∙ not-false (i .is-outside .result) (c .if1 .left))
 
-returns-2 : tie.Need-returns-2 Inv-loop μ-loop
-returns-2 c =
-    let f = c .before .before .fits in
-    rw (toZ-ofZ (f .x), toZ-ofZ (f .y)) at (c .before .loop .inv)
-
 pub next-box-spec : {M : Type 1} → statement M
 next-box-spec =
-    tie.close
-    (tie.spec Inv-loop μ-loop (λ c. outside-none (c .pre .1)) (λ c. search needs) (λ c κs. search needs) returns (λ c. search needs)
-    (λ c. omega arith) loop-again returns-2)
+    tie.close (tie.spec Inv-loop μ-loop (λ c. outside-none (c .pre .1)) (λ c. search needs) (λ c κs. search needs)
+    (λ c. passed (c .before .before .before)) (λ c. search needs) (λ c. omega arith) loop-again (λ c. passed (c .before)))

@@ -1,5 +1,5 @@
 -- `outline_binary64::checks::coordinate_fault` meets its contract: 4 where the number is whole, else 21.
-use mathlib.Core.Path.{_≡_, sym, _∙_}
+use mathlib.Core.Path.{sym, _∙_}
 use borrow.Author.Needs.{needs}
 use Rattle.outline_binary64.proofs.checks.coordinate_fault.Statement.{statement}
 use Rattle.outline_binary64.proofs.checks.coordinate_fault.Tie as tie

@@ -1,8 +1,7 @@
 -- `outline_binary64::checks::fault_at` meets its contract: each return is one of the checks 2, 20, 3, 21 or 4, and 17.
-use mathlib.Core.Path.{_≡_, sym, _∙_, ap, ap₂, subst}
+use mathlib.Core.Path.{_≡_, sym, _∙_, ap, ap₂}
 use mathlib.Core.Bool.{Bool, true, false}
-use mathlib.Core.List.{List}
-use Prim.Native.Nat.{ℕ, _+_, _-_, _<_, _≤_}
+use Prim.Native.Nat.{_+_, _≤_}
 use native.Mathlib.Omega.{arith}
 use lib.ListN.{length}
 use borrow.Author.Needs.{needs}
@@ -14,7 +13,7 @@ use Rattle.refusals.specs.declared.Refusal.the-variants.{CutShort}
 use Rattle.outline.specs.declared.curve_faults.Fault.the-variants.{Is}
 use Rattle.outline.proofs.Degrees.{degree-least}
 use Rattle.outline.specs.Curves.{degreeFine, degreeAt}
-use Rattle.outline.specs.Faults.{coordinateFine, meetsBefore, faultAt}
+use Rattle.outline.specs.Faults.{meetsBefore, faultAt}
 use Rattle.outline.specs.Inside.{faultOf}
 use Rattle.outline.proofs.Faultless.{fault-degree, fault-pieces, fault-cut-short, fault-last, lastFault}
 use Rattle.outline_binary64.specs.Lists.{wholes}

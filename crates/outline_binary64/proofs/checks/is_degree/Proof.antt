@@ -1,12 +1,11 @@
 -- `outline_binary64::checks::is_degree` meets its contract: what is no coordinate is no degree, and of the rest the number is compared.
-use mathlib.Core.Path.{_≡_, sym, _∙_, ap}
+use mathlib.Core.Path.{_≡_, sym, _∙_}
 use mathlib.Core.Bool.{true}
 use borrow.Author.Needs.{needs}
 use borrow.Author.Tests.{not-true, not-false}
 use lib.IntN.{pos}
 use Rattle.setting.specs.Setting.{mostDegree}
 use Rattle.integers.proofs.Between.{found-below, found-last}
-use Rattle.outline.specs.Curves.{degreeFine}
 use Rattle.binary64.specs.Read.{readOf}
 use Rattle.binary64.specs.Inside.{nearOf}
 use Rattle.outline_binary64.specs.Lists.{numberFor}

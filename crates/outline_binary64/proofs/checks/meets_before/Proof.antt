@@ -1,7 +1,7 @@
 -- `outline_binary64::checks::meets_before` meets its contract: with no two numbers before the degree there is no curve before it; else x decides, or y where x
 -- is equal. Two f64 compare as their numbers, since the later one is a coordinate.
-use mathlib.Core.Path.{_≡_, sym, _∙_, ap, ap₂}
-use mathlib.Core.Bool.{Bool, true}
+use mathlib.Core.Path.{_≡_, sym, _∙_, ap₂}
+use mathlib.Core.Bool.{true}
 use mathlib.Core.List.{List}
 use Prim.Native.Nat.{ℕ, _+_, _-_, _<_}
 use native.Mathlib.Omega.{arith}

@@ -3,7 +3,6 @@ use Prim.Native.Nat.{_+_, _≤_}
 use native.Mathlib.Omega.{arith}
 use lib.Dec.{lit≤}
 use lib.ListN.{length}
-use borrow.Author.Needs.{needs}
 use Rattle.setting.specs.Setting.{mostDegree}
 use Rattle.outline.specs.Curves.{coordinates, curveAt}
 use Rattle.outline.proofs.Degrees.{degree-least, degree-most}

@@ -4,7 +4,6 @@ use mathlib.Core.Bool.{true}
 use mathlib.Core.List.{List}
 use Prim.Native.Nat.{ℕ, _<_}
 use native.Mathlib.Omega.{arith}
-use borrow.Author.Needs.{needs}
 use lib.ListN.{length, getD}
 use lib.Ieee.{Float, nan}
 use mir.Syntax.{w32, w64}
@@ -12,9 +11,7 @@ use mir.Val.{Fits, toZ, ofZ}
 use lib.Dec.{T}
 use lib.IntN.{natAbs}
 use lib.Signed.{nonNeg}
-use Rattle.setting.specs.Setting.{mostDegree}
 use Rattle.integers.specs.Entry.{entry}
-use Rattle.integers.proofs.Ranges.{stored}
 use Rattle.outline.specs.Curves.{degreeFine}
 use Rattle.outline.proofs.Degrees.{degree-most, degree-nonneg, degree-inside}
 use Rattle.binary64.specs.Inside.{nearOf}

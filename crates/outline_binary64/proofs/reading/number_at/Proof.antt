@@ -1,5 +1,5 @@
 -- `outline_binary64::reading::number_at` meets its contract: a coordinate is near.
-use mathlib.Core.Path.{_≡_, sym, _∙_, ap}
+use mathlib.Core.Path.{sym, _∙_}
 use borrow.Author.Needs.{needs}
 use lib.ListN.{getD}
 use lib.Ieee.{nan}

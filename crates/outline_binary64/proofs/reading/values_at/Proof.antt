@@ -1,10 +1,8 @@
 -- `outline_binary64::reading::values_at` meets its contract: the degree is 1 to 5, and each return is the list of one of them.
-use mathlib.Core.Path.{_≡_, refl, ap, ap₂}
-use mathlib.Core.List.{List, [], _∷_}
-use Prim.Native.Nat.{ℕ, _+_, _*_, _≤_}
+use mathlib.Core.List.{_∷_}
+use mathlib.Core.Path.{_≡_, refl, ap₂}
 use native.Mathlib.Nat.{add-zero}
 use native.Mathlib.Omega.{arith}
-use borrow.Author.Needs.{needs}
 use Rattle.outline_binary64.proofs.Numbers.{kept, at-hand, first-at-hand}
 use Rattle.outline_binary64.proofs.reading.values_at.Statement.{statement}
 use Rattle.outline_binary64.proofs.reading.values_at.Tie as tie

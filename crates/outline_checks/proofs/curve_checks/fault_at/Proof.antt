@@ -1,9 +1,7 @@
 -- `outline_checks::curve_checks::fault_at` meets its contract: each return is one of the checks 2, 20, 3, 4 and 17.
 use mathlib.Core.Path.{_≡_, sym, _∙_, ap, ap₂}
 use mathlib.Core.Bool.{Bool, true, false}
-use mathlib.Core.List.{List}
-use Prim.Native.Nat.{ℕ}
-use lib.IntN.{ℤ, pos}
+use lib.IntN.{pos}
 use borrow.Author.Needs.{needs}
 use borrow.Author.Tests.{not-true, not-false}
 use Rattle.setting.specs.Setting.{mostDegree, degreePieces}

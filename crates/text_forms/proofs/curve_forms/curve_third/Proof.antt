@@ -4,14 +4,8 @@ use Rattle.text_forms.proofs.Lines.{curve-of-two, curve-past-two}
 use Rattle.text_forms.proofs.curve_forms.curve_third.Statement.{statement}
 use Rattle.text_forms.proofs.curve_forms.curve_third.Tie as tie
 
-returns : tie.Need-returns
-returns c = search curve-of-two
-
-returns-2 : tie.Need-returns-2
-returns-2 c = search curve-past-two
-
 pub curve-third-spec : {M : Type 1} → statement M
 curve-third-spec =
     tie.close
-    (tie.spec (λ c κs. search needs) (λ c. search needs) (λ c. search needs) (λ c κs. search needs) returns
-    (λ c κs. search needs) returns-2)
+    (tie.spec (λ c κs. search needs) (λ c. search needs) (λ c. search needs) (λ c κs. search needs)
+    (λ c. search curve-of-two) (λ c κs. search needs) (λ c. search curve-past-two))

@@ -4,10 +4,8 @@ use Rattle.write_leaves.proofs.Boxes.{element-put}
 use Rattle.write_leaves.proofs.box_bytes.put_element.Statement.{statement}
 use Rattle.write_leaves.proofs.box_bytes.put_element.Tie as tie
 
-returns : tie.Need-returns
-returns c = search element-put
-
 pub put-element-spec : {M : Type 1} → statement M
 put-element-spec =
     tie.close
-    (tie.spec (λ c. search needs) (λ c. search needs) (λ c κs. search needs) (λ c. search needs) returns)
+    (tie.spec (λ c. search needs) (λ c. search needs) (λ c κs. search needs) (λ c. search needs)
+    (λ c. search element-put))

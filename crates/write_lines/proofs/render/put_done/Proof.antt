@@ -4,10 +4,6 @@ use Rattle.write_lines.proofs.Answers.{done-put}
 use Rattle.write_lines.proofs.render.put_done.Statement.{statement}
 use Rattle.write_lines.proofs.render.put_done.Tie as tie
 
-returns : tie.Need-returns
-returns c = search done-put
-
 pub put-done-spec : {M : Type 1} → statement M
 put-done-spec =
-    tie.close
-    (tie.spec (λ c. search needs) (λ c κs. search needs) (λ c κs. search needs) (λ c. search needs) returns)
+    tie.close (tie.spec (λ c. search needs) (λ c κs. search needs) (λ c κs. search needs) (λ c. search needs) (λ c. search done-put))

@@ -4,11 +4,7 @@ use Rattle.write_lines.proofs.Answers.{three-put}
 use Rattle.write_lines.proofs.render.put_three.Statement.{statement}
 use Rattle.write_lines.proofs.render.put_three.Tie as tie
 
-returns : tie.Need-returns
-returns c = search three-put
-
 pub put-three-spec : {M : Type 1} → statement M
 put-three-spec =
-    tie.close
-    (tie.spec (λ c κs. search needs) (λ c κs. search needs) (λ c κs. search needs) (λ c. search needs)
-    (λ c κs. search needs) (λ c. search needs) returns)
+    tie.close (tie.spec (λ c κs. search needs) (λ c κs. search needs) (λ c κs. search needs) (λ c. search needs) (λ c κs. search needs)
+    (λ c. search needs) (λ c. search three-put))

@@ -9,12 +9,6 @@ use Rattle.integers.proofs.Machine.{machine, tests, fits!, unsigned!, unsigned-
 use Rattle.write_numbers.proofs.decimals.magnitude.Statement.{statement}
 use Rattle.write_numbers.proofs.decimals.magnitude.Tie as tie
 
-cast-wide : tie.Need-cast-wide
-cast-wide c = fits! (search (machine, c .fits .value) depth 40) tt
-
-sub-result : tie.Need-sub-result
-sub-result c = fits! (search (machine, c .before .fits .value) depth 40) tt
-
 cast-result : tie.Need-cast-result
 cast-result c =
     let a = c .before .args .value in
@@ -37,4 +31,7 @@ returns-2 : tie.Need-returns-2
 returns-2 c = let a = c .before .args .value in unsigned-is! (stored w64 (stored w32 a)) (search (machine, c .before .fits .value) depth 40) tt
 
 pub magnitude-spec : {M : Type 1} → statement M
-magnitude-spec = tie.close (tie.spec cast-wide sub-result cast-result cast-result-2 returns returns-2)
+magnitude-spec =
+    tie.close
+    (tie.spec (λ c. fits! (search (machine, c .fits .value) depth 40) tt)
+    (λ c. fits! (search (machine, c .before .fits .value) depth 40) tt) cast-result cast-result-2 returns returns-2)

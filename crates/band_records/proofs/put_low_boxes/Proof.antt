@@ -15,8 +15,8 @@ use Rattle.bound_pieces.specs.Inside.{settingOf}
 use Rattle.bound_pieces.proofs.PiecesLaws.{divisor-is, divisor-less, divisor-few, scaled}
 use Rattle.band_records.specs.Inside.{boxBy}
 use Rattle.band_records.proofs.Writing.{kept, joinedTo, joined-more, box-four, all-written, box-is}
-use Rattle.band_records.proofs.put_boxes.Statement.{statement}
-use Rattle.band_records.proofs.put_boxes.Tie as tie
+use Rattle.band_records.proofs.put_low_boxes.Statement.{statement}
+use Rattle.band_records.proofs.put_low_boxes.Tie as tie
 
 abbrev Inv-loop : tie.InvT-loop
 Inv-loop records₀ at rows depth m divisor scale degree shift x y i₀ records i =
@@ -105,8 +105,8 @@ returns c =
     ∙ box-is σ (p .1 .has) (a .depth) (a .curve) (p .2) (p .1 .copied) (p .3) (l .before .before .terms-of .ensures) (l .before .terms-of2 .ensures) i hi)
     (a .records .now) (a .at) e (l .loop .inv .1)
 
-pub put-boxes-spec : {M : Type 1} → statement M
-put-boxes-spec =
+pub put-low-boxes-spec : {M : Type 1} → statement M
+put-low-boxes-spec =
     tie.close
     (tie.spec Inv-loop μ-loop mul-shift terms-of-requires terms-of-requires-2 loop-holds
     (λ c. omega arith) (λ c. omega arith) put-box-requires (λ c. omega arith) (λ c. omega arith) loop-again same-length

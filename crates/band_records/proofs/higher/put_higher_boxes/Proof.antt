@@ -10,8 +10,8 @@ use Rattle.curve_nodes.specs.Inside.{Halvable}
 use Rattle.curve_nodes.proofs.Sizes.{sized-halvable}
 use Rattle.bound_coordinate.proofs.Chosen.{higher-computable}
 use Rattle.band_records.proofs.Writing.{both-written}
-use Rattle.band_records.proofs.higher.put_boxes.Statement.{statement}
-use Rattle.band_records.proofs.higher.put_boxes.Tie as tie
+use Rattle.band_records.proofs.higher.put_higher_boxes.Statement.{statement}
+use Rattle.band_records.proofs.higher.put_higher_boxes.Tie as tie
 
 halvable : (s : tie.Start) → Halvable (s .args .curve)
 halvable s = let p = s .pre in sized-halvable (rw (deepest-high (s .args .curve .degree) (p .4)) (p .6)) (p .3)
@@ -56,8 +56,8 @@ returns c =
     both-written (lists (a .m)) (p .1) (a .depth) (a .curve) (p .3) (p .2) (p .4) refl (p .5) (x .before .higher-of .ensures) (y .before .higher-of2 .ensures)
     (a .records .now) (a .at) (x .put-coordinate .ensures) (y .put-coordinate2 .ensures)
 
-pub put-boxes-spec : {M : Type 1} → statement M
-put-boxes-spec =
+pub put-higher-boxes-spec : {M : Type 1} → statement M
+put-higher-boxes-spec =
     tie.close
     (tie.spec mul-shift higher-of-requires put-coordinate-requires (λ c. search needs) higher-of-requires-2
     put-coordinate-requires-2 (λ c. search needs) returns)

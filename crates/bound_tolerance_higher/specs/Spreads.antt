@@ -26,11 +26,11 @@ abbrev pub endOf : Gaps → List ℕ → ℕ
 endOf g ns = g .«first» * getD ns 0 0 + g .«second» * getD ns 1 0
 
 -- the squares of both spreads, and of one more
-abbrev pub acrossOf : (w h s : ℕ) → ℤ
-acrossOf w h s = squared (pos (spreadOf w s)) +ℤ squared (pos (spreadOf h s))
+abbrev pub squaresOf : (w h s : ℕ) → ℤ
+squaresOf w h s = squared (pos (spreadOf w s)) +ℤ squared (pos (spreadOf h s))
 
-abbrev pub acrossAbove : (w h s : ℕ) → ℤ
-acrossAbove w h s = squared (pos (spreadOf w s) +ℤ pos 1) +ℤ squared (pos (spreadOf h s) +ℤ pos 1)
+abbrev pub squaresAbove : (w h s : ℕ) → ℤ
+squaresAbove w h s = squared (pos (spreadOf w s) +ℤ pos 1) +ℤ squared (pos (spreadOf h s) +ℤ pos 1)
 
 -- 64 bits have room for what is computed of them
 pub record SmallSizes (ns : List ℕ) : Type 0 where

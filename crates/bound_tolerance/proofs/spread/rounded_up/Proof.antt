@@ -4,8 +4,8 @@ use native.Mathlib.Nat.{div-le-self}
 use native.Mathlib.Omega.{arith}
 use borrow.Author.Needs.{needs}
 use Rattle.bound_tolerance.proofs.SpreadLaws.{raised-under, whole-computed}
-use Rattle.bound_tolerance.proofs.spread.whole.Statement.{statement}
-use Rattle.bound_tolerance.proofs.spread.whole.Tie as tie
+use Rattle.bound_tolerance.proofs.spread.rounded_up.Statement.{statement}
+use Rattle.bound_tolerance.proofs.spread.rounded_up.Tie as tie
 
 add-result : tie.Need-add-result
 add-result c = rw (c .pre .1) (omega (arith, raised-under (c .args .sum) (c .args .shift) (c .pre .0) (c .pre .2)))
@@ -19,5 +19,5 @@ cast-result c =
 returns : tie.Need-returns
 returns c = rw (c .pre .1) (whole-computed (c .args .sum) (c .args .shift) (c .pre .0) (c .pre .2))
 
-pub whole-spec : {M : Type 1} → statement M
-whole-spec = tie.close (tie.spec add-result (λ c. search needs) cast-result returns)
+pub rounded-up-spec : {M : Type 1} → statement M
+rounded-up-spec = tie.close (tie.spec add-result (λ c. search needs) cast-result returns)

@@ -1,4 +1,5 @@
--- The same for degrees 4 and 5, which have three and four second differences: those of degree 4 leave the fourth out.
+-- The low and the high of a coordinate of degree 4 or 5 at a break point as the code computes them, from copied rows.
+-- Degree 4 has three second differences and leaves the fourth out; degree 5 has four.
 -- Their control values are whole, so m alone stands in the divisor.
 -- Only the contracts of functions inside cite what stands here; nothing of it is part of a public promise.
 use mathlib.Core.Path.{_≡_}
@@ -14,7 +15,7 @@ use Rattle.integers.specs.Rounding.{floor, ceiling}
 use Rattle.curve_halves.specs.Sizes.{Each}
 use Rattle.curve_nodes.specs.Differences.{difference}
 use Rattle.bound_row_table.specs.Inside.{rowPlace}
-use Rattle.bound_coordinate.specs.declared.higher.Higher.{Higher}
+use Rattle.bound_coordinate.specs.declared.higher.HigherTerms.{HigherTerms}
 use Rattle.bound_coordinate.specs.Inside.{Computed}
 use Rattle.bound_coordinate.specs.Terms.{chosen, chordAt, pairOf, denominatorOf}
 
@@ -23,7 +24,7 @@ abbrev pub raiseOf : (m s : ℕ) → ℤ
 raiseOf m s = pos (2 ^ 28) *ℤ denominatorOf m s
 
 -- the terms of a coordinate of degree d for m pieces, over 2^s
-unfoldable pub higherOf : (m d s : ℕ) → List ℤ → Higher
+unfoldable pub higherOf : (m d s : ℕ) → List ℤ → HigherTerms
 higherOf m d s cs = record {
   degree = d;
   start = pos 10000 *ℤ (pos m *ℤ entry cs 0) +ℤ raiseOf m s;
@@ -39,7 +40,7 @@ higherOf m d s cs = record {
 }
 
 -- the terms of m pieces, over 2^s, of a coordinate within 2^20
-pub record HigherWithin (m s : ℕ) (t : Higher) : Type 0 where
+pub record HigherWithin (m s : ℕ) (t : HigherTerms) : Type 0 where
   pub start : natAbs (t .start -ℤ raiseOf m s) ≤ 10000 * (m * (2 ^ 20 * 2 ^ s))
   pub step : natAbs (t .step) ≤ 20000 * (2 ^ 20 * 2 ^ s)
   pub chord : (i : ℕ) → i ≤ m → natAbs (chordAt (t .start) (t .step) i -ℤ raiseOf m s) ≤ 10000 * (m * (2 ^ 20 * 2 ^ s))
@@ -53,7 +54,7 @@ pub record HigherWithin (m s : ℕ) (t : Higher) : Type 0 where
   pub row3 : t .row3 ≤ 271
 
 -- the bounds of m pieces over 2^s can be computed from these rows and terms; c is 5040 / m
-pub record HigherComputable (m s c : ℕ) (rows : List ℤ) (t : Higher) : Type 0 where
+pub record HigherComputable (m s c : ℕ) (rows : List ℤ) (t : HigherTerms) : Type 0 where
   pub each : Each (9000 * m) rows
   pub whole : length rows ≡ 297
   pub within : HigherWithin m s t
@@ -61,8 +62,8 @@ pub record HigherComputable (m s c : ℕ) (rows : List ℤ) (t : Higher) : Type 
   pub scaled : c * m ≡ 5040
   pub most : m ≤ 8
 
--- the same at break point i, for some number of pieces
-pub record HigherComputableAt (i : ℕ) (rows : List ℤ) (t : Higher) : Type 0 where
+-- the bounds at break point i can be computed, for some number of pieces
+pub record HigherComputableAt (i : ℕ) (rows : List ℤ) (t : HigherTerms) : Type 0 where
   pub m : ℕ
   pub s : ℕ
   pub c : ℕ
@@ -71,7 +72,7 @@ pub record HigherComputableAt (i : ℕ) (rows : List ℤ) (t : Higher) : Type 0 
 
 -- the number that is divided at break point i: the raised chord and the sum of row × difference, three or four of them,
 -- for rows read `at` places on
-abbrev pub higherNumerator : List ℤ → Higher → (at i : ℕ) → ℤ
+abbrev pub higherNumerator : List ℤ → HigherTerms → (at i : ℕ) → ℤ
 higherNumerator rows t at i =
     chordAt (t .start) (t .step) i
     +ℤ (pairOf rows (t .row0 + at) (t .row1 + at) (t .difference0) (t .difference1)
@@ -89,8 +90,8 @@ pub record RoundedDown (s c : ℕ) (n r : ℤ) : Type 0 where
   pub of : (m : ℕ) → c * m ≡ 5040 → Computed (2 ^ 28) (floor n (denominatorOf m s) -ℤ pos (2 ^ 28)) r
 
 -- the low and the high at break point i, what was raised taken off again
-unfoldable pub higherLow : (m s : ℕ) → List ℤ → Higher → ℕ → ℤ
+unfoldable pub higherLow : (m s : ℕ) → List ℤ → HigherTerms → ℕ → ℤ
 higherLow m s rows t i = floor (higherNumerator rows t (3 * i + 1) i) (denominatorOf m s) -ℤ pos (2 ^ 28)
 
-unfoldable pub higherHigh : (m s : ℕ) → List ℤ → Higher → ℕ → ℤ
+unfoldable pub higherHigh : (m s : ℕ) → List ℤ → HigherTerms → ℕ → ℤ
 higherHigh m s rows t i = ceiling (higherNumerator rows t (3 * i) i) (denominatorOf m s) -ℤ pos (2 ^ 28)
