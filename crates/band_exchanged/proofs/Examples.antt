@@ -5,7 +5,7 @@ use Prim.Native.Nat.{ℕ}
 use lib.ListN.{replicate}
 use lib.IntN.{ℤ, pos}
 use Rattle.setting.specs.Setting.{lists}
-use Rattle.refusals.specs.declared.Refusal.the-variants.{NoSuchCurve, OtherRecords, Gap}
+use Rattle.refusals.specs.declared.Refusal.the-variants.{Degree, NoSuchCurve, OtherRecords, Gap}
 use Rattle.band.specs.declared.banding.Banded.{Banded}
 use Rattle.band.specs.declared.banding.Banded.the-variants.{Done, Refused}
 use Rattle.band_exchanged.specs.Exchange.{exchanged, exchangedList}
@@ -57,6 +57,11 @@ gap-after = refl
 pub gap-after-more-points : answer 0 bent 20 lent ≡ Refused (Gap 7)
 unfolding computing
 gap-after-more-points = refl
+
+-- ---- the old outline's own refusal before 22 and 23: a degree of 9
+pub old-first : exchanged (lists 1) (pos 40) (pos 9 ∷ []) 2 longer 19 lent ≡ Refused (Degree 0)
+unfolding computing
+old-first = refl
 
 -- ---- 22 before 23, and 23 before the changed outline's own
 pub no-such-curve : answer 2 longer 19 lent ≡ Refused (NoSuchCurve 2)
