@@ -4,7 +4,7 @@ ghost use Prim.Native.Nat.{_≤_};
 ghost use lib.ListN.{length};
 ghost use Rattle.text_lines.specs.Meaning.{meaning};
 ghost use Rattle.text_answers.specs.Bands.{bandOf, recordsAfter};
-use band::banding::Banded;
+use band_banded::banding::Banded;
 use text_lines::text::TextCheck;
 
 // Checks a text and bands its outline at its tolerance: the first fault of the text, or what banding answers. The

@@ -2,13 +2,12 @@
 // `point_answers` writes the lines of its points.
 ghost use mathlib.Core.Path.{_≡_};
 ghost use Prim.Native.Nat.{_≤_};
-ghost use lib.ListN.{length, replicate};
-ghost use lib.IntN.{pos};
+ghost use lib.{ListN.{length, replicate}, IntN.{pos}};
 ghost use Rattle.write_numbers.specs.Appends.{PutWithin};
 ghost use Rattle.text_answers.specs.Answers.{lent, answerOf};
 use crate::band_answers::band_text;
 use crate::point_answers::put_points;
-use band::banding::Banded;
+use band_banded::banding::Banded;
 use write_lines::band_lines::put_band;
 
 pub mod band_answers;

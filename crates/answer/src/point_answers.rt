@@ -2,11 +2,10 @@
 ghost use Prim.Native.Nat.{_+_, _*_, _≤_};
 ghost use lib.ListN.{length};
 ghost use Rattle.setting.specs.Setting.{standard};
-ghost use Rattle.write_numbers.specs.Appends.{PutWithin};
 ghost use Rattle.judge.specs.Judging.{Passed};
+ghost use Rattle.write_numbers.specs.Appends.{PutWithin};
 ghost use Rattle.text_lines.specs.Lines.{linesOf, gather};
-ghost use Rattle.text_answers.specs.Points.{pointAnswer};
-ghost use Rattle.text_answers.specs.Inside.{LeavesFine, lineAnswer};
+ghost use Rattle.text_answers.specs.{Points.{pointAnswer}, Inside.{LeavesFine, lineAnswer}};
 use judge::judging::Judgement;
 use text_forms::forms::Form;
 
@@ -35,10 +34,7 @@ pub fn put_points(text: &[u8], leaves: &[i32], out: &mut [u8], from: usize) -> u
             Form::NoForm => {
                 return at;
             }
-            Form::Tolerance(_, next) => {
-                i = next;
-            }
-            Form::Curve(_, next) => {
+            Form::Tolerance(_, next) | Form::Curve(_, next) => {
                 i = next;
             }
             Form::Point(x, y, next) => {

@@ -4,16 +4,14 @@ ghost use Prim.Native.Nat.{_≤_};
 ghost use lib.ListN.{length};
 ghost use Rattle.setting.specs.Setting.{lists, station, limited, piecesFine};
 ghost use Rattle.outline.specs.Inside.{checkedOf};
-ghost use Rattle.band.specs.Banding.{bandGiven, writtenGiven, banded, written, bandedSpline, writtenSpline};
-ghost use Rattle.band.specs.Banding.{bandedBinary64, writtenBinary64};
-ghost use Rattle.band.specs.Inside.{givenOf, settingFor};
-use crate::banding::Banded;
+ghost use Rattle.band_banded.specs.Banding.{bandGiven, writtenGiven, banded, written, bandedSpline, writtenSpline};
+ghost use Rattle.band_banded.specs.{Banding.{bandedBinary64, writtenBinary64}, Inside.{givenOf, settingFor}};
 use crate::outline_band::band_curves;
+use band_banded::banding::Banded;
 use band_passes::forms::Form;
 use outline::Checked;
 use refusals::Refusal;
 
-pub mod banding;
 pub mod outline_band;
 
 // Check 18: whether there are rows for m pieces. It takes every number.

@@ -1,13 +1,13 @@
 // The band of a list without faults: checks 7, 19 and 8, and the records.
 ghost use mathlib.Core.Path.{_≡_};
-ghost use Prim.Native.Nat.{_≤_};
+ghost use Prim.Native.Nat.{min};
 ghost use lib.ListN.{length};
 ghost use Rattle.setting.specs.Setting.{listsOf, relimited, HasRows};
 ghost use Rattle.bound_pieces.specs.Inside.{PiecesReady, settingOf};
 ghost use Rattle.band_records.specs.Records.{allRecords};
-ghost use Rattle.band.specs.Banding.{bandCurves, writtenBy};
 ghost use Rattle.band_passes.specs.Inside.{numbersOf, Readable, curvesIn, sixthsOf};
-use crate::banding::Banded;
+ghost use Rattle.band_banded.specs.Banding.{bandCurves, writtenBy};
+use band_banded::banding::Banded;
 use band_passes::forms::Form;
 use band_passes::forms::sixths_of;
 use band_passes::leaf_count::count;
@@ -18,8 +18,8 @@ use bound_pieces::Pieces;
 use refusals::Refusal;
 
 // The smaller of two numbers.
-fn smaller(a: usize, b: usize) -> usize
-    ensures { λ r. ⌜ (r ≤ a) × (r ≤ b) ⌝ }
+pub fn smaller(a: usize, b: usize) -> usize
+    ensures { λ r. ⌜ r ≡ min a b ⌝ }
 {
     if a < b { a } else { b }
 }

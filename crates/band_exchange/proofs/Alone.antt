@@ -31,10 +31,10 @@ use Rattle.band_records.proofs.Lengths.{records-length}
 use Rattle.band_passes.specs.Leaves.{firstTooWide, leavesOf, nodesOf}
 use Rattle.band_passes.proofs.Wide.{wide-later, wide-here}
 use Rattle.band_passes.proofs.Counting.{few-leaves}
-use Rattle.band.specs.declared.banding.Banded.{Banded}
-use Rattle.band.specs.declared.banding.Banded.the-variants.{Done, Refused}
-use Rattle.band.specs.Banding.{answerFor, bandCurves, writtenBy}
-use Rattle.band.proofs.ByPieces.{band-curves-same}
+use Rattle.band_banded.specs.declared.banding.Banded.{Banded}
+use Rattle.band_banded.specs.declared.banding.Banded.the-variants.{Done, Refused}
+use Rattle.band_banded.specs.Banding.{answerFor, bandCurves, writtenBy}
+use Rattle.band_banded.proofs.ByPieces.{band-curves-same}
 
 -- ---- what the walk of a curve says
 walked-leaves : (o : Option ℕ) (l m : ℕ) → Leaves m ≡ elim o [ some n ↦ WideNode n | none ↦ Leaves l ] → (o ≡ none) × (m ≡ l)

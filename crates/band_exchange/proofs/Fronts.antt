@@ -22,9 +22,9 @@ use Rattle.band_passes.specs.FirstWide.{AllMeet}
 use Rattle.band_passes.proofs.Wide.{wide-later, wide-here, none-wide, behind}
 use Rattle.band_passes.proofs.Among.{all-records-length, records-among, leaves-among}
 use Rattle.band_passes.proofs.Counting.{nodes-of-curves, few-leaves}
-use Rattle.band.specs.declared.banding.Banded.the-variants.{Done, Refused}
-use Rattle.band.specs.Banding.{bandCurves}
-use Rattle.band.proofs.Cases.{few-said, done-said}
+use Rattle.band_banded.specs.declared.banding.Banded.the-variants.{Done, Refused}
+use Rattle.band_banded.specs.Banding.{bandCurves}
+use Rattle.band_banded.proofs.Cases.{few-said, done-said}
 use Rattle.band_exchange.specs.Inside.{movedTo, Front}
 use Rattle.band_exchange.proofs.Moves.{store-before}
 use Rattle.band_exchange.proofs.Alone.{new-wide, new-leaves}

@@ -34,9 +34,9 @@ use Rattle.band_passes.specs.declared.forms.Form.the-variants.{Outline}
 use Rattle.band_passes.proofs.Among.{leaves-among}
 use Rattle.band_comparing.specs.declared.Stand.{Stand}
 use Rattle.band_comparing.proofs.CompareLaws.{take-one-more}
-use Rattle.band.specs.declared.banding.Banded.{Banded}
-use Rattle.band.specs.declared.banding.Banded.the-variants.{Refused}
-use Rattle.band.specs.Banding.{bandCurves, bandOutlined, writtenBy}
+use Rattle.band_banded.specs.declared.banding.Banded.{Banded}
+use Rattle.band_banded.specs.declared.banding.Banded.the-variants.{Refused}
+use Rattle.band_banded.specs.Banding.{bandCurves, bandOutlined, writtenBy}
 use Rattle.band_exchanged.specs.Exchange.{recordsFor}
 use Rattle.band_exchange.specs.Inside.{Front, Replaced, Exchangeable}
 

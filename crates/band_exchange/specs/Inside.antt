@@ -17,8 +17,8 @@ use Rattle.band_records.specs.Records.{allRecords}
 use Rattle.band_passes.specs.Leaves.{leavesOf}
 use Rattle.band_passes.specs.FirstWide.{AllMeet}
 use Rattle.band_comparing.specs.declared.Stand.{Stand}
-use Rattle.band.specs.declared.banding.Banded.{Banded}
-use Rattle.band.specs.Banding.{bandCurves, bandOutlined, writtenBy}
+use Rattle.band_banded.specs.declared.banding.Banded.{Banded}
+use Rattle.band_banded.specs.Banding.{bandCurves, bandOutlined, writtenBy}
 use Rattle.band_exchanged.specs.Exchange.{recordsFor, otherRecords, exchangedAfter}
 
 -- ---- the n numbers from index `from` on, stored from index `to` on

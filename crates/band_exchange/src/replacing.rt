@@ -1,20 +1,16 @@
 // The records of one curve of an outline replaced by those of another curve.
 ghost use mathlib.Core.Path.{_≡_};
 ghost use Prim.Native.Nat.{_+_, _*_, _≤_, _<_, _^_};
-ghost use lib.ListN.{length};
-ghost use lib.Seq.{sets};
+ghost use lib.{ListN.{length}, Seq.{sets}};
 ghost use Rattle.setting.specs.Setting.{lists, HasRows};
 ghost use Rattle.outline.specs.Curves.{curveAt};
-ghost use Rattle.walk_curve.specs.declared.Walked.the-variants.{Leaves};
-ghost use Rattle.walk_curve.specs.Walked.{endsOf};
-ghost use Rattle.walk_curve.specs.Inside.{walkedOf};
+ghost use Rattle.walk_curve.specs.{declared.Walked.the-variants.{Leaves}, Walked.{endsOf}, Inside.{walkedOf}};
 ghost use Rattle.band_records.specs.Records.{recordsOf};
-ghost use Rattle.band_passes.specs.declared.forms.Form.the-variants.{Outline};
-ghost use Rattle.band_passes.specs.Inside.{Readable};
+ghost use Rattle.band_passes.specs.{declared.forms.Form.the-variants.{Outline}, Inside.{Readable}};
 ghost use Rattle.band_exchange.specs.Inside.{renumbered, Front, Replaced};
 use crate::moving::move_numbers;
-use band::banding::Banded;
 use band::outline_band::band_curves;
+use band_banded::banding::Banded;
 use band_passes::forms::Form;
 use refusals::Refusal;
 use walk_curve::Walked;

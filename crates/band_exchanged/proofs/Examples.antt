@@ -6,8 +6,8 @@ use lib.ListN.{replicate}
 use lib.IntN.{ℤ, pos}
 use Rattle.setting.specs.Setting.{lists}
 use Rattle.refusals.specs.declared.Refusal.the-variants.{Degree, NoSuchCurve, OtherRecords, Gap}
-use Rattle.band.specs.declared.banding.Banded.{Banded}
-use Rattle.band.specs.declared.banding.Banded.the-variants.{Done, Refused}
+use Rattle.band_banded.specs.declared.banding.Banded.{Banded}
+use Rattle.band_banded.specs.declared.banding.Banded.the-variants.{Done, Refused}
 use Rattle.band_exchanged.specs.Exchange.{exchanged, exchangedList}
 use Rattle.band_exchanged.proofs.Computing.{computing}
 

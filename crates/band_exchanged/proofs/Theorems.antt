@@ -14,9 +14,9 @@ use Rattle.integers.proofs.Clash.{clash}
 use Rattle.refusals.specs.declared.Refusal.{Refusal}
 use Rattle.refusals.specs.declared.Refusal.the-variants.{NoSuchCurve, OtherRecords}
 use Rattle.outline_changed.specs.Changed.{changed}
-use Rattle.band.specs.declared.banding.Banded.{Banded}
-use Rattle.band.specs.declared.banding.Banded.the-variants.{Done, Refused}
-use Rattle.band.specs.Banding.{banded, written, writtenBy, writtenGiven}
+use Rattle.band_banded.specs.declared.banding.Banded.{Banded}
+use Rattle.band_banded.specs.declared.banding.Banded.the-variants.{Done, Refused}
+use Rattle.band_banded.specs.Banding.{banded, written, writtenBy, writtenGiven}
 use Rattle.judge.specs.declared.judging.Judgement.{Judgement}
 use Rattle.judge.specs.Judging.{Judged}
 use Rattle.demand_3.specs.Demand3.{OutlineDemand3}

@@ -14,9 +14,9 @@ use Rattle.outline.specs.Checks.{outlined}
 use Rattle.outline_changed.specs.Changed.{changed}
 use Rattle.band_records.specs.Records.{allRecords}
 use Rattle.band_passes.specs.Leaves.{curvesOf}
-use Rattle.band.specs.declared.banding.Banded.{Banded}
-use Rattle.band.specs.declared.banding.Banded.the-variants.{Done, Refused}
-use Rattle.band.specs.Banding.{banded, writtenBy}
+use Rattle.band_banded.specs.declared.banding.Banded.{Banded}
+use Rattle.band_banded.specs.declared.banding.Banded.the-variants.{Done, Refused}
+use Rattle.band_banded.specs.Banding.{banded, writtenBy}
 
 -- the records of an outline's leaves
 abbrev pub recordsFor : Setting → ℤ → List ℤ → List ℤ

@@ -2,13 +2,11 @@
 ghost use mathlib.Core.Path.{_≡_};
 ghost use mathlib.Core.Bool.{true};
 ghost use Prim.Native.Nat.{_≤_, _<_, _^_};
-ghost use lib.IntN.{pos};
-ghost use lib.ListN.{length, set};
+ghost use lib.{IntN.{pos}, ListN.{length, set}};
 ghost use Rattle.setting.specs.Setting.{lists, HasRows, degreePieces, deepest};
 ghost use Rattle.curve_nodes.specs.Bounds.{Sized};
 ghost use Rattle.walk_depths.specs.Depth.{depthOf};
-ghost use Rattle.band_passes.specs.declared.forms.Form.the-variants.{Outline};
-ghost use Rattle.band_passes.specs.Inside.{Readable, curvesIn};
+ghost use Rattle.band_passes.specs.{declared.forms.Form.the-variants.{Outline}, Inside.{Readable, curvesIn}};
 ghost use Rattle.band_foretold.specs.Foretelling.{foretellDepths, depthsOf, depthNumbers, numbersWritten};
 ghost use Rattle.band_foretell.specs.Inside.{depthFound, foundNumber, UpToEight, FewSums, sumsWith, sumsAnswer};
 use crate::bending::largest_of;

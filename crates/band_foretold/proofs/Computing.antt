@@ -7,7 +7,7 @@ use Rattle.curve_nodes.specs.Differences.{largestOf, bend, largest}
 use Rattle.bound_rows.specs.Table.{table, rowsOf}
 use Rattle.bound_rows.specs.Rule.{gapOf}
 use Rattle.walk_depths.specs.Depth.{depthOf}
-use Rattle.band.proofs.Computing.{reading}
+use Rattle.band_banded.proofs.Computing.{reading}
 use Rattle.band_foretold.specs.Foretelling.{depthsOf, depthNumbers, allHave, summed, foretellDepths, foretold, depthsWritten}
 
 -- the list that foretelling leaves

@@ -16,11 +16,11 @@ use Rattle.outline.specs.Checks.{curves}
 use Rattle.walk_curve.specs.Walked.{endsOf}
 use Rattle.walk_depths.specs.Premise.{Flat}
 use Rattle.walk_depths.specs.Depth.{depthOf}
-use Rattle.band.specs.declared.banding.Banded.the-variants.{Done, Refused}
-use Rattle.band.specs.Banding.{banded}
-use Rattle.band.specs.Outcomes.{Faultless}
-use Rattle.band.proofs.Theorems.{few-exactly, done-exactly, leaf-at-most}
-use Rattle.band.proofs.Computing.{reading, computing as banding}
+use Rattle.band_banded.specs.declared.banding.Banded.the-variants.{Done, Refused}
+use Rattle.band_banded.specs.Banding.{banded}
+use Rattle.band_banded.specs.Outcomes.{Faultless}
+use Rattle.band_banded.proofs.Theorems.{few-exactly, done-exactly, leaf-at-most}
+use Rattle.band_banded.proofs.Computing.{reading, computing as banding}
 use Rattle.band_foretold.specs.declared.foretelling.Foretold.the-variants as told
 use Rattle.band_foretold.specs.Foretelling.{foretold, depthsWritten}
 use Rattle.band_foretold.specs.Outcomes.{Tells, Foretells}

@@ -32,13 +32,13 @@ use Rattle.band_passes.specs.Leaves.{leavesOf, nodesOf}
 use Rattle.band_passes.specs.FirstWide.{AllMeet, FirstWide}
 use Rattle.band_passes.proofs.Counting.{few-leaves}
 use Rattle.band_passes.proofs.Wide.{none-wide, first-wide}
-use Rattle.band.specs.declared.banding.Banded.the-variants.{Done, Refused}
-use Rattle.band.specs.Banding.{bandGiven, banded}
-use Rattle.band.specs.Outcomes.{Faultless}
-use Rattle.band.proofs.Faults.{banded-curves}
-use Rattle.band.proofs.Given.{Taken, outline-given}
-use Rattle.band.proofs.Cases.{said-wide, said-few, said-done, done-said}
-use Rattle.band.proofs.Theorems.{faultless-rows, leaf-at-most, flat-meets}
+use Rattle.band_banded.specs.declared.banding.Banded.the-variants.{Done, Refused}
+use Rattle.band_banded.specs.Banding.{bandGiven, banded}
+use Rattle.band_banded.specs.Outcomes.{Faultless}
+use Rattle.band_banded.proofs.Faults.{banded-curves}
+use Rattle.band_banded.proofs.Given.{Taken, outline-given}
+use Rattle.band_banded.proofs.Cases.{said-wide, said-few, said-done, done-said}
+use Rattle.band_banded.proofs.Theorems.{faultless-rows, leaf-at-most, flat-meets}
 use Rattle.band_foretold.specs.declared.foretelling.Foretold.the-variants as told
 use Rattle.band_foretold.specs.Foretelling.{depthsOf, depthNumber, depthNumbers, allHave, summed, leavesWithin, nodesWithin}
 use Rattle.band_foretold.specs.Foretelling.{leavesForetold, nodesForetold, foretellDepths, foretold, depthsWritten}

@@ -1,14 +1,12 @@
 // The second pass over the curves of a list: it writes the records of their leaves.
 ghost use mathlib.Core.Path.{_≡_};
 ghost use Prim.Native.Nat.{_+_, _*_, _≤_, _<_, _^_};
-ghost use lib.ListN.{length};
-ghost use lib.Seq.{sets};
+ghost use lib.{ListN.{length}, Seq.{sets}};
 ghost use Rattle.setting.specs.Setting.{recordLength};
 ghost use Rattle.bound_pieces.specs.Inside.{PiecesReady, settingOf};
 ghost use Rattle.walk_curve.specs.Walked.{endsOf};
 ghost use Rattle.band_records.specs.Records.{recordsOf, allRecords};
-ghost use Rattle.band_passes.specs.Leaves.{leavesOf};
-ghost use Rattle.band_passes.specs.Inside.{numbersOf, curvesIn, EndsMeet, Fillable};
+ghost use Rattle.band_passes.specs.{Leaves.{leavesOf}, Inside.{numbersOf, curvesIn, EndsMeet, Fillable}};
 use crate::forms::Form;
 use crate::forms::next_of;
 use band_records::put_record;

@@ -1,14 +1,12 @@
 // The boxes of a curve of degree 4 or 5, written to a list.
 ghost use mathlib.Core.Path.{_≡_};
 ghost use Prim.Native.Nat.{suc, _+_, _*_, _≤_, _<_};
-ghost use lib.ListN.{length};
-ghost use lib.Seq.{sets};
+ghost use lib.{ListN.{length}, Seq.{sets}};
 ghost use Rattle.setting.specs.Setting.{HasRows, lists, breakPoints};
 ghost use Rattle.curve_nodes.specs.Bounds.{Sized};
 ghost use Rattle.bound_row_table.specs.Inside.{Copied};
 ghost use Rattle.bound_coordinate.specs.HigherTerms.{HigherComputable};
-ghost use Rattle.band_records.specs.Records.{boxesTo};
-ghost use Rattle.band_records.specs.Inside.{putPairsBy};
+ghost use Rattle.band_records.specs.{Records.{boxesTo}, Inside.{putPairsBy}};
 use bound_coordinate::higher::HigherTerms;
 use bound_coordinate_higher::high_at;
 use bound_coordinate_higher::higher_of;

@@ -1,11 +1,10 @@
 // The tightest band of an outline without faults: the span of tolerances, halved until one is left.
 ghost use mathlib.Core.Path.{_≡_};
 ghost use Rattle.setting.specs.Setting.{lists, HasRows};
-ghost use Rattle.band_passes.specs.declared.forms.Form.the-variants.{Outline};
-ghost use Rattle.band_passes.specs.Inside.{Readable, curvesIn};
+ghost use Rattle.band_passes.specs.{declared.forms.Form.the-variants.{Outline}, Inside.{Readable, curvesIn}};
 ghost use Rattle.band_tightest.specs.Tightest.{tooTight, tightestOf};
-use band::banding::Banded;
 use band::outline_band::band_curves;
+use band_banded::banding::Banded;
 use band_passes::forms::Form;
 use band_tightest::tolerances::Tightest;
 

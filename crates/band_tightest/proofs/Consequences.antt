@@ -15,8 +15,8 @@ use Rattle.curve_nodes.specs.declared.Curve.{Curve}
 use Rattle.outline.specs.Checks.{Outlined, toleranceFine, curves, outlined}
 use Rattle.walk_tree.specs.Leaves.{Leaf, Ancestor}
 use Rattle.walk_curve.specs.Walked.{nodeMeets}
-use Rattle.band.specs.declared.banding.Banded.the-variants.{Done}
-use Rattle.band.specs.Banding.{banded}
+use Rattle.band_banded.specs.declared.banding.Banded.the-variants.{Done}
+use Rattle.band_banded.specs.Banding.{banded}
 use Rattle.band_tightest.specs.declared.tolerances.Tightest.the-variants.{Least, Nothing}
 use Rattle.band_tightest.specs.Tightest.{tightest}
 use Rattle.band_tightest.specs.Looser.{Merged, StillAccepted}

@@ -7,7 +7,7 @@ use lib.IntN.{ℤ, pos}
 use Rattle.setting.specs.Setting.{lists}
 use Rattle.refusals.specs.declared.Refusal.the-variants.{Pieces, EmptyOutline, CutShort}
 use Rattle.curve_nodes.specs.declared.Curve.{Curve}
-use Rattle.band.proofs.Computing.{reading, computing}
+use Rattle.band_banded.proofs.Computing.{reading, computing}
 use Rattle.band_tightest.specs.declared.tolerances.Tightest.the-variants.{Least, Nothing, Refused}
 use Rattle.band_tightest.specs.Tightest.{tooTight, tightest}
 use Rattle.band_tightest.specs.Fitting.{Fine}

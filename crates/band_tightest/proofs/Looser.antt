@@ -24,10 +24,10 @@ use Rattle.walk_curve.specs.Walked.{nodeMeets, endsOf}
 use Rattle.walk_depths.proofs.Widest.{widest-passes}
 use Rattle.band_passes.specs.Leaves.{leavesOf, nodesOf}
 use Rattle.band_passes.specs.FirstWide.{AllMeet}
-use Rattle.band.specs.declared.banding.Banded.the-variants.{Done, Refused}
-use Rattle.band.specs.Banding.{bandGiven, banded, bandedSpline}
-use Rattle.band.proofs.Given.{Given, outline-given, spline-given}
-use Rattle.band.proofs.Theorems.{wide-given, done-given, leaves-exactly}
+use Rattle.band_banded.specs.declared.banding.Banded.the-variants.{Done, Refused}
+use Rattle.band_banded.specs.Banding.{bandGiven, banded, bandedSpline}
+use Rattle.band_banded.proofs.Given.{Given, outline-given, spline-given}
+use Rattle.band_banded.proofs.Theorems.{wide-given, done-given, leaves-exactly}
 use Rattle.outline_splines.specs.Splines.{splined}
 use Rattle.band_tightest.specs.Looser.{Merged, StillAccepted}
 

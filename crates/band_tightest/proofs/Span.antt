@@ -23,9 +23,9 @@ use Rattle.walk_tree.proofs.Tree.{either, not-both}
 use Rattle.band_passes.specs.Leaves.{firstTooWide, leavesOf, nodesOf}
 use Rattle.band_passes.specs.FirstWide.{AllMeet}
 use Rattle.band_passes.proofs.Wide.{none-wide, only-wide}
-use Rattle.band.specs.declared.banding.Banded.the-variants.{Done, Refused}
-use Rattle.band.specs.Banding.{answerFor, bandCurves}
-use Rattle.band.proofs.ByPieces.{wide-same, leaves-same, nodes-same}
+use Rattle.band_banded.specs.declared.banding.Banded.the-variants.{Done, Refused}
+use Rattle.band_banded.specs.Banding.{answerFor, bandCurves}
+use Rattle.band_banded.proofs.ByPieces.{wide-same, leaves-same, nodes-same}
 use Rattle.band_tightest.specs.declared.tolerances.Tightest.{Tightest}
 use Rattle.band_tightest.specs.declared.tolerances.Tightest.the-variants.{Least, Nothing}
 use Rattle.band_tightest.specs.Tightest.{tooTight, tightestOf}

@@ -25,10 +25,10 @@ use Rattle.outline.proofs.Accepted.{accepted-most}
 use Rattle.walk_tree.proofs.Tree.{either, not-both}
 use Rattle.band_passes.specs.Leaves.{leavesOf, nodesOf}
 use Rattle.band_passes.proofs.Counting.{few-leaves}
-use Rattle.band.specs.declared.banding.Banded.the-variants.{Done, Refused as NotBanded}
-use Rattle.band.specs.Banding.{bandGiven, banded}
-use Rattle.band.proofs.Theorems.{done-exactly}
-use Rattle.band.proofs.Given.{outline-given}
+use Rattle.band_banded.specs.declared.banding.Banded.the-variants.{Done, Refused as NotBanded}
+use Rattle.band_banded.specs.Banding.{bandGiven, banded}
+use Rattle.band_banded.proofs.Theorems.{done-exactly}
+use Rattle.band_banded.proofs.Given.{outline-given}
 use Rattle.band_tightest.specs.declared.tolerances.Tightest.{Tightest}
 use Rattle.band_tightest.specs.declared.tolerances.Tightest.the-variants.{Least, Nothing, Refused}
 use Rattle.band_tightest.specs.Tightest.{tooTight, tightestOf, tightest}

@@ -10,8 +10,8 @@ use Rattle.curve_nodes.specs.declared.Curve.{Curve}
 use Rattle.outline.specs.Checks.{Outlined, curves}
 use Rattle.walk_tree.specs.Leaves.{Ancestor, Leaf}
 use Rattle.walk_curve.specs.Walked.{nodeMeets}
-use Rattle.band.specs.declared.banding.Banded.the-variants.{Done}
-use Rattle.band.specs.Banding.{bandGiven}
+use Rattle.band_banded.specs.declared.banding.Banded.the-variants.{Done}
+use Rattle.band_banded.specs.Banding.{bandGiven}
 
 -- the leaves of curve c at T and at a larger U
 pub record Merged (σ : Setting) (T U : ℤ) (c : Curve) : Type 0 where

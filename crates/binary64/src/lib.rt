@@ -2,9 +2,7 @@
 // by a power of two, which are exact.
 ghost use mathlib.Core.Path.{_≡_};
 ghost use mathlib.Core.Bool.{true};
-ghost use Rattle.binary64.specs.Exact.{Exactly};
-ghost use Rattle.binary64.specs.Read.{wholeOf};
-ghost use Rattle.binary64.specs.Inside.{nearOf, nearNumber};
+ghost use Rattle.binary64.specs.{Exact.{Exactly}, Read.{wholeOf}, Inside.{nearOf, nearNumber}};
 
 // Whether x is a whole number, of any size: cut to an i64 and made an f64 again, it is as it was.
 pub fn is_whole(x: f64) -> bool

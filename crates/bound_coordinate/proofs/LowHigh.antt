@@ -21,7 +21,7 @@ use Rattle.bound_rows.specs.Rows.{Row, rowAt}
 use Rattle.bound_rows.specs.Table.{rowsOf}
 use Rattle.bound_row_table.specs.Inside.{blocksOf, rowPlace, tripleAt, Copied}
 use Rattle.bound_rows.proofs.Rule.{rows-count}
-use Rattle.bound_enclosure.specs.Bounds.{exchanged, chord, rowSum}
+use Rattle.bound_enclosure.specs.Bounds.{swapped, chord, rowSum}
 use Rattle.bound_enclosure.specs.AtDepth.{lowOf, highOf}
 use Rattle.bound_enclosure.proofs.Reduced.{low-reduced, high-reduced}
 use Rattle.bound_coordinate.specs.Terms.{chosen, termsOf, chordAt, denominatorOf, lowBy, highBy}
@@ -76,15 +76,15 @@ module _ (cs : List ℤ) (i : ℕ) where
       ∙ ap (λ (b : Bool). term ρs 0 +ℤ term ρs 1 +ℤ term ρs 2 +ℤ cond b (pos 0) (term ρs 3)) (sym (le-ltb d 5 (omega arith)))
   sum-higher (ρ ∷ σ ∷ τ ∷ υ ∷ φ ∷ ρs) h l e = absurd (omega arith)
 
--- rows exchanged
-exchanged-length : (ρs : List Row) → length (exchanged ρs) ≡ length ρs
-exchanged-length [] = refl
-exchanged-length (ρ ∷ ρs) = ap suc (exchanged-length ρs)
+-- rows swapped
+swapped-length : (ρs : List Row) → length (swapped ρs) ≡ length ρs
+swapped-length [] = refl
+swapped-length (ρ ∷ ρs) = ap suc (swapped-length ρs)
 
-exchanged-at : (ρs : List Row) (k : ℕ) → rowAt (exchanged ρs) k ≡ record { high = rowAt ρs k .low; low = rowAt ρs k .high }
-exchanged-at [] k = refl
-exchanged-at (ρ ∷ ρs) zero = refl
-exchanged-at (ρ ∷ ρs) (suc k) = exchanged-at ρs k
+swapped-at : (ρs : List Row) (k : ℕ) → rowAt (swapped ρs) k ≡ record { high = rowAt ρs k .low; low = rowAt ρs k .high }
+swapped-at [] k = refl
+swapped-at (ρ ∷ ρs) zero = refl
+swapped-at (ρ ∷ ρs) (suc k) = swapped-at ρs k
 
 module _ (σ : Setting) (has : HasRows (σ .pieces)) {d : ℕ} (most : d ≤ mostDegree) (takes : degreePieces d (σ .pieces) ≡ true)
     (cs : List ℤ) {i : ℕ} (hi : i ≤ σ .pieces) where
@@ -134,7 +134,7 @@ module _ (σ : Setting) (has : HasRows (σ .pieces)) {d : ℕ} (most : d ≤ mos
 
   module _ (k : ℕ) where
     abbrev lowFactor : ℕ → ℤ
-    lowFactor j = factor (exchanged ρs) i j (δ j)
+    lowFactor j = factor (swapped ρs) i j (δ j)
 
     abbrev highFactor : ℕ → ℤ
     highFactor j = factor ρs i j (δ j)
@@ -143,7 +143,7 @@ module _ (σ : Setting) (has : HasRows (σ .pieces)) {d : ℕ} (most : d ≤ mos
     divisor-is : pos 625 *ℤ pos m *ℤ pos (scale σ * 2 ^ (d * k)) ≡ denominatorOf (m * scale σ) (d * k)
     divisor-is = ring (pos m ∷ pos (scale σ) ∷ pos (2 ^ (d * k)) ∷ []) (search sides depth 20) refl
 
-    low-divided : {sum : ℤ} → pos m *ℤ rowSum (exchanged ρs) i 0 cs ≡ sum
+    low-divided : {sum : ℤ} → pos m *ℤ rowSum (swapped ρs) i 0 cs ≡ sum
         → lowOf σ d k cs i ≡ floor (dividend sum) (denominatorOf (m * scale σ) (d * k))
     low-divided e = low-reduced (has .least) (over-positive σ d k) ρs d cs i ∙ ap₂ floor (ap₂ _+ℤ_ chord-is e) divisor-is
 
@@ -177,7 +177,7 @@ module _ (σ : Setting) (has : HasRows (σ .pieces)) {d : ℕ} (most : d ≤ mos
 
       low-read : (j : ℕ) → pos m *ℤ lowFactor j ≡ entry rows (chosen (δ j) (rowPlace d j) + (3 * i + 1))
       low-read j = sym (cases (ltZ (δ j) (pos 0))
-          ∙ ap (λ (ρ : Row). pos m *ℤ cond (ltZ (δ j) (pos 0)) (entry (ρ .low) i) (entry (ρ .high) i)) (sym (exchanged-at ρs j)))
+          ∙ ap (λ (ρ : Row). pos m *ℤ cond (ltZ (δ j) (pos 0)) (entry (ρ .low) i) (entry (ρ .high) i)) (sym (swapped-at ρs j)))
         where
           cases : (b : Bool) → entry rows (cond b (rowPlace d j + 1) (rowPlace d j) + (3 * i + 1))
               ≡ pos m *ℤ cond b (entry (rowAt ρs j .high) i) (entry (rowAt ρs j .low) i)
@@ -188,7 +188,7 @@ module _ (σ : Setting) (has : HasRows (σ .pieces)) {d : ℕ} (most : d ≤ mos
       module _ (few : d ≤ 3) where
         pub low-is : lowBy (σ .pieces * scale σ) (d * k) rows (termsOf m d cs) i ≡ lowOf σ d k cs i
         unfolding lowBy termsOf
-        low-is = sym (low-divided (ap (λ z. pos m *ℤ z) (sum-two cs i (exchanged ρs) (omega (arith, exchanged-length ρs, rows-count m d)))
+        low-is = sym (low-divided (ap (λ z. pos m *ℤ z) (sum-two cs i (swapped ρs) (omega (arith, swapped-length ρs, rows-count m d)))
             ∙ two-fold (lowFactor 0) (lowFactor 1) ∙ ap₂ (λ a b. a *ℤ δ 0 +ℤ b *ℤ δ 1) (low-read 0) (low-read 1)))
 
         pub high-is : highBy (σ .pieces * scale σ) (d * k) rows (termsOf m d cs) i ≡ highOf σ d k cs i
@@ -201,7 +201,7 @@ module _ (σ : Setting) (has : HasRows (σ .pieces)) {d : ℕ} (most : d ≤ mos
         alone : m * scale σ ≡ m
         alone = ap (λ (b : Bool). m * cond b 6 1) units ∙ omega arith
 
-        low-alone : {sum : ℤ} → pos m *ℤ rowSum (exchanged ρs) i 0 cs ≡ sum → lowOf σ d k cs i ≡ floor (dividend sum) (denominatorOf m (d * k))
+        low-alone : {sum : ℤ} → pos m *ℤ rowSum (swapped ρs) i 0 cs ≡ sum → lowOf σ d k cs i ≡ floor (dividend sum) (denominatorOf m (d * k))
         low-alone {sum} e = low-divided e ∙ ap (λ (q : ℕ). floor (dividend sum) (denominatorOf q (d * k))) alone
 
         high-alone : {sum : ℤ} → pos m *ℤ rowSum ρs i 0 cs ≡ sum → highOf σ d k cs i ≡ ceiling (dividend sum) (denominatorOf m (d * k))
@@ -224,7 +224,7 @@ module _ (σ : Setting) (has : HasRows (σ .pieces)) {d : ℕ} (most : d ≤ mos
         pub higher-low-is : higherLow m (d * k) rows (higherOf m d (d * k) cs) i ≡ lowOf σ d k cs i
         unfolding higherLow higherOf
         higher-low-is = low-lifted (d * k) _ ∙ sym (low-alone (ap (λ z. pos m *ℤ z)
-            (sum-higher cs i (exchanged ρs) many most (omega (arith, exchanged-length ρs, rows-count m d)))
+            (sum-higher cs i (swapped ρs) many most (omega (arith, swapped-length ρs, rows-count m d)))
             ∙ higher-fold (ltb d 5) (lowFactor 0) (lowFactor 1) (lowFactor 2) (lowFactor 3)
             ∙ (λ j. low-read 0 j *ℤ δ 0 +ℤ at-place 1 (3 * i + 1) (omega arith) (low-read 1) j *ℤ δ 1
             +ℤ at-place 2 (3 * i + 1) (omega arith) (low-read 2) j *ℤ δ 2 +ℤ fourth (λ l. at-place 3 (3 * i + 1) l (low-read 3)) j)))

@@ -5,8 +5,8 @@ ghost use Prim.Native.Nat.{_<_, _≤_, _*_, _^_};
 ghost use lib.IntN.{natAbs};
 ghost use Rattle.integers.specs.Rounding.{floor};
 ghost use Rattle.bound_coordinate.specs.Inside.{Computed};
-ghost use Rattle.bound_coordinate.specs.Terms.{ComputableAt, NumeratorAt, numeratorOf, denominatorOf};
-ghost use Rattle.bound_coordinate.specs.Terms.{lowBy, highBy};
+ghost use Rattle.bound_coordinate.specs.Terms.{ComputableAt, NumeratorAt, numeratorOf, denominatorOf, lowBy};
+ghost use Rattle.bound_coordinate.specs.Terms.{highBy};
 use crate::terms::Terms;
 
 // A multiple of 3150000 that no dividend passes in size, and 2^28, which no bound passes in size.

@@ -5,8 +5,7 @@ ghost use Rattle.integers.specs.Entry.{entry};
 ghost use Rattle.curve_halves.specs.Sizes.{Each};
 ghost use Rattle.curve_nodes.specs.Differences.{difference};
 ghost use Rattle.bound_row_table.specs.Inside.{rowPlace};
-ghost use Rattle.bound_coordinate.specs.Inside.{Boundable, Computed};
-ghost use Rattle.bound_coordinate.specs.Terms.{chosen, termsOf};
+ghost use Rattle.bound_coordinate.specs.{Inside.{Boundable, Computed}, Terms.{chosen, termsOf}};
 
 // 10000 times the chord's start times m and its rise, the second differences, and where each begins to read its rows.
 pub struct Terms {

@@ -13,7 +13,7 @@ use Rattle.integers.proofs.Ranges.{no-lt}
 use Rattle.integers.proofs.Rounding.{floor-neg}
 use Rattle.curve_nodes.specs.Differences.{difference}
 use Rattle.bound_rows.specs.Rows.{Row}
-use Rattle.bound_enclosure.specs.Bounds.{exchanged, rowSum, chord, high, low}
+use Rattle.bound_enclosure.specs.Bounds.{swapped, rowSum, chord, high, low}
 use Rattle.bound_rows.proofs.Negated.{negated, entry-negated}
 
 difference-negated : (cs : List ℤ) (k : ℕ) → difference (negated cs) k ≡ negℤ (difference cs k)
@@ -32,7 +32,7 @@ turned h l (negsuc n) =
     ring (h ∷ pos n ∷ []) {a = h *ℤ negℤ (pos (suc n))} {b = negℤ (h *ℤ pos (suc n))} (search sides depth 20) refl
     ∙ ap (λ (c : Bool). negℤ (cond c l h *ℤ pos (suc n))) (sym (no-lt {a = pos (suc n)} (pos-le zero-le)))
 
-pub rowSum-negated : (ρs : List Row) (i k : ℕ) (cs : List ℤ) → rowSum (exchanged ρs) i k cs ≡ negℤ (rowSum ρs i k (negated cs))
+pub rowSum-negated : (ρs : List Row) (i k : ℕ) (cs : List ℤ) → rowSum (swapped ρs) i k cs ≡ negℤ (rowSum ρs i k (negated cs))
 unfolding rowSum
 rowSum-negated [] i k cs = refl
 rowSum-negated (ρ ∷ ρs) i k cs =

@@ -9,7 +9,7 @@ use Rattle.integers.proofs.Ring.{ring, sides}
 use Rattle.integers.proofs.Order.{times-positive, pos-lt}
 use Rattle.integers.proofs.Rounding.{floor-scale, ceiling-scale}
 use Rattle.bound_rows.specs.Rows.{Row}
-use Rattle.bound_enclosure.specs.Bounds.{exchanged, chord, rowSum, high, low}
+use Rattle.bound_enclosure.specs.Bounds.{swapped, chord, rowSum, high, low}
 
 module _ {m : ℕ} (some : 0 < m) {D : ℤ} (hD : pos 0 <ℤ D) where
   divisor : pos 0 <ℤ (pos 625 *ℤ pos m *ℤ D)
@@ -19,9 +19,9 @@ module _ {m : ℕ} (some : 0 < m) {D : ℤ} (hD : pos 0 <ℤ D) where
   sixteenfold = ring (pos m ∷ D ∷ []) (search sides depth 20) refl
 
   module _ (ρs : List Row) (d : ℕ) (cs : List ℤ) (i : ℕ) where
-    pub low-reduced : low m ρs D d cs i ≡ floor (chord m d i cs +ℤ pos m *ℤ rowSum (exchanged ρs) i 0 cs) (pos 625 *ℤ pos m *ℤ D)
+    pub low-reduced : low m ρs D d cs i ≡ floor (chord m d i cs +ℤ pos m *ℤ rowSum (swapped ρs) i 0 cs) (pos 625 *ℤ pos m *ℤ D)
     unfolding low
-    low-reduced = let n = chord m d i cs +ℤ pos m *ℤ rowSum (exchanged ρs) i 0 cs in
+    low-reduced = let n = chord m d i cs +ℤ pos m *ℤ rowSum (swapped ρs) i 0 cs in
         ap (floor (pos 16 *ℤ n)) sixteenfold ∙ floor-scale divisor {k = pos 16} (ltZ-yes tt) n
 
     pub high-reduced : high m ρs D d cs i ≡ ceiling (chord m d i cs +ℤ pos m *ℤ rowSum ρs i 0 cs) (pos 625 *ℤ pos m *ℤ D)

@@ -24,7 +24,7 @@ use Rattle.curve_nodes.specs.Differences.{difference}
 use Rattle.bound_rows.specs.Rows.{Row, pieces}
 use Rattle.bound_rows.specs.Table.{rowsOf}
 use Rattle.bound_rows.specs.Rule.{gapSum, gapOf}
-use Rattle.bound_enclosure.specs.Bounds.{exchanged, chord, rowSum, high, low}
+use Rattle.bound_enclosure.specs.Bounds.{swapped, chord, rowSum, high, low}
 use Rattle.bound_enclosure.specs.AtDepth.{highOf, lowOf}
 use Rattle.bound_rows.proofs.Gaps.{ordered, gapsWithin}
 use Rattle.bound_rows.proofs.Rule.{rows-count, rows-apart, pieces-have-rows, gap-thirds}
@@ -41,7 +41,7 @@ term-gap h l (negsuc n) =
 -- z times each difference is at most W in size
 sums-apart : (z W i : ℕ) (cs : List ℤ) (ρs : List Row) (k : ℕ) → T (ordered ρs i)
     → ((j : ℕ) → k ≤ j → j < k + length ρs → z * natAbs (difference cs j) ≤ W)
-    → NonNeg (pos W *ℤ gapSum ρs i -ℤ pos z *ℤ (rowSum ρs i k cs -ℤ rowSum (exchanged ρs) i k cs))
+    → NonNeg (pos W *ℤ gapSum ρs i -ℤ pos z *ℤ (rowSum ρs i k cs -ℤ rowSum (swapped ρs) i k cs))
 unfolding rowSum
 sums-apart z W i cs [] k t small = nonneg-by (pos z ∷ pos W ∷ []) (natural 0) (search sides depth 20) refl
 sums-apart z W i cs (ρ ∷ ρs) k t small =
@@ -50,7 +50,7 @@ sums-apart z W i cs (ρ ∷ ρs) k t small =
     let δ = difference cs k in
     let c = ltZ δ (pos 0) in
     let s = rowSum ρs i (suc k) cs in
-    let t′ = rowSum (exchanged ρs) i (suc k) cs in
+    let t′ = rowSum (swapped ρs) i (suc k) cs in
     nonneg-by (pos z ∷ pos W ∷ h ∷ l ∷ δ ∷ pos (natAbs δ) ∷ cond c l h ∷ cond c h l ∷ gapSum ρs i ∷ s ∷ t′ ∷ [])
     (gap (pos-le (small k (omega arith) (omega arith))) ×₀ first +₀ balance (negℤ (pos z)) (term-gap h l δ)
     +₀ sums-apart z W i cs ρs (suc k) (and-right (nonNeg (h -ℤ l)) (ordered ρs i) t) (λ j m n. small j (omega arith) (omega arith)))
@@ -70,7 +70,7 @@ module _ (m G d : ℕ) (ρs : List Row) (some : 0 < m) (t : T (gapsWithin m G ρ
       let hQ : pos 0 <ℤ Q = times-positive (times-positive {x = pos 10000} (ltZ-yes tt) (pos-lt some)) (pos-lt hD) in
       let x = chord m d i cs in
       let S = rowSum ρs i 0 cs in
-      let S′ = rowSum (exchanged ρs) i 0 cs in
+      let S′ = rowSum (swapped ρs) i 0 cs in
       let N = pos 16 *ℤ (x +ℤ pos m *ℤ S) in
       let N′ = pos 16 *ℤ (x +ℤ pos m *ℤ S′) in
       let g = gapSum ρs i in

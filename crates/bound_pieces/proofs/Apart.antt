@@ -31,7 +31,7 @@ use Rattle.bound_rows.specs.Rows.{Row, pieces}
 use Rattle.bound_rows.specs.Table.{rowsOf}
 use Rattle.bound_rows.proofs.Gaps.{ordered}
 use Rattle.bound_rows.proofs.Rule.{rows-ordered}
-use Rattle.bound_enclosure.specs.Bounds.{exchanged, chord, rowSum, high, low}
+use Rattle.bound_enclosure.specs.Bounds.{swapped, chord, rowSum, high, low}
 use Rattle.bound_enclosure.specs.AtDepth.{highOf, lowOf}
 use Rattle.bound_enclosure.proofs.Width.{term-gap}
 use Rattle.bound_enclosure.proofs.Reduced.{low-reduced, high-reduced}
@@ -50,14 +50,14 @@ size-of (pos n) t = refl
 size-of (negsuc n) t = absurd t
 
 sums-differ : (i : ℕ) (cs : List ℤ) (ρs : List Row) (k : ℕ) → T (ordered ρs i)
-    → rowSum ρs i k cs -ℤ rowSum (exchanged ρs) i k cs ≡ pos (gapsSum (gapsAt ρs i) k cs)
+    → rowSum ρs i k cs -ℤ rowSum (swapped ρs) i k cs ≡ pos (gapsSum (gapsAt ρs i) k cs)
 unfolding rowSum gapsSum
 sums-differ i cs [] k t = refl
 sums-differ i cs (ρ ∷ ρs) k t =
     let h = entry (ρ .high) i in
     let l = entry (ρ .low) i in
     let δ = difference cs k in
-    regroup (cond (ltZ δ (pos 0)) l h *ℤ δ) (rowSum ρs i (suc k) cs) (cond (ltZ δ (pos 0)) h l *ℤ δ) (rowSum (exchanged ρs) i (suc k) cs)
+    regroup (cond (ltZ δ (pos 0)) l h *ℤ δ) (rowSum ρs i (suc k) cs) (cond (ltZ δ (pos 0)) h l *ℤ δ) (rowSum (swapped ρs) i (suc k) cs)
     ∙ ap₂ _+ℤ_ (term-gap h l δ ∙ ap (λ g. g *ℤ pos (natAbs δ)) (size-of (h -ℤ l) (and-left (nonNeg (h -ℤ l)) (ordered ρs i) t)))
     (sums-differ i cs ρs (suc k) (and-right (nonNeg (h -ℤ l)) (ordered ρs i) t))
 
@@ -84,7 +84,7 @@ module _ {m : ℕ} (some : 0 < m) {D : ℕ} (hD : 0 < D) {f : ℕ} (hf : 0 < f) 
   above = chord m d i cs +ℤ pos m *ℤ rowSum ρs i 0 cs
 
   abbrev beneath : ℤ
-  beneath = chord m d i cs +ℤ pos m *ℤ rowSum (exchanged ρs) i 0 cs
+  beneath = chord m d i cs +ℤ pos m *ℤ rowSum (swapped ρs) i 0 cs
 
   hQ : pos 0 <ℤ Q
   hQ = times-positive (times-positive {x = pos 625} (ltZ-yes tt) (pos-lt some)) (pos-lt hD)
@@ -97,7 +97,7 @@ module _ {m : ℕ} (some : 0 < m) {D : ℕ} (hD : 0 < D) {f : ℕ} (hf : 0 < f) 
 
   abbrev atoms : List ℤ
   atoms =
-      pos m ∷ pos D ∷ pos f ∷ chord m d i cs ∷ rowSum ρs i 0 cs ∷ rowSum (exchanged ρs) i 0 cs ∷ pos (gapsSum (gapsAt ρs i) 0 cs)
+      pos m ∷ pos D ∷ pos f ∷ chord m d i cs ∷ rowSum ρs i 0 cs ∷ rowSum (swapped ρs) i 0 cs ∷ pos (gapsSum (gapsAt ρs i) 0 cs)
       ∷ ceiling above Q ∷ floor beneath Q ∷ []
 
   sum-least : (B : ℕ) → B ≤ f * gapsSum (gapsAt ρs i) 0 cs → pos (up B unit) ≤ℤ (high m ρs (pos D) d cs i -ℤ low m ρs (pos D) d cs i)

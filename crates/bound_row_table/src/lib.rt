@@ -3,8 +3,7 @@
 // stand in `bound_rows`.
 ghost use mathlib.Core.Path.{_≡_};
 ghost use Prim.Native.Nat.{_+_, _*_, _≤_};
-ghost use lib.ListN.{length};
-ghost use lib.IntN.{pos};
+ghost use lib.{ListN.{length}, IntN.{pos}};
 ghost use Rattle.setting.specs.Setting.{HasRows};
 ghost use Rattle.curve_halves.specs.Sizes.{Each};
 ghost use Rattle.bound_rows.specs.Table.{table, rowFrom};

@@ -1,16 +1,14 @@
 // The test that a node of degree 1 to 3 meets the tolerance.
 ghost use mathlib.Core.Path.{_≡_};
 ghost use Prim.Native.Nat.{_≤_, _^_};
-ghost use lib.IntN.{_+ℤ_};
-ghost use lib.Signed.{ltZ};
-ghost use Rattle.setting.specs.Setting.{HasRows};
+ghost use lib.{IntN.{_+ℤ_}, Signed.{ltZ}};
 ghost use Rattle.integers.specs.Squares.{squared};
+ghost use Rattle.setting.specs.Setting.{HasRows};
 ghost use Rattle.curve_nodes.specs.Bounds.{Sized};
-ghost use Rattle.bound_coordinate.specs.Inside.{Small, Boundable};
-ghost use Rattle.bound_coordinate.specs.Terms.{ComputableAt};
+ghost use Rattle.bound_coordinate.specs.{Inside.{Small, Boundable}, Terms.{ComputableAt}};
+ghost use Rattle.bound_node.specs.Boxes.{meets};
 ghost use Rattle.bound_pieces.specs.Inside.{piecesOf, settingOf, exactOf, sumsOf, pointSum, PiecesReady, acrossBy};
 ghost use Rattle.bound_tolerance.specs.Verdicts.{VerdictRight};
-ghost use Rattle.bound_node.specs.Boxes.{meets};
 use crate::spread::size;
 use bound_coordinate::break_points::high_at;
 use bound_coordinate::break_points::low_at;

@@ -1,7 +1,6 @@
 // Boxes in whole sixteenths, as callers hand them over, and the range of their numbers and of a point's.
 ghost use mathlib.Core.Path.{_≡_};
-ghost use Rattle.boxes.specs.Ranges.{inRange, lowFine, boxFault, placeOr};
-ghost use Rattle.boxes.specs.Inside.{sideFine, boxOf};
+ghost use Rattle.boxes.specs.{Ranges.{inRange, lowFine, boxFault, placeOr}, Inside.{sideFine, boxOf}};
 
 // A box: what lies from the lows to the highs, edges included.
 #[repr(C)]

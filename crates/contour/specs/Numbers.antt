@@ -1,7 +1,7 @@
 -- Answers in numbers, for the C interface: 0 and 0 and what was found, or a refusal's number and spot and nothing else.
 use Rattle.refusals.specs.Refusals.{numberOf, spotOf}
-use Rattle.band.specs.declared.banding.Banded.{Banded}
-use Rattle.band.specs.declared.banding.Banded.the-variants.{Done, Refused}
+use Rattle.band_banded.specs.declared.banding.Banded.{Banded}
+use Rattle.band_banded.specs.declared.banding.Banded.the-variants.{Done, Refused}
 use Rattle.judge.specs.declared.judging.Judgement.{Judgement}
 use Rattle.judge.specs.declared.judging.Judgement.the-variants.{On, Off, Refused as PointRefused}
 use Rattle.contour.specs.declared.c_answers.Answer.{Answer}

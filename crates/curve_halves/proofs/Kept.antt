@@ -2,19 +2,22 @@
 -- for every row and place, by induction, so that a sum of row 5 costs what one of row 1 does; a search would go through its 32 control values.
 use mathlib.Core.Path.{_≡_, sym, _∙_, ap, ap₂, subst}
 use mathlib.Core.List.{List}
-use Prim.Native.Nat.{ℕ, zero, suc, _+_, _*_, _^_, _≤_, _<_}
-use native.Mathlib.Nat.{le-trans, le-of-eq, lt-of-le-of-lt, mul-le-mul, two-pow-succ, add-mul, le-refl}
+use Prim.Native.Nat.{ℕ, zero, suc, _+_, _-_, _*_, _^_, _≤_, _<_}
+use native.Mathlib.Nat.{le-trans, le-of-eq, lt-of-le-of-lt, mul-le-mul, mul-le-mul-right, one-le-pow, two-pow-succ, add-mul, mul-assoc, one-mul, le-refl}
 use native.Mathlib.Omega.{arith}
 use lib.Dec.{T, ltb, ltb→lt, lt→ltb}
-use lib.IntN.{ℤ, pos, _+ℤ_, _*ℤ_}
+use lib.Pow.{pow-add}
+use lib.IntN.{ℤ, pos, _+ℤ_, _*ℤ_, pow, one}
 use mir.Syntax.{w64}
 use mir.Val.{SFits}
 use mir.Facts.{toZ-ofZ}
 use Rattle.integers.specs.Entry.{entry}
+use Rattle.integers.proofs.RingLaws.{pow-natural, one-*ℤ}
 use Rattle.integers.proofs.Ranges.{stored}
 use Rattle.integers.proofs.Size.{fits-size, abs-mul}
-use Rattle.curve_halves.specs.Halves.{triangle}
+use Rattle.curve_halves.specs.Halves.{listed, triangle, left, padded}
 use Rattle.curve_halves.specs.Sizes.{Each}
+use Rattle.curve_halves.proofs.Values.{listed-ext}
 use Rattle.curve_halves.proofs.Sizes.{triangle-under}
 
 -- row j at place i
@@ -60,5 +63,28 @@ module _ {B : ℕ} {cs : List ℤ} (h : Each B cs) where
   pub times-fits : (n j : ℕ) → T (ltb (2 ^ j * B) (2 ^ 63)) → T (ltb (n * (2 ^ j * B)) (2 ^ 63)) → SFits w64 (pos n *ℤ kept cs j 0)
   times-fits n j t u = subst (λ z. SFits w64 (pos n *ℤ z)) (sym (kept-is j 0 t)) (product-fits n j u)
 
-  pub times-is : (n j : ℕ) → T (ltb (2 ^ j * B) (2 ^ 63)) → T (ltb (n * (2 ^ j * B)) (2 ^ 63)) → stored w64 (pos n *ℤ kept cs j 0) ≡ pos n *ℤ triangle cs j 0
-  times-is n j t u = ap (λ z. stored w64 (pos n *ℤ z)) (kept-is j 0 t) ∙ toZ-ofZ (product-fits n j u)
+-- ---- the left half of degree d as code returns it: 2^m times a number, which is no product where it is once
+abbrev pub keptTimes : ℕ → ℤ → ℤ
+keptTimes zero z = z
+keptTimes (suc m) z = stored w64 (pos (2 ^ suc m) *ℤ z)
+
+module _ {B : ℕ} {cs : List ℤ} (h : Each B cs) (d : ℕ) (t : T (ltb (2 ^ d * B) (2 ^ 63))) where
+  parted : (m k : ℕ) → m + k ≡ d → 2 ^ m * (2 ^ k * B) < 2 ^ 63
+  parted m k e = subst (λ n. n < 2 ^ 63) (ap (λ n. 2 ^ n * B) (sym e) ∙ ap (λ n. n * B) (pow-add 2 m k) ∙ mul-assoc (2 ^ m) (2 ^ k) B)
+      (ltb→lt (2 ^ d * B) (2 ^ 63) t)
+
+  times-is : (m k : ℕ) → m + k ≡ d → keptTimes m (kept cs k 0) ≡ pow (pos 2) m *ℤ triangle cs k 0
+  unfolding pow one
+  times-is zero k e = row-is h k 0 (rw one-mul at (parted 0 k e)) ∙ sym (one-*ℤ (triangle cs k 0))
+  times-is (suc m) k e =
+      let n = 2 ^ suc m in
+      let l = parted (suc m) k e in
+      let one-of = lt-of-le-of-lt (rw one-mul at (mul-le-mul-right (2 ^ k * B) (one-le-pow (suc m) 2 (omega arith)))) l in
+      ap (λ z. stored w64 (pos n *ℤ z)) (row-is h k 0 one-of)
+      ∙ toZ-ofZ (product-fits h n k (lt→ltb (n * (2 ^ k * B)) (2 ^ 63) l))
+      ∙ ap (λ z. z *ℤ triangle cs k 0) (sym (pow-natural 2 (suc m)))
+
+  pub left-are : padded (listed (suc d) (λ k. keptTimes (d - k) (kept cs k 0))) ≡ padded (left d cs)
+  unfolding left
+  left-are = ap padded (listed-ext (suc d) (λ k. keptTimes (d - k) (kept cs k 0)) (λ k. pow (pos 2) (d - k) *ℤ triangle cs k 0)
+      (λ k l. times-is (d - k) k (omega arith)))

@@ -2,8 +2,7 @@
 ghost use mathlib.Core.Path.{_≡_};
 ghost use Prim.Native.Nat.{_^_, _≤_};
 ghost use Rattle.setting.specs.Setting.{mostDegree};
-ghost use Rattle.curve_halves.specs.Halves.{left, right, reversed, padded};
-ghost use Rattle.curve_halves.specs.Sizes.{Each};
+ghost use Rattle.curve_halves.specs.{Halves.{left, right, reversed, padded}, Sizes.{Each}};
 
 // One coordinate of the left half.
 pub fn left_values(degree: u32, c: [i64; 6]) -> [i64; 6]

@@ -3,10 +3,8 @@
 ghost use mathlib.Core.Path.{_≡_};
 ghost use Prim.Native.Nat.{suc, _^_, _≤_, _<_};
 ghost use Rattle.setting.specs.Setting.{deepest};
-ghost use Rattle.curve_nodes.specs.Nodes.{depth, after, nodeCurve};
-ghost use Rattle.curve_nodes.specs.Inside.{onwardOf, Halvable};
-ghost use Rattle.curve_nodes.specs.Halves.{leftHalf, rightHalf};
-ghost use Rattle.curve_nodes.specs.Bounds.{Sized};
+ghost use Rattle.curve_nodes.specs.{Nodes.{depth, after, nodeCurve}, Inside.{onwardOf, Halvable}};
+ghost use Rattle.curve_nodes.specs.{Halves.{leftHalf, rightHalf}, Bounds.{Sized}};
 use curve_halves::left_values;
 use curve_halves::right_values;
 use curve_halves::same_values;

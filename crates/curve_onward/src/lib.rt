@@ -2,8 +2,7 @@
 ghost use mathlib.Core.Path.{_≡_};
 ghost use Prim.Native.Nat.{_^_, _≤_};
 ghost use Rattle.setting.specs.Setting.{mostDegree};
-ghost use Rattle.curve_halves.specs.Halves.{padded};
-ghost use Rattle.curve_halves.specs.Sizes.{Each};
+ghost use Rattle.curve_halves.specs.{Halves.{padded}, Sizes.{Each}};
 ghost use Rattle.curve_onward.specs.Onward.{forwardDifferences, onward};
 
 // One coordinate of the curve carried on.

@@ -23,21 +23,21 @@ use Rattle.refusals.specs.declared.Refusal.{Refusal}
 use Rattle.outline.specs.Checks.{Outlined}
 use Rattle.walk_curve.specs.Walked.{nodeMeets}
 use Rattle.walk_tree.proofs.Leaves.{end-facts}
-use Rattle.band.specs.declared.banding.Banded.the-variants.{Done}
+use Rattle.band_banded.specs.declared.banding.Banded.the-variants.{Done}
 use Rattle.band_records.specs.Records.{recordOf, allRecords}
-use Rattle.band.specs.Banding.{bandGiven, writtenGiven, banded, written, bandedSpline, writtenSpline}
-use Rattle.band.specs.Banding.{bandedBinary64, writtenBinary64}
+use Rattle.band_banded.specs.Banding.{bandGiven, writtenGiven, banded, written, bandedSpline, writtenSpline}
+use Rattle.band_banded.specs.Banding.{bandedBinary64, writtenBinary64}
 use Rattle.band_records.specs.Ranges.{SoundList}
 use Rattle.band_passes.specs.Leaves.{leavesOf}
 use Rattle.band_passes.specs.FirstWide.{AllMeet}
 use Rattle.walk_depths.specs.Premise.{Flat}
 use Rattle.band_records.proofs.Sound.{record-curve, record-node}
 use Rattle.band_records.proofs.Standing.{Found, every-end-stands, every-record-stands}
-use Rattle.band.proofs.Theorems.{done-given, faultless-rows, records-given, leaves-exactly, every-parameter}
-use Rattle.band.proofs.Given.{Taken, Given, outline-given, binary64-given, spline-given}
-use Rattle.band.proofs.ByPieces.{listed}
-use Rattle.band.proofs.Station.{done-listed, written-listed}
-use Rattle.band.proofs.Sound.{curves-leaves, curves-sound}
+use Rattle.band_banded.proofs.Theorems.{done-given, faultless-rows, records-given, leaves-exactly, every-parameter}
+use Rattle.band_banded.proofs.Given.{Taken, Given, outline-given, binary64-given, spline-given}
+use Rattle.band_banded.proofs.ByPieces.{listed}
+use Rattle.band_banded.proofs.Station.{done-listed, written-listed}
+use Rattle.band_banded.proofs.Sound.{curves-leaves, curves-sound}
 use Rattle.walk_depths.proofs.Depths.{end-depth}
 use Rattle.judge_cover.specs.Covers.{Holds, CoverHolds}
 use Rattle.judge.specs.declared.judging.Judgement.{Judgement}

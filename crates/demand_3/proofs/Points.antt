@@ -21,9 +21,9 @@ use Rattle.refusals.specs.declared.Refusal.{Refusal}
 use Rattle.refusals.specs.declared.Refusal.the-variants.{PointX, PointY}
 use Rattle.refusals.specs.Refusals.{numberOf}
 use Rattle.boxes.specs.Ranges.{inRange}
-use Rattle.band.specs.declared.banding.Banded.the-variants.{Done}
-use Rattle.band.specs.Banding.{banded, written, bandedSpline, writtenSpline}
-use Rattle.band.specs.Banding.{bandedBinary64, writtenBinary64}
+use Rattle.band_banded.specs.declared.banding.Banded.the-variants.{Done}
+use Rattle.band_banded.specs.Banding.{banded, written, bandedSpline, writtenSpline}
+use Rattle.band_banded.specs.Banding.{bandedBinary64, writtenBinary64}
 use Rattle.judge.specs.declared.judging.Judgement.{Judgement}
 use Rattle.judge.specs.declared.judging.Judgement.the-variants.{On, Off, Refused}
 use Rattle.judge.specs.Judging.{pointFault, listFault, judgingFault, Judged}

@@ -15,8 +15,8 @@ use Rattle.curve_nodes.specs.Points.{Equals, Within}
 use Rattle.outline_splines.specs.Splines.{splineAt, splinesFrom, splineCount}
 use Rattle.outline_splines.proofs.Basis.{curve-number, curve-value}
 use Rattle.outline_splines.proofs.Accepted.{Splines, accepted, splines-length, spline-degree}
-use Rattle.band.specs.declared.banding.Banded.the-variants.{Done}
-use Rattle.band.specs.Banding.{bandedSpline, writtenSpline}
+use Rattle.band_banded.specs.declared.banding.Banded.the-variants.{Done}
+use Rattle.band_banded.specs.Banding.{bandedSpline, writtenSpline}
 use Rattle.walk_depths.specs.Premise.{Flat}
 use Rattle.judge.specs.declared.judging.Judgement.{Judgement}
 use Rattle.judge.specs.Judging.{Judged as JudgedSo}

@@ -12,8 +12,8 @@ use Rattle.setting.specs.Setting.{standard}
 use Rattle.integers.specs.First.{firstBad}
 use Rattle.integers.proofs.Ranges.{yes-le, no-lt}
 use Rattle.refusals.specs.declared.Refusal.the-variants.{Tolerance, Coordinate, EmptyOutline, TooWide}
-use Rattle.band.specs.Banding.{written}
-use Rattle.band.proofs.Computing.{computing}
+use Rattle.band_banded.specs.Banding.{written}
+use Rattle.band_banded.proofs.Computing.{computing}
 use Rattle.boxes.specs.declared.Box.{Box}
 use Rattle.draw_polygon.specs.declared.Span.{Span}
 use Rattle.draw_polygon.specs.Polygon.{joinedSpan, reached, endsOfSpans, pathPoint, moves, verticesOf, pathOf, vertices, numbers}

@@ -9,9 +9,9 @@ use lib.IntN.{ℤ, pos, negℤ}
 use Rattle.setting.specs.Setting.{standard}
 use Rattle.refusals.specs.declared.Refusal.{Refusal}
 use Rattle.refusals.specs.Refusals.{numberOf, spotOf}
-use Rattle.band.specs.declared.banding.Banded.{Banded}
-use Rattle.band.specs.declared.banding.Banded.the-variants.{Done, Refused}
-use Rattle.band.specs.Banding.{banded, written}
+use Rattle.band_banded.specs.declared.banding.Banded.{Banded}
+use Rattle.band_banded.specs.declared.banding.Banded.the-variants.{Done, Refused}
+use Rattle.band_banded.specs.Banding.{banded, written}
 use Rattle.judge.specs.declared.judging.Judgement.{Judgement}
 use Rattle.judge.specs.declared.judging.Judgement.the-variants.{On, Off}
 use Rattle.judge.specs.Judging.{Judged}

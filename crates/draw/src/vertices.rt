@@ -2,8 +2,7 @@
 ghost use mathlib.Core.Path.{_≡_};
 ghost use mathlib.Core.List.{[], _∷_};
 ghost use Prim.Native.Nat.{_+_, _*_, _≤_};
-ghost use lib.ListN.{length};
-ghost use lib.Seq.{sets};
+ghost use lib.{ListN.{length}, Seq.{sets}};
 ghost use Rattle.draw_polygon.specs.Polygon.{pathPoint, unlessSame, verticesOf, vertices, numbers};
 use crate::path_points::across;
 use crate::path_points::ends_of_spans;

@@ -9,10 +9,10 @@ use lib.IntN.{ℤ}
 use Rattle.integers.proofs.Clash.{clash}
 use Rattle.refusals.specs.declared.Refusal.{Refusal}
 use Rattle.setting.specs.Setting.{Setting, recordLength}
-use Rattle.band.specs.declared.banding.Banded.{Banded}
-use Rattle.band.specs.declared.banding.Banded.the-variants.{Done, Refused as NotBanded}
-use Rattle.band.specs.Banding.{banded, written}
-use Rattle.band.proofs.Theorems.{refused-unaltered as banding-unaltered}
+use Rattle.band_banded.specs.declared.banding.Banded.{Banded}
+use Rattle.band_banded.specs.declared.banding.Banded.the-variants.{Done, Refused as NotBanded}
+use Rattle.band_banded.specs.Banding.{banded, written}
+use Rattle.band_banded.proofs.Theorems.{refused-unaltered as banding-unaltered}
 use Rattle.judge.specs.declared.judging.Judgement.{Judgement}
 use Rattle.judge.specs.Judging.{pointFault, Verdict}
 use Rattle.engine.specs.declared.Outcome.the-variants.{Refused, Judged}

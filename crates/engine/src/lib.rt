@@ -2,10 +2,9 @@
 ghost use mathlib.Core.Path.{_≡_};
 ghost use lib.ListN.{length};
 ghost use Rattle.setting.specs.Setting.{lists};
-ghost use Rattle.band.specs.Banding.{banded};
-ghost use Rattle.engine.specs.Outcomes.{writtenFor, Answered};
-ghost use Rattle.engine.specs.Inside.{refusalOr};
-use band::banding::Banded;
+ghost use Rattle.band_banded.specs.Banding.{banded};
+ghost use Rattle.engine.specs.{Outcomes.{writtenFor, Answered}, Inside.{refusalOr}};
+use band_banded::banding::Banded;
 use judge::judging::Judgement;
 use refusals::Refusal;
 

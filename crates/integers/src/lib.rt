@@ -1,8 +1,7 @@
 // Division of 64-bit numbers rounded down and up. The rest of this crate is `specs/` and `proofs/`: integer reasoning
 // for the proofs of every crate.
 ghost use mathlib.Core.Path.{_≡_};
-ghost use lib.IntN.{pos};
-ghost use lib.Signed.{_<ℤ_};
+ghost use lib.{IntN.{pos}, Signed.{_<ℤ_}};
 ghost use Rattle.integers.specs.Rounding.{floor, ceiling};
 
 // n / d rounded down, also below zero.

@@ -2,8 +2,7 @@
 // gives it in a line.
 ghost use mathlib.Core.Path.{_≡_};
 ghost use Prim.Native.Nat.{_<_, _^_, _*_};
-ghost use lib.IntN.{pos, negℤ, natAbs, _+ℤ_, _-ℤ_, _*ℤ_};
-ghost use lib.Signed.{quotZ, remZ, shrZ, mag};
+ghost use lib.{IntN.{pos, negℤ, _+ℤ_, _-ℤ_, _*ℤ_}, Signed.{quotZ, remZ, shrZ, mag}};
 ghost use Rattle.integers_uses.specs.Uses.{SmallWeights, Distance};
 
 // Products and a sum of bounded numbers do not wrap.
@@ -35,13 +34,6 @@ pub fn narrowed(a: i64) -> i32
     ensures { λ s. ⌜ s ≡ a +ℤ pos 1 ⌝ }
 {
     (a + 1) as i32
-}
-
-pub fn size(a: i32) -> u32
-    ensures { λ s. ⌜ s ≡ natAbs a ⌝ }
-{
-    let w = a as i64;
-    if w < 0 { (-w) as u32 } else { w as u32 }
 }
 
 // A comparison, and what each branch knows by it.

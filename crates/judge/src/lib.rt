@@ -1,8 +1,7 @@
 // Judging: whether a point lies on the band that a leaf list describes.
 ghost use mathlib.Core.Path.{_≡_};
 ghost use Rattle.setting.specs.Setting.{lists, HasRows};
-ghost use Rattle.judge.specs.Judging.{listFault, Passed, Judged};
-ghost use Rattle.judge.specs.Inside.{checkedOf};
+ghost use Rattle.judge.specs.{Judging.{listFault, Passed, Judged}, Inside.{checkedOf}};
 use crate::judging::Checked;
 use crate::judging::Judgement;
 use refusals::Refusal;

@@ -1,14 +1,11 @@
 // The three numbers that answer a point, and the answers of all points written to the caller's list.
 ghost use mathlib.Core.Path.{_≡_};
 ghost use Prim.Native.Nat.{_+_, _*_, _/_, _≤_};
-ghost use lib.ListN.{length};
-ghost use lib.Seq.{sets};
+ghost use lib.{ListN.{length}, Seq.{sets}};
 ghost use Rattle.setting.specs.Setting.{lists, HasRows};
-ghost use Rattle.judge.specs.Judging.{Passed};
-ghost use Rattle.judge.specs.Judgements.{judgement};
+ghost use Rattle.judge.specs.{Judging.{Passed}, Judgements.{judgement}};
 ghost use Rattle.judge_runs.specs.Inside.{Boxed};
-ghost use Rattle.judge_points.specs.Points.{judgementNumbers, numbersTo};
-ghost use Rattle.judge_points.specs.Inside.{threeNumbers};
+ghost use Rattle.judge_points.specs.{Points.{judgementNumbers, numbersTo}, Inside.{threeNumbers}};
 use judge_runs::boxing::Cut;
 use judge_runs::boxing::box_list;
 use judge_runs::searching::find_groups;

@@ -2,14 +2,13 @@
 ghost use mathlib.Core.Path.{_≡_};
 ghost use mathlib.Core.Bool.{true};
 ghost use Prim.Native.Nat.{_+_, _*_, _%_, _≤_};
-ghost use lib.ListN.{length};
-ghost use lib.Seq.{sets};
+ghost use lib.{ListN.{length}, Seq.{sets}};
 ghost use Rattle.setting.specs.Setting.{lists, HasRows, recordLength};
 ghost use Rattle.boxes.specs.Ranges.{numbersOf};
 ghost use Rattle.judge_list.specs.Checks.{lengthFine};
 ghost use Rattle.judge.specs.Inside.{EndsAt};
-ghost use Rattle.judge_runs.specs.Inside.{lesser, greater, roundBoth, roundBoxes, Around};
-ghost use Rattle.judge_runs.specs.Inside.{RunEnd, RunLength, Runs, Groups, Boxed};
+ghost use Rattle.judge_runs.specs.Inside.{lesser, greater, roundBoth, roundBoxes, Around, RunEnd, RunLength};
+ghost use Rattle.judge_runs.specs.Inside.{Runs, Groups, Boxed};
 use boxes::Box;
 use judge_list::leaf_faults::box_in;
 

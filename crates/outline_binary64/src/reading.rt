@@ -3,12 +3,10 @@ ghost use mathlib.Core.Path.{_≡_};
 ghost use mathlib.Core.Bool.{true};
 ghost use Prim.Native.Nat.{_≤_, _<_};
 ghost use lib.ListN.{length};
-ghost use Rattle.setting.specs.Setting.{mostDegree};
 ghost use Rattle.integers.specs.Entry.{entry};
-ghost use Rattle.outline.specs.Curves.{degreeFine, degreeAt, nextAt, values, curveAt};
-ghost use Rattle.outline.specs.Faults.{coordinateFine};
-ghost use Rattle.outline_binary64.specs.Lists.{wholes};
-ghost use Rattle.outline_binary64.specs.Inside.{AllRead, Stands};
+ghost use Rattle.setting.specs.Setting.{mostDegree};
+ghost use Rattle.outline.specs.{Curves.{degreeFine, degreeAt, nextAt, values, curveAt}, Faults.{coordinateFine}};
+ghost use Rattle.outline_binary64.specs.{Lists.{wholes}, Inside.{AllRead, Stands}};
 use binary64::near_number;
 use curve_nodes::Curve;
 

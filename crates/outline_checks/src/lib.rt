@@ -1,7 +1,6 @@
 // Checks 1 to 6, 17 and 20 of a tolerance and an outline, in their order.
 ghost use mathlib.Core.Path.{_≡_};
-ghost use Rattle.outline.specs.Checks.{toleranceFine, outlined};
-ghost use Rattle.outline.specs.Inside.{checkedOf};
+ghost use Rattle.outline.specs.{Checks.{toleranceFine, outlined}, Inside.{checkedOf}};
 use crate::curve_checks::fault_at;
 use outline::Checked;
 use outline::curve_faults::Fault;

@@ -16,11 +16,11 @@ use Rattle.outline.specs.Checks.{Outlined, outlined}
 use Rattle.outline_splines.specs.Splines.{splined}
 use Rattle.band_records.specs.Ranges.{SoundList}
 use Rattle.band_passes.specs.Leaves.{curvesOf}
-use Rattle.band.specs.declared.banding.Banded.the-variants.{Done}
-use Rattle.band.specs.Banding.{bandGiven, writtenGiven, banded, written, bandedSpline, writtenSpline}
-use Rattle.band.proofs.Given.{Given, outline-given, spline-given}
-use Rattle.band.proofs.Theorems.{done-given, limits-given, records-given, some-given, sound-given}
-use Rattle.band.proofs.Station.{done-listed, written-listed}
+use Rattle.band_banded.specs.declared.banding.Banded.the-variants.{Done}
+use Rattle.band_banded.specs.Banding.{bandGiven, writtenGiven, banded, written, bandedSpline, writtenSpline}
+use Rattle.band_banded.proofs.Given.{Given, outline-given, spline-given}
+use Rattle.band_banded.proofs.Theorems.{done-given, limits-given, records-given, some-given, sound-given}
+use Rattle.band_banded.proofs.Station.{done-listed, written-listed}
 use Rattle.quote_price.specs.declared.quoting.Quoted.the-variants.{Cents}
 use Rattle.quote_price.specs.Price.{recordsIn, costs, total}
 use Rattle.quote_price.specs.Quote.{mostRecords, quoteFault, quoted}

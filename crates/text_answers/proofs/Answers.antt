@@ -16,11 +16,11 @@ use Rattle.integers.proofs.Clash.{clash}
 use Rattle.refusals.specs.declared.Refusal.{Refusal}
 use Rattle.refusals.specs.declared.Refusal.the-variants.{TextTooLong}
 use Rattle.setting.specs.Setting.{standard, texts, recordLength}
-use Rattle.band.specs.declared.banding.Banded.{Banded}
-use Rattle.band.specs.declared.banding.Banded.the-variants.{Done, Refused}
-use Rattle.band.specs.Banding.{written}
-use Rattle.band.proofs.Theorems.{done-exactly, written-some, written-sound}
-use Rattle.band.proofs.Station.{done-listed, written-listed}
+use Rattle.band_banded.specs.declared.banding.Banded.{Banded}
+use Rattle.band_banded.specs.declared.banding.Banded.the-variants.{Done, Refused}
+use Rattle.band_banded.specs.Banding.{written}
+use Rattle.band_banded.proofs.Theorems.{done-exactly, written-some, written-sound}
+use Rattle.band_banded.proofs.Station.{done-listed, written-listed}
 use Rattle.engine.proofs.Outcomes.{done-room}
 use Rattle.demand_3.proofs.Passing.{length-fine, no-bad-number}
 use Rattle.write_numbers.specs.Appends.{Appended, PutWithin}

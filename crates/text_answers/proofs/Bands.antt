@@ -14,11 +14,11 @@ use Rattle.integers.proofs.Ranges.{stored, read-again}
 use Rattle.refusals.specs.declared.Refusal.{Refusal}
 use Rattle.refusals.specs.declared.Refusal.the-variants.{Tolerance as WrongTolerance, Pieces}
 use Rattle.outline.specs.Checks.{toleranceFine, Outlined, outlined}
-use Rattle.band.specs.declared.banding.Banded.{Banded}
-use Rattle.band.specs.declared.banding.Banded.the-variants.{Refused}
+use Rattle.band_banded.specs.declared.banding.Banded.{Banded}
+use Rattle.band_banded.specs.declared.banding.Banded.the-variants.{Refused}
 use Rattle.band_records.specs.Records.{allRecords}
 use Rattle.band_passes.specs.Leaves.{curvesOf}
-use Rattle.band.specs.Banding.{bandGiven, writtenGiven, bandOutlined, banded, writtenBy, written}
+use Rattle.band_banded.specs.Banding.{bandGiven, writtenGiven, bandOutlined, banded, writtenBy, written}
 use Rattle.write_numbers.specs.Appends.{Appended}
 use Rattle.write_numbers.proofs.Appends.{appended-front, appended-length}
 use Rattle.text_lines.specs.declared.text.TextCheck.{TextCheck}

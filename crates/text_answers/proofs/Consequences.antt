@@ -18,10 +18,10 @@ use Rattle.outline.specs.Curves.{curveAt}
 use Rattle.outline.specs.Faults.{faultAt}
 use Rattle.outline.specs.Checks.{curves, outlineFrom, outlined}
 use Rattle.outline.proofs.Accepted.{outlined-from, accepted-all}
-use Rattle.band.specs.declared.banding.Banded.the-variants.{Done}
-use Rattle.band.specs.Banding.{banded}
+use Rattle.band_banded.specs.declared.banding.Banded.the-variants.{Done}
+use Rattle.band_banded.specs.Banding.{banded}
 use Rattle.walk_depths.specs.Premise.{Flat}
-use Rattle.band.proofs.Theorems.{done-exactly}
+use Rattle.band_banded.proofs.Theorems.{done-exactly}
 use Rattle.judge.specs.declared.judging.Judgement.the-variants.{Off}
 use Rattle.judge.specs.Judging.{pointFault, FirstHolder, Verdict}
 use Rattle.demand_3.specs.Demand3.{CurveOf}

@@ -18,7 +18,7 @@ use Rattle.walk_tree.specs.Tree.{ends, met, firstFailing}
 use Rattle.band_records.specs.Records.{recordOf, allRecords}
 use Rattle.band_records.specs.Records as Records
 use Rattle.band_passes.specs.Leaves.{firstTooWide, leavesOf, nodesOf}
-use Rattle.band.specs.Banding.{bandGiven, writtenGiven, bandCurves}
+use Rattle.band_banded.specs.Banding.{bandGiven, writtenGiven, bandCurves}
 use Rattle.text_numbers.specs.Numerals.{valueFrom, digitCount, naturalAt, numberAt}
 use Rattle.text_forms.specs.Pairs as Pairs
 use Rattle.text_forms.specs.Forms as Forms

@@ -10,11 +10,11 @@ use lib.ListN.{length, replicate, length-replicate, getD}
 use lib.IntN.{ℤ, pos}
 use Rattle.setting.specs.Setting.{standard, texts, recordLength}
 use Rattle.curve_nodes.specs.declared.Curve.{Curve}
-use Rattle.band.specs.declared.banding.Banded.the-variants.{Done}
-use Rattle.band.specs.Banding.{banded}
-use Rattle.band.specs.Outcomes.{Faultless}
-use Rattle.band.proofs.Theorems.{done-exactly, written-sound}
-use Rattle.band.proofs.Station.{faultless-listed}
+use Rattle.band_banded.specs.declared.banding.Banded.the-variants.{Done}
+use Rattle.band_banded.specs.Banding.{banded}
+use Rattle.band_banded.specs.Outcomes.{Faultless}
+use Rattle.band_banded.proofs.Theorems.{done-exactly, written-sound}
+use Rattle.band_banded.proofs.Station.{faultless-listed}
 use Rattle.judge.specs.declared.judging.Judgement.{Judgement}
 use Rattle.judge.specs.declared.judging.Judgement.the-variants.{On, Off, Refused}
 use Rattle.judge.specs.Judging.{pointFault, judgingFault, Verdict, Judged}

@@ -6,8 +6,8 @@ use Prim.Native.Nat.{ℕ, _*_}
 use lib.ListN.{take, replicate}
 use lib.IntN.{ℤ, pos}
 use Rattle.setting.specs.Setting.{standard, recordLength}
-use Rattle.band.specs.declared.banding.Banded.{Banded}
-use Rattle.band.specs.declared.banding.Banded.the-variants.{Done, Refused}
+use Rattle.band_banded.specs.declared.banding.Banded.{Banded}
+use Rattle.band_banded.specs.declared.banding.Banded.the-variants.{Done, Refused}
 use Rattle.text_lines.specs.Meaning.{Meaning, refused, means, meaning}
 use Rattle.write_lines.specs.Answers.{refusedLine}
 use Rattle.text_answers.specs.Bands.{bandOf, recordsAfter}

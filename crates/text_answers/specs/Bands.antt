@@ -4,9 +4,9 @@ use mathlib.Core.List.{List}
 use Prim.Native.Nat.{ℕ}
 use lib.IntN.{ℤ}
 use Rattle.setting.specs.Setting.{texts}
-use Rattle.band.specs.declared.banding.Banded.{Banded}
-use Rattle.band.specs.declared.banding.Banded.the-variants.{Refused}
-use Rattle.band.specs.Banding.{banded, written}
+use Rattle.band_banded.specs.declared.banding.Banded.{Banded}
+use Rattle.band_banded.specs.declared.banding.Banded.the-variants.{Refused}
+use Rattle.band_banded.specs.Banding.{banded, written}
 use Rattle.text_lines.specs.Meaning.{Meaning, refused, means}
 
 abbrev pub bandOf : Meaning → ℕ → Banded

@@ -13,7 +13,7 @@ use Rattle.setting.specs.Setting.{standard, texts, recordLength}
 use Rattle.curve_nodes.specs.declared.Curve.{Curve}
 use Rattle.curve_nodes.specs.Points.{Equals}
 use Rattle.outline.specs.Checks.{curves, outlined}
-use Rattle.band.specs.Banding.{written}
+use Rattle.band_banded.specs.Banding.{written}
 use Rattle.walk_depths.specs.Premise.{Flat}
 use Rattle.judge.specs.declared.judging.Judgement.the-variants.{Off}
 use Rattle.judge.specs.Judging.{pointFault, FirstHolder, Verdict}

@@ -1,8 +1,6 @@
 // The checks of a text: 16, 14 and 15.
 ghost use mathlib.Core.Path.{_≡_};
-ghost use Rattle.text_lines.specs.Lines.{linesOf};
-ghost use Rattle.text_lines.specs.Meaning.{meaningOf, meaning};
-ghost use Rattle.text_lines.specs.Inside.{textCheckOf};
+ghost use Rattle.text_lines.specs.{Lines.{linesOf}, Meaning.{meaningOf, meaning}, Inside.{textCheckOf}};
 use crate::line_checks::check_rest;
 use crate::text::LinesCheck;
 use crate::text::TextCheck;

@@ -2,8 +2,7 @@
 ghost use mathlib.Core.Path.{_≡_};
 ghost use Prim.Native.Nat.{_≤_, _*_, _-_};
 ghost use lib.ListN.{length, drop};
-ghost use Rattle.text_numbers.specs.Numerals.{byte};
-ghost use Rattle.text_numbers.specs.Inside.{DigitRun};
+ghost use Rattle.text_numbers.specs.{Numerals.{byte}, Inside.{DigitRun}};
 
 // The value of a run of digits, and the place after it.
 pub struct Run {

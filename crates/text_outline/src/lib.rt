@@ -3,10 +3,8 @@ ghost use mathlib.Core.List.{[], _∷_};
 ghost use Prim.Native.Nat.{_+_, _≤_, _<_};
 ghost use lib.ListN.{length};
 ghost use Rattle.write_numbers.specs.Appends.{Appended};
-ghost use Rattle.text_lines.specs.Lines.{linesOf};
-ghost use Rattle.text_lines.specs.Meaning.{numbersOfCurve};
-ghost use Rattle.text_outline.specs.Outlines.{kept};
-ghost use Rattle.text_outline.specs.Inside.{firstNumbers};
+ghost use Rattle.text_lines.specs.{Lines.{linesOf}, Meaning.{numbersOfCurve}};
+ghost use Rattle.text_outline.specs.{Outlines.{kept}, Inside.{firstNumbers}};
 use text_forms::forms::Form;
 use text_forms::forms::Points;
 
@@ -26,9 +24,6 @@ pub fn keep_outline(text: &[u8], numbers: &mut [i32]) -> usize
             Form::NoForm => {
                 return at;
             }
-            Form::Tolerance(_, next) => {
-                i = next;
-            }
             Form::Curve(p, next) => {
                 if left == 0 {
                     return put(numbers, at, p.degree);
@@ -37,7 +32,7 @@ pub fn keep_outline(text: &[u8], numbers: &mut [i32]) -> usize
                 left -= 1;
                 i = next;
             }
-            Form::Point(_, _, next) => {
+            Form::Tolerance(_, next) | Form::Point(_, _, next) => {
                 i = next;
             }
         }

@@ -2,10 +2,10 @@
 use mathlib.Core.Path.{_≡_, refl}
 use mathlib.Core.List.{List, [], _∷_}
 use mathlib.Core.Option.{none, some}
-use Prim.Native.Nat.{ℕ}
+use Prim.Native.Nat.{ℕ, _-_}
 use lib.IntN.{ℤ, pos, negℤ}
 use Rattle.integers.specs.First.{firstBad}
-use Rattle.setting.specs.Setting.{lists, splines}
+use Rattle.setting.specs.Setting.{Setting, lists, splines}
 use Rattle.curve_nodes.specs.declared.Curve.{Curve}
 use Rattle.curve_nodes.specs.Differences.{largestOf, bend, largest}
 use Rattle.bound_rows.specs.Table.{table, rowsOf}
@@ -58,19 +58,14 @@ pub jagged-at-most : depthOf (lists 1) (pos 1048576) (jagged 3) ≡ some 4
 unfolding depthOf firstBad largest bend largestOf gapOf rowsOf table
 jagged-at-most = refl
 
--- degree 3 has depths to 8, degree 4 to 4
-pub jagged-at-21 : depthOf (lists 8) (pos 21) (jagged 3) ≡ some 8
-unfolding depthOf firstBad largest bend largestOf gapOf rowsOf table
-jagged-at-21 = refl
+-- degree 3 has depths to 8, degree 4 to 4: T is the least tolerance with a depth
+abbrev DepthFrom : Setting → ℕ → Curve → ℕ → Type 0
+DepthFrom σ T c j = (depthOf σ (pos T) c ≡ some j) × (depthOf σ (pos (T - 1)) c ≡ none)
 
-pub jagged-at-20 : depthOf (lists 8) (pos 20) (jagged 3) ≡ none
+pub jagged-from-21 : DepthFrom (lists 8) 21 (jagged 3) 8
 unfolding depthOf firstBad largest bend largestOf gapOf rowsOf table
-jagged-at-20 = refl
+jagged-from-21 = (refl, refl)
 
-pub quartic-at-8864 : depthOf (lists 8) (pos 8864) (jagged 4) ≡ some 4
+pub quartic-from-8864 : DepthFrom (lists 8) 8864 (jagged 4) 4
 unfolding depthOf firstBad largest bend largestOf gapOf rowsOf table
-quartic-at-8864 = refl
-
-pub quartic-at-8863 : depthOf (lists 8) (pos 8863) (jagged 4) ≡ none
-unfolding depthOf firstBad largest bend largestOf gapOf rowsOf table
-quartic-at-8863 = refl
+quartic-from-8864 = (refl, refl)

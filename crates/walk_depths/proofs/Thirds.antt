@@ -4,7 +4,7 @@ use mathlib.Core.Path.{_≡_, refl, sym, _∙_, ap₂, subst}
 use mathlib.Core.Bool.{Bool, false, cond}
 use mathlib.Core.Logic.{_↔_}
 use mathlib.Core.List.{[], _∷_}
-use Prim.Native.Nat.{ℕ, _*_, _^_, _≤_}
+use Prim.Native.Nat.{ℕ, _*_, _-_, _^_, _≤_}
 use native.Mathlib.Omega.{arith}
 use lib.IntN.{ℤ, pos, _+ℤ_, _*ℤ_}
 use lib.Signed.{_≤ℤ_, ltZ-yes, leZ-yes}
@@ -53,6 +53,10 @@ module _ (T : ℤ) (c : Curve) (j : ℕ) where
     pub thirds-flat : 1 ≤ c .degree → c .degree ≤ 3 → FlatThirds T c j → Flat σ T c j
     thirds-flat least most h = rw (three, units) (from-thirds (gapOf 3 (c .degree)) (gap-thirds (c .degree) least most) h)
 
+-- ---- T is the least tolerance with the premise at depth j
+abbrev pub FlatFrom : Setting → ℕ → Curve → ℕ → Type 0
+FlatFrom σ T c j = Flat σ (pos T) c j × (Flat σ (pos (T - 1)) c j → ⊥)
+
 -- ---- M in sixths: y 150, 180, 180, 150 has M = 30, which is 5 units. With three pieces G is 890, and 2 × (16 × 890 × 5 + 20000)² lies between
 -- (10000 × 12)² and (10000 × 13)²
 abbrev arch : Curve
@@ -62,10 +66,6 @@ arch = record {
   y = pos 150 ∷ pos 180 ∷ pos 180 ∷ pos 150 ∷ pos 0 ∷ pos 0 ∷ [];
 }
 
-pub sixths-flat-from-13 : Flat (splines 3) (pos 13) arch 0
+pub sixths-flat-from-13 : FlatFrom (splines 3) 13 arch 0
 unfolding largest bend largestOf gapOf rowsOf table
-sixths-flat-from-13 = leZ-yes tt
-
-pub sixths-not-flat-at-12 : Flat (splines 3) (pos 12) arch 0 → ⊥
-unfolding largest bend largestOf gapOf rowsOf table
-sixths-not-flat-at-12 f = f .le
+sixths-flat-from-13 = (leZ-yes tt, λ f. f .le)

@@ -2,8 +2,7 @@
 ghost use Prim.Native.Nat.{_+_, _*_};
 ghost use lib.ListN.{length};
 ghost use Rattle.write_numbers.specs.Appends.{PutWithin};
-ghost use Rattle.write_lines.specs.BandLines.{bandLines};
-ghost use Rattle.write_lines.specs.Inside.{RoomFor};
+ghost use Rattle.write_lines.specs.{BandLines.{bandLines}, Inside.{RoomFor}};
 
 // The lines of a band that is done: its leaves and the report, from the front on.
 pub fn put_band(

@@ -2,10 +2,8 @@
 // need, and returns the place after what it has put.
 ghost use mathlib.Core.Path.{_≡_};
 ghost use Prim.Native.Nat.{_+_, _≤_};
-ghost use lib.ListN.{length};
-ghost use lib.IntN.{natAbs};
-ghost use Rattle.write_numbers.specs.Appends.{Appended, PutWithin};
-ghost use Rattle.write_numbers.specs.Decimals.{decimal, spaced, spacedNatural};
+ghost use lib.{ListN.{length}, IntN.{natAbs}};
+ghost use Rattle.write_numbers.specs.{Appends.{Appended, PutWithin}, Decimals.{decimal, spaced, spacedNatural}};
 use crate::digits::put_byte;
 use crate::digits::put_digits;
 

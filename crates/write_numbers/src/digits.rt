@@ -3,8 +3,7 @@
 ghost use mathlib.Core.List.{[], _∷_};
 ghost use Prim.Native.Nat.{_+_, _≤_, _<_};
 ghost use lib.ListN.{length};
-ghost use Rattle.write_numbers.specs.Appends.{Appended, PutWithin};
-ghost use Rattle.write_numbers.specs.Digits.{digits};
+ghost use Rattle.write_numbers.specs.{Appends.{Appended, PutWithin}, Digits.{digits}};
 
 // The digits of n, the last `places` of them at most.
 pub fn put_digits(out: &mut [u8], at: usize, n: u64, places: usize) -> usize

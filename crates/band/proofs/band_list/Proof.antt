@@ -8,8 +8,8 @@ use mir.Facts.{toZ-ofZ, sfits-widen}
 use Rattle.setting.specs.Setting.{Setting, piecesFine}
 use Rattle.setting.proofs.Pieces.{fine-has-rows}
 use Rattle.outline.specs.Checks.{Outlined, toleranceFine}
-use Rattle.band.specs.Inside.{givenOf, settingFor}
-use Rattle.band.proofs.Answers.{given-read, banded-read, written-curves, banded-pieces, banded-tolerance, banded-faulty, written-refused}
+use Rattle.band_banded.specs.Inside.{givenOf, settingFor}
+use Rattle.band_banded.proofs.Answers.{given-read, banded-read, written-curves, banded-pieces, banded-tolerance, banded-faulty, written-refused}
 use Rattle.band.proofs.band_list.Statement.{statement}
 use Rattle.band.proofs.band_list.Tie as tie
 

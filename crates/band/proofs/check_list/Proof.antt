@@ -4,7 +4,7 @@ use borrow.Author.Needs.{needs}
 use Rattle.outline.specs.declared.Checked.{Checked}
 use Rattle.outline.specs.Inside.{checkedOf}
 use Rattle.band_passes.specs.declared.forms.Form.{Form}
-use Rattle.band.specs.Inside.{givenOf}
+use Rattle.band_banded.specs.Inside.{givenOf}
 use Rattle.band.proofs.check_list.Statement.{statement}
 use Rattle.band.proofs.check_list.Tie as tie
 

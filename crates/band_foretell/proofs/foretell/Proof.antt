@@ -23,7 +23,7 @@ use Rattle.band_passes.specs.declared.forms.Form.the-variants.{Outline}
 use Rattle.band_passes.specs.Inside.{curvesIn}
 use Rattle.band_passes.proofs.Reading.{curves-count}
 use Rattle.outline.specs.Curves.{nextAt, curveAt}
-use Rattle.band.proofs.Answers.{Read, given-read}
+use Rattle.band_banded.proofs.Answers.{Read, given-read}
 use Rattle.band_foretold.proofs.Answering.{foretold-pieces, unaltered, foretold-tolerance, foretold-faulty}
 use Rattle.band_foretold.proofs.Answering.{foretold-few, foretold-curves, written-curves}
 use Rattle.band_foretell.proofs.foretell.Statement.{statement}

@@ -19,11 +19,11 @@ use Rattle.band_records.proofs.put_low_boxes.Statement.{statement}
 use Rattle.band_records.proofs.put_low_boxes.Tie as tie
 
 abbrev Inv-loop : tie.InvT-loop
-Inv-loop records₀ at rows depth m divisor scale degree shift x y i₀ records i =
-    (i ≤ m + 1) × (records ≡ sets records₀ at (joinedTo i (boxBy divisor shift rows x y)))
+Inv-loop records₀ at rows depth pieces m degree shift x y i₀ records i =
+    (i ≤ m + 1) × (records ≡ sets records₀ at (joinedTo i (boxBy (pieces .divisor) shift rows x y)))
 
 abbrev μ-loop : tie.MeasureT-loop
-μ-loop records₀ at rows depth m divisor scale degree shift x y i₀ records i = m + 1 - i
+μ-loop records₀ at rows depth pieces m degree shift x y i₀ records i = m + 1 - i
 
 halvable : (s : tie.Start Inv-loop μ-loop) → Halvable (s .args .curve)
 halvable s = let p = s .pre in sized-halvable (rw (deepest-low (s .args .curve .degree) (p .3)) (p .4)) (p .2)

@@ -11,7 +11,7 @@ use Rattle.setting.proofs.Pieces.{fine-has-rows}
 use Rattle.outline.specs.declared.Checked.the-variants.{Curves}
 use Rattle.outline.specs.Checks.{outlined}
 use Rattle.band_passes.specs.declared.forms.Form.the-variants.{Outline}
-use Rattle.band.proofs.Answers.{Read, given-read}
+use Rattle.band_banded.proofs.Answers.{Read, given-read}
 use Rattle.band_tightest.proofs.Answers.{answer-pieces, answer-faulty, answer-curves}
 use Rattle.band_tighten.proofs.tightest_band.Statement.{statement}
 use Rattle.band_tighten.proofs.tightest_band.Tie as tie

@@ -7,13 +7,8 @@ use Rattle.curve_halves.proofs.left_values.Tie as tie
 left-low-requires : tie.Need-left-low-requires
 left-low-requires c κs = let p = c .before .pre in (p .0, omega arith, p .2)
 
-returns : tie.Need-returns
-returns c = rw (c .before .match .keys1) (c .left-quartic .ensures)
-
-returns-2 : tie.Need-returns-2
-returns-2 c = rw (c .before .match .keys2) (c .left-quintic .ensures)
-
 pub left-values-spec : {M : Type 1} → statement M
 left-values-spec =
     tie.close
-    (tie.spec (λ c κs. search needs) (λ c κs. search needs) left-low-requires returns returns-2 (λ c. search needs))
+    (tie.spec (λ c κs. search needs) (λ c κs. search needs) left-low-requires (λ c. rw (c .before .match .keys1) (c .left-quartic .ensures))
+    (λ c. rw (c .before .match .keys2) (c .left-quintic .ensures)) (λ c. search needs))

@@ -11,8 +11,8 @@ use lib.Seq.{length-take-le}
 use lib.IntN.{ℤ}
 use Rattle.setting.specs.Setting.{lists}
 use Rattle.refusals.specs.declared.Refusal.the-variants.{TooFewRecords}
-use Rattle.band.specs.declared.banding.Banded.the-variants.{Refused as NotBanded}
-use Rattle.band.specs.Banding.{banded}
+use Rattle.band_banded.specs.declared.banding.Banded.the-variants.{Refused as NotBanded}
+use Rattle.band_banded.specs.Banding.{banded}
 use Rattle.engine.proofs.Outcomes.{room-short, room-enough, few-again, few-no-more, other-again, done-some, done-room}
 use Rattle.engine.proofs.refusal_or.Statement.{statement}
 use Rattle.engine.proofs.refusal_or.Tie as tie

@@ -16,8 +16,8 @@ use Rattle.setting.proofs.Pieces.{record-length-is}
 use Rattle.band_passes.specs.declared.passes.Counted.the-variants.{Total}
 use Rattle.band_passes.specs.Leaves.{leavesOf}
 use Rattle.band_passes.specs.Inside.{numbersOf, curvesIn, countedOf}
-use Rattle.band.proofs.Answers.{answer-too-wide, answer-few, answer-nodes, answer-too-many, answer-too-few, answer-list, numbers-few}
-use Rattle.band.proofs.Answers.{read-count, fillable, report-done, Placed, placed-counted, placed-sure, leaves-divided}
+use Rattle.band_banded.proofs.Answers.{answer-too-wide, answer-few, answer-nodes, answer-too-many, answer-too-few, answer-list, numbers-few}
+use Rattle.band_banded.proofs.Answers.{read-count, fillable, report-done, Placed, placed-counted, placed-sure, leaves-divided}
 use Rattle.band.proofs.outline_band.band_by.Statement.{statement}
 use Rattle.band.proofs.outline_band.band_by.Tie as tie
 
@@ -105,7 +105,7 @@ placed c =
     (λ w. placed-counted σ (a .t) cs (rw (toZ-ofZ (s .fits .t)) at (sym (w .3 .given .1) ∙ w .1 .ensures)) (w .5 .left)
     (rw (record-length-is (a .pieces .m)) at (w .6 .left)))
     (λ w. placed-sure σ (a .t) cs (rw (toZ-ofZ (s .fits .t)) at (fit .surely-fit .ensures (not-false (fit .surely-fit .result) (w .left))))
-    (record-length-is (a .pieces .m)) (room .0) (room .1))
+    (record-length-is (a .pieces .m)) (omega (arith, room)) (omega (arith, room)))
     (c .if1 .came)
 
 write-all-requires : tie.Need-write-all-requires

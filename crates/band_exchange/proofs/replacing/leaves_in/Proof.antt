@@ -5,7 +5,7 @@ use borrow.Author.Needs.{needs}
 use mir.Facts.{toZ-ofZ}
 use Rattle.refusals.specs.Refusals.{numberOf}
 use Rattle.outline.specs.Curves.{curveAt}
-use Rattle.band.specs.declared.banding.Banded.the-variants.{Refused}
+use Rattle.band_banded.specs.declared.banding.Banded.the-variants.{Refused}
 use Rattle.band_exchange.proofs.Alone.{alone, alone-done, alone-wide, alone-node, alone-leaves}
 use Rattle.band_exchange.proofs.replacing.leaves_in.Statement.{statement}
 use Rattle.band_exchange.proofs.replacing.leaves_in.Tie as tie

@@ -13,7 +13,7 @@ use Rattle.walk_curve.specs.declared.Walked.the-variants.{Leaves}
 use Rattle.walk_curve.specs.Walked.{endsOf}
 use Rattle.walk_curve.specs.Inside.{walkedOf}
 use Rattle.band_records.specs.Records.{recordsOf}
-use Rattle.band.proofs.Answers.{numbers-few}
+use Rattle.band_banded.proofs.Answers.{numbers-few}
 use Rattle.band_exchange.proofs.Fronts.{few-number, own-fewer, cs-few, wide-answer, now-leaves, few-answer, done-answer, nodes-fit}
 use Rattle.band_exchange.proofs.Fronts.{tail-inside, from-inside, to-inside, done-list}
 use Rattle.band_exchange.proofs.replacing.replace.Statement.{statement}

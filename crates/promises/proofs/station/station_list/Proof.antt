@@ -2,7 +2,7 @@
 use mathlib.Core.Path.{_∙_}
 use borrow.Author.Needs.{needs}
 use mir.Facts.{toZ-ofZ}
-use Rattle.band.proofs.Station.{station-agrees}
+use Rattle.band_banded.proofs.Station.{station-agrees}
 use Rattle.promises.proofs.station.station_list.Statement.{statement}
 use Rattle.promises.proofs.station.station_list.Tie as tie
 
