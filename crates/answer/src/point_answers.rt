@@ -35,10 +35,7 @@ pub fn put_points(text: &[u8], leaves: &[i32], out: &mut [u8], from: usize) -> u
             Form::NoForm => {
                 return at;
             }
-            Form::Tolerance(_, next) => {
-                i = next;
-            }
-            Form::Curve(_, next) => {
+            Form::Tolerance(_, next) | Form::Curve(_, next) => {
                 i = next;
             }
             Form::Point(x, y, next) => {

@@ -1,10 +1,12 @@
 -- The answer for the curves of an outline: too wide, too many leaves, too little room, or done; each of them exactly where it is due.
 use mathlib.Core.Path.{_≡_, refl, sym, _∙_, ap}
 use mathlib.Core.Logic.{_⊎_, inl, inr, ⊎-elim}
+use mathlib.Core.Bool.{true, false}
 use mathlib.Core.List.{List}
 use mathlib.Core.Option.{Option, none, some}
 use Prim.Native.Nat.{ℕ, _*_, _≤_}
 use borrow.Author.Tests.{lt-ltb, le-ltb}
+use lib.Dec.{ltb}
 use lib.ListN.{length}
 use lib.IntN.{ℤ}
 use Rattle.integers.proofs.Order.{lt-or-ge}
@@ -30,27 +32,20 @@ module _ (σ : Setting) (T : ℤ) (cs : List Curve) (room : ℕ) where
   unfolding bandCurves
   many-said f = rw (none-wide σ T 0 cs .1 (f .meet), lt-ltb (σ .leaves) (leavesOf σ T cs) (f .more), sym (f .leaves), answerFor)
 
-  pub few-said : {l : ℕ} → Few σ T cs room l → bandCurves σ T cs room ≡ Refused (TooFewRecords l)
+  -- where nothing is too wide and the leaves are not too many, their room decides
+  room-decides : AllMeet σ T cs → leavesOf σ T cs ≤ σ .leaves
+      → _≡_ {A = Banded} (bandCurves σ T cs room) (elim (ltb room (recordLength σ * leavesOf σ T cs)) [
+        | true ↦ Refused (TooFewRecords (leavesOf σ T cs))
+        | false ↦ Done (length cs) (leavesOf σ T cs) (nodesOf σ T cs)
+      ])
   unfolding bandCurves
-  few-said f = rw (
-    none-wide σ T 0 cs .1 (f .meet),
-    le-ltb (σ .leaves) (leavesOf σ T cs) (f .taken),
-    lt-ltb room (recordLength σ * leavesOf σ T cs) (f .short),
-    sym (f .leaves),
-    answerFor,
-  )
+  room-decides m t = rw (none-wide σ T 0 cs .1 m, le-ltb (σ .leaves) (leavesOf σ T cs) t, answerFor)
+
+  pub few-said : {l : ℕ} → Few σ T cs room l → bandCurves σ T cs room ≡ Refused (TooFewRecords l)
+  few-said f = rw (room-decides (f .meet) (f .taken), lt-ltb room (recordLength σ * leavesOf σ T cs) (f .short), sym (f .leaves))
 
   pub done-said : {a b c : ℕ} → Report σ T cs room a b c → bandCurves σ T cs room ≡ Done a b c
-  unfolding bandCurves
-  done-said r = rw (
-    none-wide σ T 0 cs .1 (r .meet),
-    le-ltb (σ .leaves) (leavesOf σ T cs) (r .taken),
-    le-ltb room (recordLength σ * leavesOf σ T cs) (r .enough),
-    sym (r .curves),
-    sym (r .leaves),
-    sym (r .nodes),
-    answerFor,
-  )
+  done-said r = rw (room-decides (r .meet) (r .taken), le-ltb room (recordLength σ * leavesOf σ T cs) (r .enough), sym (r .curves), sym (r .leaves), sym (r .nodes))
 
   -- ---- and only where it is due: one of the four it must be
   data Case : Banded → Type 0 where

@@ -49,7 +49,7 @@ bandGiven σ T o room =
       | true ↦ elim (toleranceFine T) [ false ↦ Refused Tolerance | true ↦ bandOutlined σ T o room ]
     ]
 
--- ---- the caller's list afterwards: the records in front of what stood behind them; a refusal alters nothing
+-- ---- the caller's list afterwards: the records, then the rest of the list as it was; a refusal alters nothing
 abbrev pub writtenBy : Banded → List ℤ → List ℤ → List ℤ
 writtenBy (Refused r) records old = old
 writtenBy (Done a b c) records old = records ++ drop (length records) old

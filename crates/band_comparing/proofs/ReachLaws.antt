@@ -33,7 +33,7 @@ module _ (g : List ℤ) (r i : ℕ) (x : ℤ) where
   unfolding reachNumber
   number-other h e = rw (reachNumber, lt-leb r i h, e)
 
-  pub number-less : reachNumber g r i x ≤ r
+  number-less : reachNumber g r i x ≤ r
   unfolding reachNumber
   number-less = go (leb r i) refl (equal (entry g i) x)
     where
@@ -41,6 +41,10 @@ module _ (g : List ℤ) (r i : ℕ) (x : ℤ) where
       go true e c = le-refl r
       go false e true = le-refl r
       go false e false = omega (arith, leb-false r i e)
+
+  -- no more than n before, no more than n after
+  pub number-under : {n k : ℕ} → k ≡ reachNumber g r i x → r ≤ n → k ≤ n
+  number-under e h = rw e (le-trans number-less h)
 
 -- ---- many
 pub reach-less : (g : List ℤ) (r i : ℕ) (xs : List ℤ) → reachOf g r i xs ≤ r

@@ -8,6 +8,7 @@ ghost use Rattle.bound_coordinate.specs.Inside.{Small};
 ghost use Rattle.band_passes.specs.Inside.{Readable};
 ghost use Rattle.band_passes.specs.declared.forms.Form.the-variants.{Outline};
 ghost use Rattle.band_comparing.specs.Inside.{Lent, Tryable, seenOf, laterOf, comparedOf};
+use crate::trying::Scaling;
 use crate::trying::Tried;
 use crate::trying::try_node;
 use curve_nodes::Curve;
@@ -39,15 +40,16 @@ fn see_curve(
     reach: usize,
     at: usize,
     rows: &[i64],
-    m: usize,
-    scale: usize,
+    by: Scaling,
     number: u32,
     curve: Curve,
     t: i64,
 ) -> Seen
-    requires { ⌜ (Tryable (now given) reach at (2 ^ 40) m scale (now rows) 0 curve t) × (number < 2 ^ 31) ⌝ }
-    ensures { λ r. ⌜ r ≡ seenOf (lists m) t curve number (now (given .entry)) reach at ⌝ }
+    requires { ⌜ (Tryable (now given) reach at (2 ^ 40) (by .m) (by .scale) (now rows) 0 curve t)
+        × (number < 2 ^ 31) ⌝ }
+    ensures { λ r. ⌜ r ≡ seenOf (lists (by .m)) t curve number (now (given .entry)) reach at ⌝ }
 {
+    let m = by.m;
     let record_length = 6 + 4 * m;
     let last = last_of(curve.degree);
     let mut part = Part { node: 1, curve };
@@ -56,7 +58,7 @@ fn see_curve(
     loop {
         let node = part.node;
         let own = part.curve;
-        match try_node(given, to, place, number, node, rows, m, scale, own, t) {
+        match try_node(given, to, place, number, node, rows, by, own, t) {
             Tried::Wide => {
                 if last <= node {
                     return Seen::WideNode(node);
@@ -117,6 +119,7 @@ pub fn compare(
         × (Readable (lists m) Outline (now ns) curves) ⌝ }
     ensures { λ r. ⌜ r ≡ comparedOf (lists m) t (now (ns .entry)) curves number (now (given .entry)) shown ⌝ }
 {
+    let by = Scaling { m, scale };
     let mut k: usize = 0;
     let mut here = Stand { at: 0, place: 0 };
     let mut first = Stand { at: 0, place: 0 };
@@ -125,7 +128,7 @@ pub fn compare(
     while k < curves {
         let curve = curve_at(ns, here.at);
         let at = next_at(ns, here.at);
-        match see_curve(given, reach, here.place, rows, m, scale, k as u32, curve, t) {
+        match see_curve(given, reach, here.place, rows, by, k as u32, curve, t) {
             Seen::WideNode(node) => {
                 return Compared::Stopped(Refusal::TooWide {
                     curve: k as u32,

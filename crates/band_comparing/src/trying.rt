@@ -30,6 +30,12 @@ pub enum Tried {
     Narrow(usize),
 }
 
+// What goes with the number of pieces: that number m, and 5040 over m.
+pub struct Scaling {
+    pub m: usize,
+    pub scale: usize,
+}
+
 // The box from `left` to `right` and from `low` to `high`, whose numbers stand from index `at` on: whether its diagonal
 // is longer than the length that has this square, or else how far the numbers given agree.
 fn try_sides(
@@ -70,20 +76,20 @@ fn try_box(
     x: Terms,
     y: Terms,
     shift: u32,
-    scale: usize,
-    m: usize,
+    by: Scaling,
     i: usize,
     square: i64,
 ) -> Tried
-    requires { ⌜ (reach ≤ length (now given)) × (at + 4 ≤ 2 ^ 63) × (ComputableAt m shift scale i (now rows) x)
-        × (ComputableAt m shift scale i (now rows) y) ⌝ }
-    ensures { λ r. ⌜ r ≡ triedOf (not (ltZ square (acrossBy m shift (now (rows .entry)) x y i)))
-        (reachOf (now (given .entry)) reach at (boxBy m shift (now (rows .entry)) x y i)) ⌝ }
+    requires { ⌜ (reach ≤ length (now given)) × (at + 4 ≤ 2 ^ 63)
+        × (ComputableAt (by .m) shift (by .scale) i (now rows) x)
+        × (ComputableAt (by .m) shift (by .scale) i (now rows) y) ⌝ }
+    ensures { λ r. ⌜ r ≡ triedOf (not (ltZ square (acrossBy (by .m) shift (now (rows .entry)) x y i)))
+        (reachOf (now (given .entry)) reach at (boxBy (by .m) shift (now (rows .entry)) x y i)) ⌝ }
 {
-    let x_low = bound_coordinate::break_points::low_at(rows, x, shift, scale, m, i);
-    let x_high = bound_coordinate::break_points::high_at(rows, x, shift, scale, m, i);
-    let y_low = bound_coordinate::break_points::low_at(rows, y, shift, scale, m, i);
-    let y_high = bound_coordinate::break_points::high_at(rows, y, shift, scale, m, i);
+    let x_low = bound_coordinate::break_points::low_at(rows, x, shift, by.scale, by.m, i);
+    let x_high = bound_coordinate::break_points::high_at(rows, x, shift, by.scale, by.m, i);
+    let y_low = bound_coordinate::break_points::low_at(rows, y, shift, by.scale, by.m, i);
+    let y_high = bound_coordinate::break_points::high_at(rows, y, shift, by.scale, by.m, i);
     try_sides(given, reach, at, x_low, x_high, y_low, y_high, square)
 }
 
@@ -96,20 +102,20 @@ fn try_higher_box(
     x: HigherTerms,
     y: HigherTerms,
     shift: u32,
-    scale: usize,
-    m: usize,
+    by: Scaling,
     i: usize,
     square: i64,
 ) -> Tried
-    requires { ⌜ (reach ≤ length (now given)) × (at + 4 ≤ 2 ^ 63) × (HigherComputable m shift scale (now rows) x)
-        × (HigherComputable m shift scale (now rows) y) × (i ≤ m) ⌝ }
-    ensures { λ r. ⌜ r ≡ triedOf (not (ltZ square (higherAcrossBy m shift (now (rows .entry)) x y i)))
-        (reachOf (now (given .entry)) reach at (higherBoxBy m shift (now (rows .entry)) x y i)) ⌝ }
+    requires { ⌜ (reach ≤ length (now given)) × (at + 4 ≤ 2 ^ 63)
+        × (HigherComputable (by .m) shift (by .scale) (now rows) x)
+        × (HigherComputable (by .m) shift (by .scale) (now rows) y) × (i ≤ by .m) ⌝ }
+    ensures { λ r. ⌜ r ≡ triedOf (not (ltZ square (higherAcrossBy (by .m) shift (now (rows .entry)) x y i)))
+        (reachOf (now (given .entry)) reach at (higherBoxBy (by .m) shift (now (rows .entry)) x y i)) ⌝ }
 {
-    let x_low = bound_coordinate_higher::low_at(rows, x, shift, scale, m, i);
-    let x_high = bound_coordinate_higher::high_at(rows, x, shift, scale, m, i);
-    let y_low = bound_coordinate_higher::low_at(rows, y, shift, scale, m, i);
-    let y_high = bound_coordinate_higher::high_at(rows, y, shift, scale, m, i);
+    let x_low = bound_coordinate_higher::low_at(rows, x, shift, by.scale, by.m, i);
+    let x_high = bound_coordinate_higher::high_at(rows, x, shift, by.scale, by.m, i);
+    let y_low = bound_coordinate_higher::low_at(rows, y, shift, by.scale, by.m, i);
+    let y_high = bound_coordinate_higher::high_at(rows, y, shift, by.scale, by.m, i);
     try_sides(given, reach, at, x_low, x_high, y_low, y_high, square)
 }
 
@@ -119,16 +125,17 @@ fn try_low(
     reach: usize,
     at: usize,
     rows: &[i64],
-    m: usize,
-    scale: usize,
+    by: Scaling,
     curve: Curve,
     depth: u32,
     t: i64,
 ) -> Tried
-    requires { ⌜ (Tryable (now given) reach at (2 ^ 60) m scale (now rows) depth curve t) × (curve .degree ≤ 3) ⌝ }
-    ensures { λ r. ⌜ r ≡ triedOf (meets (lists m) t depth curve)
-        (reachOf (now (given .entry)) reach at (boxesTo (lists m) (breakPoints (lists m)) depth curve)) ⌝ }
+    requires { ⌜ (Tryable (now given) reach at (2 ^ 60) (by .m) (by .scale) (now rows) depth curve t)
+        × (curve .degree ≤ 3) ⌝ }
+    ensures { λ r. ⌜ r ≡ triedOf (meets (lists (by .m)) t depth curve)
+        (reachOf (now (given .entry)) reach at (boxesTo (lists (by .m)) (breakPoints (lists (by .m))) depth curve)) ⌝ }
 {
+    let m = by.m;
     let degree = curve.degree;
     let shift = degree * depth;
     let square = t * t;
@@ -139,19 +146,7 @@ fn try_low(
     let mut to = reach;
     let mut i: usize = 0;
     while i <= m {
-        match try_box(
-            given,
-            to,
-            at + 4 * i,
-            rows,
-            x,
-            y,
-            shift,
-            scale,
-            m,
-            i,
-            square,
-        ) {
+        match try_box(given, to, at + 4 * i, rows, x, y, shift, by, i, square) {
             Tried::Wide => {
                 return Tried::Wide;
             }
@@ -170,16 +165,17 @@ fn try_higher(
     reach: usize,
     at: usize,
     rows: &[i64],
-    m: usize,
-    scale: usize,
+    by: Scaling,
     curve: Curve,
     depth: u32,
     t: i64,
 ) -> Tried
-    requires { ⌜ (Tryable (now given) reach at (2 ^ 60) m scale (now rows) depth curve t) × (3 < curve .degree) ⌝ }
-    ensures { λ r. ⌜ r ≡ triedOf (meets (lists m) t depth curve)
-        (reachOf (now (given .entry)) reach at (boxesTo (lists m) (breakPoints (lists m)) depth curve)) ⌝ }
+    requires { ⌜ (Tryable (now given) reach at (2 ^ 60) (by .m) (by .scale) (now rows) depth curve t)
+        × (3 < curve .degree) ⌝ }
+    ensures { λ r. ⌜ r ≡ triedOf (meets (lists (by .m)) t depth curve)
+        (reachOf (now (given .entry)) reach at (boxesTo (lists (by .m)) (breakPoints (lists (by .m))) depth curve)) ⌝ }
 {
+    let m = by.m;
     let degree = curve.degree;
     let shift = degree * depth;
     let square = t * t;
@@ -190,19 +186,7 @@ fn try_higher(
     let mut to = reach;
     let mut i: usize = 0;
     while i <= m {
-        match try_higher_box(
-            given,
-            to,
-            at + 4 * i,
-            rows,
-            x,
-            y,
-            shift,
-            scale,
-            m,
-            i,
-            square,
-        ) {
+        match try_higher_box(given, to, at + 4 * i, rows, x, y, shift, by, i, square) {
             Tried::Wide => {
                 return Tried::Wide;
             }
@@ -223,23 +207,22 @@ pub fn try_node(
     number: u32,
     node: u32,
     rows: &[i64],
-    m: usize,
-    scale: usize,
+    by: Scaling,
     curve: Curve,
     t: i64,
 ) -> Tried
-    requires { ⌜ (Tryable (now given) reach at (2 ^ 50) m scale (now rows) (depth node) curve t)
+    requires { ⌜ (Tryable (now given) reach at (2 ^ 50) (by .m) (by .scale) (now rows) (depth node) curve t)
         × (Numbered number node) ⌝ }
-    ensures { λ r. ⌜ r ≡ triedOf (meets (lists m) t (depth node) curve)
+    ensures { λ r. ⌜ r ≡ triedOf (meets (lists (by .m)) t (depth node) curve)
         (reachOf (now (given .entry)) reach at
-        (nodeNumbers number node (boxesTo (lists m) (breakPoints (lists m)) (depth node) curve))) ⌝ }
+        (nodeNumbers number node (boxesTo (lists (by .m)) (breakPoints (lists (by .m))) (depth node) curve))) ⌝ }
 {
     let first = reach_number(given, reach, at, number as i32);
     let second = reach_number(given, first, at + 1, node as i32);
     let depth = curve_nodes::depth(node);
     if 3 < curve.degree {
-        try_higher(given, second, at + 2, rows, m, scale, curve, depth, t)
+        try_higher(given, second, at + 2, rows, by, curve, depth, t)
     } else {
-        try_low(given, second, at + 2, rows, m, scale, curve, depth, t)
+        try_low(given, second, at + 2, rows, by, curve, depth, t)
     }
 }

@@ -1,14 +1,19 @@
 -- Numbers of a list moved one by one: what a run of stores leaves alone, and one turn of each loop that moves.
 use mathlib.Core.Path.{_≡_, refl, sym, _∙_, ap}
 use mathlib.Core.List.{List, [], _∷_, _++_}
-use Prim.Native.Nat.{ℕ, suc, _+_, _-_, _≤_, _<_}
+use Prim.Native.Nat.{ℕ, suc, _+_, _-_, _^_, _≤_, _<_}
 use native.Mathlib.Nat.{add-zero}
 use native.Mathlib.Numerals.{add-one}
 use native.Mathlib.Omega.{arith}
 use lib.ListN.{length, take, drop, set, length-drop, take-append-drop}
 use lib.Seq.{sets, take-suc, drop-cons, getD-drop, getD-set-other, set-comm, length-take-le, sets-eq, take-add}
 use lib.IntN.{ℤ, pos}
+use lib.Signed.{mag}
+use mir.Syntax.{w32}
+use mir.Facts.{toZ-ofZ}
 use Rattle.integers.specs.Entry.{entry}
+use Rattle.integers.proofs.Ranges.{stored}
+use Rattle.integers.proofs.Between.{element-fits}
 use Rattle.integers.proofs.Stores.{sets-append}
 use Rattle.band_exchange.specs.Inside.{movedTo}
 
@@ -28,6 +33,10 @@ store-before [] l i j v h = refl
 store-before (w ∷ vs) l i j v h =
     store-before vs (set l i w) (suc i) j v (omega arith)
     ∙ ap (λ m. sets m (suc i) vs) (set-comm l i j w v (λ e. omega arith))
+
+-- ---- a number read and put: what a turn leaves, where the list so far is known
+pub read-and-put : {l k : List ℤ} (from to : ℕ) → mag (entry l from) < 2 ^ 31 → l ≡ k → set l to (stored w32 (entry l from)) ≡ set k to (entry k from)
+read-and-put {l} from to b e = ap (set l to) (toZ-ofZ (element-fits l from b)) ∙ ap (λ q. set q to (entry q from)) e
 
 -- ---- towards the front
 module _ (l : List ℤ) (from to i : ℕ) (inside : from + i < length l) where

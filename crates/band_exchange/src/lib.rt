@@ -1,6 +1,8 @@
 // Exchanging one curve of an outline whose records are there.
 ghost use mathlib.Core.Path.{_≡_};
-ghost use Prim.Native.Nat.{_^_, min};
+ghost use mathlib.Core.Bool.{_&&_};
+ghost use Prim.Native.Nat.{_^_};
+ghost use lib.Dec.{eqb};
 ghost use lib.ListN.{length};
 ghost use Rattle.setting.specs.Setting.{lists, HasRows};
 ghost use Rattle.outline.specs.declared.Checked.the-variants.{Curves};
@@ -9,11 +11,11 @@ ghost use Rattle.outline.specs.Inside.{checkedOf};
 ghost use Rattle.outline_changed.specs.Changed.{changed};
 ghost use Rattle.bound_coordinate.specs.Inside.{Small};
 ghost use Rattle.band.specs.Banding.{bandOutlined, writtenBy};
-ghost use Rattle.band_comparing.specs.Inside.{Lent};
 ghost use Rattle.band_exchanged.specs.Exchange.{recordsFor, exchanged, exchangedList};
 ghost use Rattle.band_exchange.specs.Inside.{exchangedRead, Exchangeable};
 use crate::replacing::replace;
 use band::banding::Banded;
+use band::outline_band::smaller;
 use band_comparing::Compared;
 use band_comparing::Stand;
 use band_comparing::compare;
@@ -64,8 +66,8 @@ pub fn exchange(
     }
 }
 
-// The checks from 7 on of an outline without faults that has this many curves, for m pieces: their rows are copied out
-// of the table.
+// The checks from 7 on of an outline without faults that has this many curves, for m pieces, whose rows are copied out
+// of the table: 7, then 22 and 23.
 fn exchange_in(
     ns: &[i32],
     t: i64,
@@ -86,51 +88,8 @@ fn exchange_in(
 {
     let mut rows = [m as i64; 297];
     bound_row_table::comparing::put_compared(&mut rows, m);
-    let scale = 5040 / m;
-    exchange_rows(
-        &rows,
-        m,
-        scale,
-        ns,
-        t,
-        curves,
-        number,
-        curve,
-        given,
-        records,
-    )
-}
-
-// The less of two numbers.
-fn least(a: usize, b: usize) -> usize
-    ensures { λ r. ⌜ r ≡ min a b ⌝ }
-{
-    if a <= b { a } else { b }
-}
-
-// By the rows lent, which are those of m pieces: check 7 of the outline, then 22 and 23.
-fn exchange_rows(
-    rows: &[i64],
-    m: usize,
-    scale: usize,
-    ns: &[i32],
-    t: i64,
-    curves: usize,
-    number: usize,
-    curve: &[i32],
-    given: usize,
-    records: &mut [i32],
-) -> Banded
-    requires { ⌜ (Lent m scale (now rows)) × (Curves curves ≡ checkedOf (outlined 4096 m (now ns)))
-        × (length (now curve) ≡ 13) × (Small (2 ^ 27) t) ⌝ }
-    ensures { λ r. ⌜ r
-        ≡ exchangedRead (lists m) t (now (ns .entry)) number (now (curve .entry)) given (now (records .entry)) ⌝ }
-    ensures { λ r. ⌜ now (records .exit)
-        ≡ writtenBy r (recordsFor (lists m) t (changed (now (ns .entry)) number (now (curve .entry))))
-        (now (records .entry)) ⌝ }
-{
-    let shown = least(given, records.len());
-    match compare(records, shown, rows, m, scale, ns, t, curves, number) {
+    let shown = smaller(given, records.len());
+    match compare(records, shown, &rows, m, 5040 / m, ns, t, curves, number) {
         Compared::Stopped(refusal) => Banded::Refused(refusal),
         Compared::Through {
             first,
@@ -141,11 +100,8 @@ fn exchange_rows(
             if curves <= number {
                 return Banded::Refused(Refusal::NoSuchCurve(number));
             }
-            if reach != given {
-                return Banded::Refused(Refusal::OtherRecords(least(reach, whole)));
-            }
-            if given != whole {
-                return Banded::Refused(Refusal::OtherRecords(least(reach, whole)));
+            if !are_records(reach, given, whole) {
+                return Banded::Refused(Refusal::OtherRecords(smaller(reach, whole)));
             }
             exchange_by(
                 records,
@@ -161,6 +117,13 @@ fn exchange_rows(
             )
         }
     }
+}
+
+// Whether numbers that agree as far as `reach` are all records: as many are given, and as many are the whole.
+fn are_records(reach: usize, given: usize, whole: usize) -> bool
+    ensures { λ r. ⌜ r ≡ (eqb reach given && eqb given whole) ⌝ }
+{
+    reach == given && given == whole
 }
 
 // The checks of the changed outline, and its records. The outline passed all of its own; its records are the first

@@ -78,7 +78,7 @@ foretold σ T ns room =
           ]
     ]
 
--- ---- the caller's list afterwards: one number a curve in front of what stood behind; a refusal alters nothing
+-- ---- the caller's list afterwards: a number for each curve, then the rest as it was; a refusal alters nothing
 abbrev pub numbersWritten : Foretold → List ℤ → List ℤ → List ℤ
 numbersWritten (Refused r) numbers old = old
 numbersWritten (Done a b) numbers old = numbers ++ drop (length numbers) old

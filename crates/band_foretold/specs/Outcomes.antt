@@ -16,14 +16,14 @@ abbrev pub Tells : Setting → ℤ → Curve → ℤ → Type 0
 Tells σ T c (pos j) = IsDepth σ T c j
 Tells σ T c (negsuc i) = (i ≡ 0) × NoDepth σ T c
 
--- what banding does where a leaves and b nodes are foretold, and a is not 0
+-- what banding does where `a` leaves and `b` nodes are foretold, and `a` is not 0
 pub record Foretells (σ : Setting) (T : ℤ) (ns : List ℤ) (a b : ℕ) : Type 0 where
-  -- banding meets no 7, whatever is lent
+  -- banding never refuses with 7, whatever is lent
   pub no-wide : (room k n : ℕ) → banded σ T ns room ≡ Refused (TooWide k n) → ⊥
-  -- with a records lent banding meets no 8
+  -- where `a` records are lent, banding never refuses with 8
   pub no-few : (room l : ℕ) → recordLength σ * a ≤ room → banded σ T ns room ≡ Refused (TooFewRecords l) → ⊥
   -- banding never counts more leaves, nor more nodes
   pub no-more : (room x y z : ℕ) → banded σ T ns room ≡ Done x y z → (y ≤ a) × (z ≤ b)
-  -- with a records lent banding accepts, where the setting takes 256 leaves of every curve
+  -- where `a` records are lent banding accepts, if the setting allows 256 leaves for every curve
   pub accepts : (room : ℕ) → 256 * σ .most ≤ σ .leaves → recordLength σ * a ≤ room
       → (x : ℕ) × (y : ℕ) × (z : ℕ) × (banded σ T ns room ≡ Done x y z)

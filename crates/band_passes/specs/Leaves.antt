@@ -27,7 +27,7 @@ firstTooWide σ T k (c ∷ cs) =
       | none ↦ firstTooWide σ T (suc k) cs
     ]
 
--- ---- the report
+-- ---- the report: how many leaves and nodes. Where 7 is not answered, every end of a walk is a leaf.
 unfoldable pub leavesOf : Setting → ℤ → List Curve → ℕ
 leavesOf σ T [] = 0
 leavesOf σ T (c ∷ cs) = length (endsOf σ T c) + leavesOf σ T cs

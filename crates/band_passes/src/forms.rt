@@ -2,6 +2,7 @@
 // can hold a list.
 ghost use mathlib.Core.Path.{_≡_};
 ghost use Rattle.band_passes.specs.Inside.{numbersOf, nextOf, sixthsOf, StandsAt};
+use bound_pieces::Pieces;
 use outline_binary64::reading;
 use outline_reading::outline_curves::next_at;
 
@@ -10,6 +11,13 @@ pub enum Form {
     Outline,
     Binary64,
     Spline,
+}
+
+// A list of curves without faults: what their test takes from the number of pieces, its form, and how many they are.
+pub struct Listed {
+    pub pieces: Pieces,
+    pub form: Form,
+    pub curves: usize,
 }
 
 // The index of the curve after the one at index `at`.

@@ -10,6 +10,7 @@ ghost use Rattle.band_records.specs.Records.{recordsOf, allRecords};
 ghost use Rattle.band_passes.specs.Leaves.{leavesOf};
 ghost use Rattle.band_passes.specs.Inside.{numbersOf, curvesIn, EndsMeet, Fillable};
 use crate::forms::Form;
+use crate::forms::Listed;
 use crate::forms::next_of;
 use band_records::put_record;
 use band_records::put_record_higher;
@@ -147,21 +148,22 @@ fn write_higher(
 pub fn write_all(
     records: &mut [i32],
     rows: &[i64],
-    pieces: Pieces,
-    form: Form,
+    list: Listed,
     ns: &[i32],
     xs: &[f64],
     t: i64,
-    curves: usize,
 ) -> usize
-    requires { ⌜ (PiecesReady pieces (now rows))
-        × (Fillable (settingOf pieces) t form (numbersOf form (now ns) (now xs)) curves (length (now records))) ⌝ }
-    ensures { λ r. ⌜ r ≡ recordLength (settingOf pieces) * leavesOf (settingOf pieces) t
-        (curvesIn form (numbersOf form (now (ns .entry)) (now (xs .entry))) curves) ⌝ }
+    requires { ⌜ (PiecesReady (list .pieces) (now rows)) × (Fillable (settingOf (list .pieces)) t (list .form)
+        (numbersOf (list .form) (now ns) (now xs)) (list .curves) (length (now records))) ⌝ }
+    ensures { λ r. ⌜ r ≡ recordLength (settingOf (list .pieces)) * leavesOf (settingOf (list .pieces)) t
+        (curvesIn (list .form) (numbersOf (list .form) (now (ns .entry)) (now (xs .entry))) (list .curves)) ⌝ }
     ensures { λ r. ⌜ now (records .exit) ≡ sets (now (records .entry)) 0
-        (allRecords (settingOf pieces) t 0
-        (curvesIn form (numbersOf form (now (ns .entry)) (now (xs .entry))) curves)) ⌝ }
+        (allRecords (settingOf (list .pieces)) t 0
+        (curvesIn (list .form) (numbersOf (list .form) (now (ns .entry)) (now (xs .entry))) (list .curves))) ⌝ }
 {
+    let pieces = list.pieces;
+    let form = list.form;
+    let curves = list.curves;
     let mut at: usize = 0;
     let mut place: usize = 0;
     let mut k: usize = 0;

@@ -14,6 +14,7 @@ use Rattle.setting.proofs.Pieces.{degree-takes}
 use Rattle.integers.proofs.Stores.{sets-append}
 use Rattle.curve_nodes.specs.declared.Curve.{Curve}
 use Rattle.curve_nodes.specs.Bounds.{Sized}
+use Rattle.curve_nodes.specs.Nodes.{depth}
 use Rattle.bound_row_table.specs.Inside.{Copied}
 use Rattle.bound_coordinate.specs.declared.terms.Terms.{Terms}
 use Rattle.bound_coordinate.specs.Terms.{termsOf}
@@ -36,10 +37,17 @@ four-sets l at {a} {b} {c} {d} {c′ = u} {d′ = v} ea eb ec ed =
     ∙ ap₂ (λ x y. set (set (set (set l at a) (at + 1) b) (at + 2) x) (at + 3) y) ec ed
     ∙ rw (add-one, add-two, add-three)
 
--- two stores in front of a run
-pub head-sets : (l : List ℤ) (at k n : ℕ) (vs : List ℤ) {a b : ℤ} {l′ : List ℤ} → a ≡ pos k → b ≡ pos n
-    → l′ ≡ sets (set (set l at a) (at + 1) b) (at + 2) vs → l′ ≡ sets l at (nodeNumbers k n vs)
-head-sets l at k n vs ea eb e = e ∙ ap₂ (λ x y. sets (set (set l at x) (at + 1) y) (at + 2) vs) ea eb ∙ rw (add-one, add-two)
+pub numbers-kept : (l : List ℤ) (at k n : ℕ) {head : List ℤ} → head ≡ sets l at (pos k ∷ pos n ∷ []) → length head ≡ length l
+numbers-kept l at k n = kept l at (pos k ∷ pos n ∷ [])
+
+-- the record of a node: its two numbers, in front of its boxes
+module _ (σ : Setting) (c : Curve) (l : List ℤ) (at k n : ℕ) {e : ℕ} {head whole : List ℤ} (deep : e ≡ depth n)
+    (numbers : head ≡ sets l at (pos k ∷ pos n ∷ [])) (boxes : whole ≡ sets head (at + 2) (boxesTo σ (breakPoints σ) e c)) where
+  pub head-sets : whole ≡ sets l at (nodeNumbers k n (boxesTo σ (breakPoints σ) (depth n) c))
+  head-sets = boxes ∙ ap₂ (λ h j. sets h (at + 2) (boxesTo σ (breakPoints σ) j c)) numbers deep ∙ rw add-two
+
+  pub head-kept : length whole ≡ length l
+  head-kept = kept l at (nodeNumbers k n (boxesTo σ (breakPoints σ) (depth n) c)) head-sets
 
 -- ---- the boxes of a node
 pub boxes-length : (σ : Setting) (n k : ℕ) (c : Curve) → length (boxesTo σ n k c) ≡ 4 * n

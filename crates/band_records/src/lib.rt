@@ -1,9 +1,11 @@
 // Leaf records: what they are, and one written to a list.
 ghost use mathlib.Core.Path.{_≡_};
 ghost use mathlib.Core.Bool.{false};
+ghost use mathlib.Core.List.{[], _∷_};
 ghost use Prim.Native.Nat.{suc, _+_, _*_, _≤_, _<_, _^_};
 ghost use lib.ListN.{length};
 ghost use lib.Seq.{sets};
+ghost use lib.IntN.{pos};
 ghost use Rattle.setting.specs.Setting.{breakPoints, recordLength, greatestNode};
 ghost use Rattle.curve_nodes.specs.Bounds.{Sized};
 ghost use Rattle.curve_nodes.specs.Nodes.{depth};
@@ -77,6 +79,15 @@ fn put_low_boxes(
     }
 }
 
+// The two numbers of a node before its boxes: its curve's number and its own.
+fn put_numbers(records: &mut [i32], at: usize, number: u32, node: u32)
+    requires { ⌜ (at + 2 ≤ length (now records)) × (number < 2 ^ 31) × (node < 2 ^ 31) ⌝ }
+    ensures { λ _. ⌜ now (records .exit) ≡ sets (now (records .entry)) at (pos number ∷ pos node ∷ []) ⌝ }
+{
+    records[at] = number as i32;
+    records[at + 1] = node as i32;
+}
+
 // The record of a node of degree 1 to 3: its curve's number, its own, and its boxes, by what goes with the number of
 // pieces, whose rows are lent.
 pub fn put_record(
@@ -95,8 +106,7 @@ pub fn put_record(
         ≡ sets (now (records .entry)) at
         (nodeNumbers number node (boxesTo (settingOf pieces) (breakPoints (settingOf pieces)) (depth node) curve)) ⌝ }
 {
-    records[at] = number as i32;
-    records[at + 1] = node as i32;
+    put_numbers(records, at, number, node);
     let depth = curve_nodes::depth(node);
     put_low_boxes(records, at + 2, rows, curve, depth, pieces);
 }
@@ -119,8 +129,7 @@ pub fn put_record_higher(
         ≡ sets (now (records .entry)) at
         (nodeNumbers number node (boxesTo (settingOf pieces) (breakPoints (settingOf pieces)) (depth node) curve)) ⌝ }
 {
-    records[at] = number as i32;
-    records[at + 1] = node as i32;
+    put_numbers(records, at, number, node);
     let depth = curve_nodes::depth(node);
     crate::higher::put_higher_boxes(records, at + 2, rows, curve, depth, pieces.scale, pieces.m);
 }

@@ -1,15 +1,17 @@
 // Whether the leaves of a list's curves surely have room, without a walk.
 ghost use mathlib.Core.Path.{_≡_};
 ghost use mathlib.Core.Bool.{true};
-ghost use Prim.Native.Nat.{_≤_, _<_, _*_, _^_};
+ghost use Prim.Native.Nat.{_≤_, _<_, _*_, _^_, max};
+ghost use lib.IntN.{natAbs};
 ghost use Rattle.setting.specs.Setting.{HasRows};
 ghost use Rattle.curve_nodes.specs.Bounds.{Sized};
-ghost use Rattle.curve_nodes.specs.Differences.{largest};
+ghost use Rattle.curve_nodes.specs.Differences.{difference, largest};
 ghost use Rattle.bound_rows.specs.Rule.{gapOf};
 ghost use Rattle.bound_pieces.specs.Inside.{times, piecesOf, settingOf};
 ghost use Rattle.band_passes.specs.Inside.{numbersOf, Readable, curvesIn};
 ghost use Rattle.band_room.specs.Inside.{Reaches, Few, Fits};
 use band_passes::forms::Form;
+use band_passes::forms::Listed;
 use band_passes::forms::next_of;
 use bound_coordinate::terms::difference_at;
 use bound_pieces::Pieces;
@@ -21,22 +23,30 @@ use outline_binary64::reading;
 use outline_reading::curve_values::curve_at;
 use outline_splines::spline_at;
 
+// The larger of the sizes of a curve's two second differences from place k on.
+fn larger_at(curve: Curve, k: usize) -> u64
+    requires { ⌜ (Sized 0 curve) × (k < 4) ⌝ }
+    ensures { λ r. ⌜ r ≡ max (natAbs (difference (curve .x) k)) (natAbs (difference (curve .y) k)) ⌝ }
+{
+    let xs = curve.x;
+    let ys = curve.y;
+    larger(size(difference_at(xs, k)), size(difference_at(ys, k)))
+}
+
 // The size of the largest second difference of a curve of degree 1 to 3.
 fn largest_size(curve: Curve) -> u64
     requires { ⌜ (Sized 0 curve) × (curve .degree ≤ 3) ⌝ }
     ensures { λ r. ⌜ (largest curve ≤ r) × (r ≤ 2 ^ 22) ⌝ }
 {
     let degree = curve.degree;
-    let xs = curve.x;
-    let ys = curve.y;
     if degree < 2 {
         return 0;
     }
-    let first = larger(size(difference_at(xs, 0)), size(difference_at(ys, 0)));
+    let first = larger_at(curve, 0);
     if degree < 3 {
         return first;
     }
-    let second = larger(size(difference_at(xs, 1)), size(difference_at(ys, 1)));
+    let second = larger_at(curve, 1);
     larger(first, second)
 }
 
@@ -96,20 +106,16 @@ fn most_leaves(pieces: Pieces, curve: Curve, t: i64) -> usize
 
 // Whether the curves of a list without faults surely have no more than `room` leaves, none of them too wide. What is
 // left of the room is counted with one leaf for each curve taken off, so that a list with just that room is soon known.
-pub fn surely_fit(
-    pieces: Pieces,
-    form: Form,
-    ns: &[i32],
-    xs: &[f64],
-    t: i64,
-    curves: usize,
-    room: usize,
-) -> bool
-    requires { ⌜ (HasRows (pieces .m)) × (pieces ≡ piecesOf (pieces .m) (pieces .sixths))
-        × (Readable (settingOf pieces) form (numbersOf form (now ns) (now xs)) curves) ⌝ }
-    ensures { λ r. ⌜ (r ≡ true → Fits (settingOf pieces) t
-        (curvesIn form (numbersOf form (now (ns .entry)) (now (xs .entry))) curves) room) ⌝ }
+pub fn surely_fit(list: Listed, ns: &[i32], xs: &[f64], t: i64, room: usize) -> bool
+    requires { ⌜ (HasRows (list .pieces .m)) × (list .pieces ≡ piecesOf (list .pieces .m) (list .pieces .sixths))
+        × (Readable (settingOf (list .pieces)) (list .form) (numbersOf (list .form) (now ns) (now xs))
+        (list .curves)) ⌝ }
+    ensures { λ r. ⌜ (r ≡ true → Fits (settingOf (list .pieces)) t
+        (curvesIn (list .form) (numbersOf (list .form) (now (ns .entry)) (now (xs .entry))) (list .curves)) room) ⌝ }
 {
+    let pieces = list.pieces;
+    let form = list.form;
+    let curves = list.curves;
     if room < curves {
         return false;
     }

@@ -84,22 +84,22 @@ wider e = mul-lt-mul-of-pos-right (wide) (down-pos e)
 sum-pos : (a b : ℕ) → 0 < b → 0 < a + b
 sum-pos a b h = omega arith
 
-pub cut-low : (x : Float) → le (low-end 20) x ≡ true → le x (high-end 20) ≡ true → T (le (low-end 63) x)
+pub near-low : (x : Float) → le (low-end 20) x ≡ true → le x (high-end 20) ≡ true → T (le (low-end 63) x)
 unfolding le
-cut-low nan p q = absurd (false≢true p)
-cut-low (inf true) p q = absurd (false≢true p)
-cut-low (inf false) p q = absurd (false≢true q)
-cut-low (fin false m e) p q = or-l (ltb 0 (bound 63 e + m * up e * 1)) _ (lt→ltb 0 (bound 63 e + m * up e * 1) (omega (arith, bound-pos 63 e)))
-cut-low (fin true m e) p q =
+near-low nan p q = absurd (false≢true p)
+near-low (inf true) p q = absurd (false≢true p)
+near-low (inf false) p q = absurd (false≢true q)
+near-low (fin false m e) p q = or-l (ltb 0 (bound 63 e + m * up e * 1)) _ (lt→ltb 0 (bound 63 e + m * up e * 1) (omega (arith, bound-pos 63 e)))
+near-low (fin true m e) p q =
     or-l (ltb (m * up e * 1) (bound 63 e)) _ (lt→ltb (m * up e * 1) (bound 63 e) (omega (arith, within 20 true m e p q, wider e)))
 
-pub cut-high : (x : Float) → le (low-end 20) x ≡ true → le x (high-end 20) ≡ true → T (lt x (high-end 63))
+pub near-high : (x : Float) → le (low-end 20) x ≡ true → le x (high-end 20) ≡ true → T (lt x (high-end 63))
 unfolding le lt
-cut-high nan p q = absurd (false≢true p)
-cut-high (inf true) p q = absurd (false≢true p)
-cut-high (inf false) p q = absurd (false≢true q)
-cut-high (fin false m e) p q = lt→ltb (m * up e * 1) (bound 63 e) (omega (arith, within 20 false m e p q, wider e))
-cut-high (fin true m e) p q = lt→ltb 0 (m * up e * 1 + bound 63 e) (sum-pos (m * up e * 1) (bound 63 e) (bound-pos 63 e))
+near-high nan p q = absurd (false≢true p)
+near-high (inf true) p q = absurd (false≢true p)
+near-high (inf false) p q = absurd (false≢true q)
+near-high (fin false m e) p q = lt→ltb (m * up e * 1) (bound 63 e) (omega (arith, within 20 false m e p q, wider e))
+near-high (fin true m e) p q = lt→ltb 0 (m * up e * 1 + bound 63 e) (sum-pos (m * up e * 1) (bound 63 e) (bound-pos 63 e))
 
 -- made an f64 again it is as it was exactly where x is near
 pub near-is : (x : Float) → T (fits binary64 x) → le (low-end 20) x ≡ true → le x (high-end 20) ≡ true → eq (ofInt binary64 (toSigned 63 x)) x ≡ nearOf x

@@ -23,7 +23,7 @@ use Rattle.curve_halves.specs.Sizes.{Each}
 use Rattle.bound_coordinate.specs.Inside.{Small, Computed}
 use Rattle.bound_coordinate.specs.declared.terms.Terms.{Terms}
 use Rattle.bound_coordinate.specs.declared.higher.HigherTerms.{HigherTerms}
-use Rattle.bound_coordinate.specs.Terms.{Computable, ComputableAt, NumeratorAt, chordAt, pairOf, numeratorOf, denominatorOf}
+use Rattle.bound_coordinate.specs.Terms.{Computable, ComputableAt, NumeratorAt, chordAt, pairOf, numeratorOf, denominatorOf, lowBy, highBy}
 use Rattle.bound_coordinate.specs.HigherTerms.{raiseOf, HigherComputable, HigherComputableAt, higherNumerator, Raised, RoundedDown}
 use Rattle.bound_coordinate.proofs.Coordinates.{pieces, divisors, bounded, held-left, computed-as, restored}
 use Rattle.bound_coordinate.proofs.Quotients.{factor-some, denominator-positive, ceiling-raised}
@@ -191,7 +191,7 @@ pub record Dividend (d s c : ℕ) (N : ℤ) : Type 0 where
   pub scaled : c * d ≡ 5040
   pub most : d ≤ 48
 
-pub dividend : {d s c i : ℕ} (rows : List ℤ) {t : Terms} (p q : ℕ) → ComputableAt d s c i rows t → p < 108 → q < 108
+dividend : {d s c i : ℕ} (rows : List ℤ) {t : Terms} (p q : ℕ) → ComputableAt d s c i rows t → p < 108 → q < 108
     → Dividend d s c (numeratorOf rows t p q i)
 dividend {d} {s} {c} {i} rows {t} p q at hp hq = record {
   size = le-trans scaled (omega (arith, mul-left-comm m (2 ^ 20) (2 ^ s), mul-le-mul (h .less) (le-refl (2 ^ s))));
@@ -293,10 +293,10 @@ module _ {m s c : ℕ} {N : ℤ} (h : Dividend m s c N) {r : ℤ} (e : r ≡ N) 
     under = λ u. h .fits;
   }
 
-  pub low-size : natAbs (stored w64 r) ≤ 625 * 2 ^ 28 * (m * 2 ^ s)
+  low-size : natAbs (stored w64 r) ≤ 625 * 2 ^ 28 * (m * 2 ^ s)
   low-size = rw (divided .is tt) (le-trans (h .size) (omega arith))
 
-  pub low-computed : {b : ℤ} → Computed (2 ^ 28) (floor (stored w64 r) (denominatorOf m s)) b
+  low-computed : {b : ℤ} → Computed (2 ^ 28) (floor (stored w64 r) (denominatorOf m s)) b
       → Computed (2 ^ 28) (floor N (denominatorOf m s)) (stored w64 b)
   low-computed k = restored (computed-as (ap (λ z. floor z (denominatorOf m s)) (divided .is tt)) k) tt
 
@@ -307,7 +307,7 @@ module _ {m s c : ℕ} {N : ℤ} (h : Dividend m s c N) {r : ℤ} (e : r ≡ N) 
   abbrev raised : Held (stored w64 r +ℤ stored w64 (shiftedDivisor m s -ℤ pos 1))
   raised = held-add divided (held-stored w64 (shiftedDivisor m s -ℤ pos 1) (less (h .most) (h .shallow)))
 
-  pub raised-fits : SFits w64 (stored w64 r +ℤ stored w64 (shiftedDivisor m s -ℤ pos 1))
+  raised-fits : SFits w64 (stored w64 r +ℤ stored w64 (shiftedDivisor m s -ℤ pos 1))
   raised-fits = fits! raised tt
 
   abbrev S : ℤ
@@ -316,13 +316,46 @@ module _ {m s c : ℕ} {N : ℤ} (h : Dividend m s c N) {r : ℤ} (e : r ≡ N) 
   raised-is : S ≡ N +ℤ (D -ℤ pos 1)
   raised-is = is! (held-stored w64 _ raised) tt
 
-  pub high-size : natAbs S ≤ 625 * 2 ^ 28 * (m * 2 ^ s)
+  high-size : natAbs S ≤ 625 * 2 ^ 28 * (m * 2 ^ s)
   high-size = rw raised-is (le-trans (abs-add N (D -ℤ pos 1)) (le-trans (add-le-add (h .size) (abs-add D (negsuc 0)))
       (omega (arith, mul-le-mul (factor-some c m (h .scaled)) (pow-pos s)))))
 
-  pub high-computed : {b : ℤ} → Computed (2 ^ 28) (floor S D) b → Computed (2 ^ 28) (ceiling N D) (stored w64 b)
+  high-computed : {b : ℤ} → Computed (2 ^ 28) (floor S D) b → Computed (2 ^ 28) (ceiling N D) (stored w64 b)
   high-computed k = restored (computed-as (ap (λ z. floor z D) raised-is
       ∙ ceiling-raised N (denominator-positive (factor-some c m (h .scaled)) s)) k) tt
+
+-- ---- the low and the high at break point i, from the number that is divided
+module _ {d s c i : ℕ} {rows : List ℤ} {t : Terms} (at : ComputableAt d s c i rows t) where
+  low-dividend : Dividend d s c (numeratorOf rows t (t .row0 + (3 * i + 1)) (t .row1 + (3 * i + 1)) i)
+  low-dividend = dividend rows (t .row0 + (3 * i + 1)) (t .row1 + (3 * i + 1)) at (omega arith) (omega arith)
+
+  high-dividend : Dividend d s c (numeratorOf rows t (t .row0 + 3 * i) (t .row1 + 3 * i) i)
+  high-dividend = dividend rows (t .row0 + 3 * i) (t .row1 + 3 * i) at (omega arith) (omega arith)
+
+  -- what rounding down asks
+  abbrev Asked : ℤ → Type 0
+  Asked z = (natAbs z ≤ 625 * 2 ^ 28 * (d * 2 ^ s)) × (s ≤ 24) × (c * d ≡ 5040) × (d ≤ 48)
+
+  pub low-asked : {r : ℤ} → r ≡ numeratorOf rows t (t .row0 + (3 * i + 1)) (t .row1 + (3 * i + 1)) i → Asked (stored w64 r)
+  low-asked e = let h = low-dividend in (low-size h e, h .shallow, h .scaled, h .most)
+
+  pub low-by : {r b : ℤ} → r ≡ numeratorOf rows t (t .row0 + (3 * i + 1)) (t .row1 + (3 * i + 1)) i
+      → Computed (2 ^ 28) (floor (stored w64 r) (denominatorOf d s)) b → Computed (2 ^ 28) (lowBy d s rows t i) (stored w64 b)
+  unfolding lowBy
+  low-by e = low-computed low-dividend e
+
+  module _ {r : ℤ} (e : r ≡ numeratorOf rows t (t .row0 + 3 * i) (t .row1 + 3 * i) i) where
+    pub high-fits : SFits w64 (stored w64 r +ℤ stored w64 (shiftedDivisor d s -ℤ pos 1))
+    high-fits = raised-fits high-dividend e
+
+    pub high-asked : Asked (stored w64 (stored w64 r +ℤ stored w64 (shiftedDivisor d s -ℤ pos 1)))
+    high-asked = let h = high-dividend in (high-size h e, h .shallow, h .scaled, h .most)
+
+    pub high-by : {b : ℤ}
+        → Computed (2 ^ 28) (floor (stored w64 (stored w64 r +ℤ stored w64 (shiftedDivisor d s -ℤ pos 1))) (denominatorOf d s)) b
+        → Computed (2 ^ 28) (highBy d s rows t i) (stored w64 b)
+    unfolding highBy
+    high-by k = high-computed high-dividend e k
 
 -- ---- and at degrees 4 and 5
 module _ {m s c : ℕ} {n : ℤ} (h : HigherDividend m s c n) {r : ℤ} (e : r ≡ n) where

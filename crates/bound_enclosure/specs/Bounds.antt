@@ -13,7 +13,7 @@ use Rattle.integers.specs.Rounding.{floor, ceiling}
 use Rattle.curve_nodes.specs.Differences.{difference}
 use Rattle.bound_rows.specs.Rows.{Row}
 
--- the rows exchanged
+-- each row with its high and its low swapped, by which the low is computed
 abbrev pub exchanged : List Row → List Row
 exchanged [] = []
 exchanged (ρ ∷ ρs) = record { high = ρ .low; low = ρ .high } ∷ exchanged ρs
@@ -30,14 +30,14 @@ rowSum (ρ ∷ ρs) i k cs =
 abbrev pub chord : ℕ → ℕ → ℕ → List ℤ → ℤ
 chord m d i cs = pos 10000 *ℤ ((pos m -ℤ pos i) *ℤ entry cs 0 +ℤ pos i *ℤ entry cs d)
 
--- the high at break point i, in sixteenths: 16 × (((m − i) × C0 + i × Cd) / m + sum of row × difference / 10000),
--- rounded up
+-- the high at break point i, in sixteenths: 16 × (((m − i) × C0 + i × Cd) / m + sum of row × difference / 10000) / D,
+-- rounded up, where C0 and Cd are the first and the last of cs
 unfoldable pub high : (m : ℕ) → List Row → (D : ℤ) (d : ℕ) → List ℤ → ℕ → ℤ
 high m ρs D d cs i = ceiling
     (pos 16 *ℤ (chord m d i cs +ℤ pos m *ℤ rowSum ρs i 0 cs))
     (pos 10000 *ℤ pos m *ℤ D)
 
--- the low swaps the rows and is rounded down
+-- the low at break point i: that formula with the rows swapped, rounded down
 unfoldable pub low : (m : ℕ) → List Row → (D : ℤ) (d : ℕ) → List ℤ → ℕ → ℤ
 low m ρs D d cs i = floor
     (pos 16 *ℤ (chord m d i cs +ℤ pos m *ℤ rowSum (exchanged ρs) i 0 cs))

@@ -77,6 +77,11 @@ sums-tested : T (every-below 8 (λ n. sumsFine (suc n)))
 unfolding table rowsOf gapOf largestOf
 sums-tested = tt
 
+-- a gap of degree 3, read at the break points 0 and 1, at one of them
+gap-chosen : (m k : ℕ) (b : Bool) {i x₀ x₁ : ℕ} → cond b 1 0 ≡ i → x₀ ≡ gapAt m 3 k 0 → x₁ ≡ gapAt m 3 k 1 → cond b x₁ x₀ ≡ gapAt m 3 k i
+gap-chosen m k true e e₀ e₁ = e₁ ∙ ap (gapAt m 3 k) e
+gap-chosen m k false e e₀ e₁ = e₀ ∙ ap (gapAt m 3 k) e
+
 module _ {m : ℕ} (h : HasRows m) where
   abbrev first : Bool
   first = eqb (max (gapAt m 3 0 0 + gapAt m 3 1 0) (gapAt m 3 0 1 + gapAt m 3 1 1)) (gapOf m 3)
@@ -99,17 +104,12 @@ module _ {m : ℕ} (h : HasRows m) where
     widest : (b : Bool) → ltb a₀ a₁ ≡ b → widestAt m ≡ cond b 1 0
     widest b e = ap (λ (t : Bool). cond t 1 0) (ap₂ ltb (sym ea₀) (sym ea₁) ∙ e)
 
-    pub pieces-second : a₀ < a₁ → piecesBy m sixths s a₁ b₁ g q r ≡ piecesOf m sixths
+    -- the corner is at break point 1 where the first gap is wider there, and else at break point 0
+    pub pieces-read : (b : Bool) → ltb a₀ a₁ ≡ b → piecesBy m sixths s (cond b a₁ a₀) (cond b b₁ b₀) g q r ≡ piecesOf m sixths
     unfolding piecesOf nearGap otherGap
-    pieces-second l =
-        let w = sym (widest true (lt-ltb _ _ l)) in
-        λ j. piecesBy m sixths ((es ∙ single-is) j) ((ea₁ ∙ ap (gapAt m 3 0) w) j) ((eb₁ ∙ ap (gapAt m 3 1) w) j) (largest j) (eq j) (er j)
-
-    pub pieces-first : a₁ ≤ a₀ → piecesBy m sixths s a₀ b₀ g q r ≡ piecesOf m sixths
-    unfolding piecesOf nearGap otherGap
-    pieces-first l =
-        let w = sym (widest false (le-ltb _ _ l)) in
-        λ j. piecesBy m sixths ((es ∙ single-is) j) ((ea₀ ∙ ap (gapAt m 3 0) w) j) ((eb₀ ∙ ap (gapAt m 3 1) w) j) (largest j) (eq j) (er j)
+    pieces-read b e =
+        let w = sym (widest b e) in
+        λ j. piecesBy m sixths ((es ∙ single-is) j) (gap-chosen m 0 b w ea₀ ea₁ j) (gap-chosen m 1 b w eb₀ eb₁ j) (largest j) (eq j) (er j)
 
 -- ---- the gaps of degrees 4 and 5: G stands at break point 1, the others at break point 0; one and two pieces have none
 abbrev noGaps : Gaps
@@ -144,16 +144,25 @@ higher-tested : T (every-below 6 (λ n. quarticFine (suc (suc (suc n))) && quint
 unfolding table rowsOf gapOf largestOf
 higher-tested = tt
 
-module _ {m : ℕ} (h : HasRows m) (l : 3 ≤ m) (d : ℕ) {a b e f g : ℕ} (ea : a ≡ gapAt m d 0 1) (eb : b ≡ gapAt m d 1 1) (ee : e ≡ gapAt m d 2 1)
-    (ef : f ≡ gapAt m d 0 0) (eg : g ≡ gapAt m d 1 0) where
+-- those that both degrees read: three at break point 1, two at break point 0
+pub record FiveGaps (m d a b e f g : ℕ) : Type 0 where
+  pub has : HasRows m
+  pub many : 3 ≤ m
+  pub first-there : a ≡ gapAt m d 0 1
+  pub second-there : b ≡ gapAt m d 1 1
+  pub third-there : e ≡ gapAt m d 2 1
+  pub first : f ≡ gapAt m d 0 0
+  pub second : g ≡ gapAt m d 1 0
+
+module _ {m d a b e f g : ℕ} (h : FiveGaps m d a b e f g) where
   tested : T (quarticFine m && quinticFine m)
-  tested = many-tested (λ m. quarticFine m && quinticFine m) higher-tested m h l
+  tested = many-tested (λ m. quarticFine m && quinticFine m) higher-tested m (h .has) (h .many)
 
   quartic : T (quarticFine m)
   quartic = and-left (quarticFine m) (quinticFine m) tested
 
   three-is : a + b + e ≡ three m d
-  three-is = λ j. ea j + eb j + ee j
+  three-is = λ j. h .first-there j + h .second-there j + h .third-there j
 
   pub quartic-gaps : d ≡ 4 → record { whole = a + b + e; outer = f; first = f; second = g } ≡ gapsOf m d
   quartic-gaps q =
@@ -161,8 +170,8 @@ module _ {m : ℕ} (h : HasRows m) (l : 3 ≤ m) (d : ℕ) {a b e f g : ℕ} (ea
       ∙ eqb→eq _ _ (and-left (eqb (three m 4) (gapOf m 4)) (eqb (gapAt m 4 2 0) 0) quartic) ∙ ap (gapOf m) (sym q) in
       let none : gapAt m d (d - 2) 0 ≡ 0 = ap (λ d. gapAt m d (d - 2) 0) q
       ∙ eqb→eq _ _ (and-right (eqb (three m 4) (gapOf m 4)) (eqb (gapAt m 4 2 0) 0) quartic) in
-      let outer : f ≡ gapAt m d 0 0 + gapAt m d (d - 2) 0 = omega (arith, ef, none) in
-      (λ j. record { whole = whole j; outer = outer j; first = ef j; second = eg j }) ∙ sym (many-gaps m d l)
+      let outer : f ≡ gapAt m d 0 0 + gapAt m d (d - 2) 0 = omega (arith, h .first, none) in
+      (λ j. record { whole = whole j; outer = outer j; first = h .first j; second = h .second j }) ∙ sym (many-gaps m d (h .many))
 
   pub quintic-gaps : {x y : ℕ} → x ≡ gapAt m d 3 1 → y ≡ gapAt m d 3 0 → d ≡ 5
       → record { whole = a + b + e + x; outer = f + y; first = f; second = g } ≡ gapsOf m d
@@ -170,7 +179,8 @@ module _ {m : ℕ} (h : HasRows m) (l : 3 ≤ m) (d : ℕ) {a b e f g : ℕ} (ea
       let whole : a + b + e + _ ≡ gapOf m d = ap₂ _+_ three-is ex ∙ ap (λ d. three m d + gapAt m d 3 1) q
       ∙ eqb→eq _ _ (and-right (quarticFine m) (quinticFine m) tested) ∙ ap (gapOf m) (sym q) in
       let last : gapAt m d 3 0 ≡ gapAt m d (d - 2) 0 = ap (λ k. gapAt m d k 0) (omega (arith, q)) in
-      (λ j. record { whole = whole j; outer = ap₂ _+_ ef (ey ∙ last) j; first = ef j; second = eg j }) ∙ sym (many-gaps m d l)
+      (λ j. record { whole = whole j; outer = ap₂ _+_ (h .first) (ey ∙ last) j; first = h .first j; second = h .second j })
+      ∙ sym (many-gaps m d (h .many))
 
 -- none is more than 7500
 abbrev smallFine : (m d : ℕ) → Bool

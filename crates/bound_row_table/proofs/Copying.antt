@@ -9,9 +9,12 @@ use native.Mathlib.Nat.{mul-le-mul-left, mul-comm, add-mul, suc-mul}
 use borrow.Author.Tests.{lt-ltb}
 use native.Mathlib.Omega.{arith}
 use lib.Dec.{eqb, ltb, lit≤}
-use lib.ListN.{length, set, length-set}
+use lib.ListN.{length, set, replicate, length-set}
 use lib.Seq.{getD-set-same, getD-set-other}
 use lib.IntN.{ℤ, pos, natAbs, _*ℤ_}
+use mir.Syntax.{w64}
+use mir.Val.{toZ}
+use mir.Facts.{toZ-pos}
 use Rattle.setting.specs.Setting.{HasRows, mostDegree, degreePieces}
 use Rattle.setting.proofs.Pieces.{degree-takes}
 use Rattle.integers.specs.Entry.{entry}
@@ -35,6 +38,18 @@ fewer-some {m} h =
     let a : 2 ≤ m - 1 = omega arith in
     let b : 5 ≤ m + 2 = omega arith in
     mul-le-mul a b
+
+-- a list filled with the number of pieces, as the code holds it
+pub filled : {m : ℕ} → HasRows m → (n : ℕ) → Each (5000 * m) (replicate n (toZ w64 m))
+filled {m} h n = record { under = each n }
+  where
+    small : natAbs (toZ w64 m) ≤ 5000 * m
+    small = let e : toZ w64 m ≡ pos m = toZ-pos w64 (omega (arith, h .most)) in rw e (omega arith)
+
+    each : (n j : ℕ) → natAbs (entry (replicate n (toZ w64 m)) j) ≤ 5000 * m
+    each zero j = zero-le
+    each (suc n) zero = small
+    each (suc n) (suc j) = each n j
 
 -- ---- numbers, one after the other
 pub put-none : {at : ℕ} {number : ℕ → ℤ} {l : List ℤ} → Put at 0 number l l

@@ -1,11 +1,13 @@
--- The enclosure rows of document 01, "Enclosure rows", in ten-thousandths at the break points 0 to 3: the table
--- a[d, m, sgn, ν, μ] for m = 3 of J. Peters and X. Wu, "SLEVEs for planar spline curves" (CAGD 21, 2004), section 3.1.
+-- Enclosure rows (document 01, "Enclosure rows"). A coordinate is its chord plus a sum of polynomials, each times a
+-- second difference. A row bounds one of these polynomials, in ten-thousandths, at the break points. `thirds` are the
+-- rows of three pieces: the table a[d, m, sgn, ν, μ] for m = 3 of J. Peters and X. Wu, "SLEVEs for planar spline
+-- curves" (CAGD 21, 2004), section 3.1.
 use mathlib.Core.List.{List, [], _∷_}
 use Prim.Native.Nat.{ℕ, zero, suc}
 use lib.ListN.{getD}
 use lib.IntN.{ℤ, pos, negℤ}
 
--- the rows of one second difference
+-- the row of one second difference: at each break point a number not below its polynomial, and one not above it
 pub record Row : Type 0 where
   pub high : List ℤ
   pub low : List ℤ

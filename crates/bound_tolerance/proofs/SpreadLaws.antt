@@ -1,17 +1,19 @@
 -- What the code of the spread computes: sums by the degree, and a sum rounded up.
 use mathlib.Core.Path.{_≡_, refl, sym, _∙_, ap}
-use mathlib.Core.Bool.{Bool, true, false}
+use mathlib.Core.Bool.{Bool, true, false, cond}
 use mathlib.Core.List.{List, [], _∷_}
 use Prim.Native.Nat.{ℕ, suc, _+_, _-_, _*_, _/_, _%_, _^_, _≤_, _<_, zero-le}
-use native.Mathlib.Nat.{add-zero, mul-zero, mul-comm, add-mul, mul-add, mul-assoc, mul-le-mul, le-refl, le-trans, lt-of-le-of-lt, div-div-eq-div-mul, mod-eq-of-lt}
+use native.Mathlib.Nat.{add-zero, mul-zero, mul-comm, add-mul, mul-add, mul-assoc, mul-le-mul, le-trans, lt-of-le-of-lt}
+use native.Mathlib.Nat.{div-div-eq-div-mul, div-le-self, mod-eq-of-lt}
 use native.Mathlib.Omega.{arith}
 use lib.Dec.{T, eqb, leb, leb→le, lit<, lit≤}
 use lib.Pow.{pow-mono, pow-pos}
 use lib.IntN.{ℤ, pos, natAbs}
 use lib.ListN.{getD}
 use mir.Syntax.{w64}
-use mir.Val.{toZ}
+use mir.Val.{SFits, toZ}
 use mir.Facts.{toZ-pos}
+use borrow.Author.Needs.{sfits-of}
 use Rattle.integers.proofs.Ranges.{stored}
 use Rattle.integers.proofs.Table.{every-below}
 use Rattle.curve_halves.specs.Sizes.{Each}
@@ -27,7 +29,7 @@ use Rattle.setting.specs.Setting.{HasRows}
 use Rattle.bound_rows.specs.Rule.{gapOf}
 use Rattle.bound_rows.proofs.Rule.{gap-most}
 use Rattle.bound_pieces.specs.declared.Pieces.{Pieces}
-use Rattle.bound_pieces.specs.Inside.{gapsSum, times, spreadOf, nearGap, farGap, otherGap, cornerOf, sumsOf, pointSum, exactOf}
+use Rattle.bound_pieces.specs.Inside.{gapsSum, up, times, spreadOf, nearGap, farGap, otherGap, cornerOf, sumsOf, pointSum, exactOf}
 use Rattle.bound_pieces.specs.Inside.{gapsOf, piecesBy, piecesOf}
 use Rattle.bound_pieces.proofs.Apart.{up-most, times-most}
 use Rattle.bound_pieces.proofs.Corners.{pieces-tested, other-under}
@@ -35,39 +37,49 @@ use Rattle.bound_pieces.proofs.Corners.{pieces-tested, other-under}
 pub same-size : {B r : ℕ} {z : ℤ} → r ≡ natAbs z → Small B z → (r ≡ natAbs z) × (r ≤ B)
 same-size e h = (e, rw e (h .size))
 
--- ---- a fraction over 3750 × 2^s, rounded up: raised by the denominator less one, then divided down in two steps
-abbrev pub unit : ℕ → ℕ
-unit s = 3750 * 2 ^ s
+-- ---- a fraction over q × 2^s, rounded up: raised by the denominator less one, then divided down in two steps
+abbrev pub unit : (q s : ℕ) → ℕ
+unit q s = q * 2 ^ s
 
-pub unit-under : {s : ℕ} → s ≤ 24 → unit s ≤ 3750 * 2 ^ 24
-unit-under h = mul-le-mul (le-refl 3750) (pow-mono h)
+pub unit-some : (q s : ℕ) → 1 ≤ q → 0 < unit q s
+unit-some q s h = mul-le-mul h (pow-pos s)
 
-pub unit-some : (s : ℕ) → 0 < unit s
-unit-some s = omega (arith, pow-pos s)
+module _ (q : ℕ) (few : T (leb q 3750)) {s : ℕ} (l : s ≤ 24) where
+  unit-under : unit q s ≤ 3750 * 2 ^ 24
+  unit-under = mul-le-mul (leb→le q 3750 few) (pow-mono l)
 
-pub unit-is : {s : ℕ} → s ≤ 24 → unit s % 2 ^ 64 ≡ unit s
-unit-is h = mod-eq-of-lt (lt-of-le-of-lt (unit-under h) (lit< tt))
+  -- as the code holds it
+  pub unit-is : unit q s % 2 ^ 64 ≡ unit q s
+  unit-is = mod-eq-of-lt (lt-of-le-of-lt unit-under (lit< tt))
 
--- one less, as the code holds it
-pub unit-less : {s : ℕ} → s ≤ 24 → unit s % 2 ^ 64 - 1 ≡ unit s - 1
-unit-less h = ap (λ (q : ℕ). q - 1) (unit-is h)
+  -- what rounding up asks of a sum, with one less to be added
+  pub rounding-asked : {n B : ℕ} → n ≤ B → (n ≤ B) × (unit q s % 2 ^ 64 - 1 ≡ unit q s - 1) × (s ≤ 24)
+  rounding-asked h = (h, ap (λ (q : ℕ). q - 1) unit-is, l)
 
-module _ (n s : ℕ) (h : n ≤ 6 * (2 ^ 36 * 2 ^ s)) (l : s ≤ 24) where
-  pub raised-under : n + (unit s - 1) ≤ 7 * 2 ^ 60
-  raised-under = omega (arith, h, unit-under l, pow-mono l)
+  module _ (n : ℕ) {more : ℕ} (h : n ≤ 6 * (2 ^ 36 * 2 ^ s)) (e : more ≡ unit q s - 1) where
+    pub raised-under : n + more ≤ 7 * 2 ^ 60
+    raised-under = omega (arith, h, e, unit-under, pow-mono l)
 
-  pub whole-under : spreadOf n s ≤ 2 ^ 27
-  unfolding spreadOf
-  whole-under = le-trans (up-most n (unit s) 109951163 (unit-some s) (omega (arith, h))) (lit≤ tt)
+    pub lowered-fits : SFits w64 (pos ((n + more) / 2 ^ s / q))
+    lowered-fits = sfits-of (omega (arith, div-le-self ((n + more) / 2 ^ s) q, div-le-self (n + more) (2 ^ s), raised-under))
 
-  whole-is : (n + (unit s - 1)) / 2 ^ s / 3750 ≡ spreadOf n s
-  unfolding spreadOf
-  whole-is = div-div-eq-div-mul (n + (unit s - 1)) (2 ^ s) 3750 ∙ ap (λ q. (n + (unit s - 1)) / q) (mul-comm (2 ^ s) 3750)
+    lowered-is : (n + more) / 2 ^ s / q ≡ up n (unit q s)
+    lowered-is = ap (λ k. (n + k) / 2 ^ s / q) e ∙ div-div-eq-div-mul (n + (unit q s - 1)) (2 ^ s) q
+        ∙ ap (λ k. (n + (unit q s - 1)) / k) (mul-comm (2 ^ s) q)
 
-  pub whole-computed : Computed (2 ^ 27) (pos (spreadOf n s)) (toZ w64 ((n + (unit s - 1)) / 2 ^ s / 3750))
-  whole-computed =
-      let e = ap (toZ w64) whole-is ∙ toZ-pos w64 (lt-of-le-of-lt whole-under (lit< tt)) in
-      record { is = e; size = rw e whole-under }
+    pub lowered-computed : {k : ℕ} → up n (unit q s) ≡ k → k ≤ 2 ^ 27 → Computed (2 ^ 27) (pos k) (toZ w64 ((n + more) / 2 ^ s / q))
+    lowered-computed i under =
+        let is = ap (toZ w64) (lowered-is ∙ i) ∙ toZ-pos w64 (lt-of-le-of-lt under (lit< tt)) in
+        record { is = is; size = rw is under }
+
+pub spread-under : (n s : ℕ) → n ≤ 6 * (2 ^ 36 * 2 ^ s) → spreadOf n s ≤ 2 ^ 27
+unfolding spreadOf
+spread-under n s h = le-trans (up-most n (unit 3750 s) 109951163 (unit-some 3750 s (lit≤ tt)) (omega (arith, h))) (lit≤ tt)
+
+pub spread-computed : (n : ℕ) {more s : ℕ} → n ≤ 6 * (2 ^ 36 * 2 ^ s) → more ≡ unit 3750 s - 1 → s ≤ 24
+    → Computed (2 ^ 27) (pos (spreadOf n s)) (toZ w64 ((n + more) / 2 ^ s / 3750))
+unfolding spreadOf
+spread-computed n {s = s} h e l = lowered-computed 3750 tt l n h e refl (spread-under n s h)
 
 -- ---- what goes with the number of pieces
 near-tested : T (every-below 8 (λ n. leb (nearGap (suc n)) 7500))
@@ -159,16 +171,19 @@ module _ (f : ℕ) {far other : ℕ} (h : other ≤ far) (a : ℕ) where
   less-sum : (n k : ℕ) → n ≡ k + (far - other) * a → f * n ≡ f * k + f * (far - other) * a
   less-sum n k e = ap (λ n. f * n) e ∙ mul-add f k ((far - other) * a) ∙ ap (λ q. f * k + q) (sym (mul-assoc f (far - other) a))
 
-module _ (b : Bool) {m : ℕ} (h : HasRows m) (cs : List ℤ) {ns : List ℕ} (e : ns ≡ sumsOf b m 3 cs) {u : ℕ} (eu : u ≡ times b * (farGap m - otherGap m)) where
-  pub first-less : {n : ℕ} → n ≡ natAbs (difference cs 0) → getD ns 1 0 ≡ pointSum b m 3 true cs + u * n
+module _ {p : Pieces} (h : HasRows (p .m)) (e : p ≡ piecesOf (p .m) (p .sixths)) (cs : List ℤ) {ns : List ℕ}
+    (en : ns ≡ sumsOf (p .sixths) (p .m) 3 cs) where
+  less-of : (last : Bool) → getD ns (cond last 1 0) 0 ≡ pointSum (p .sixths) (p .m) 3 last cs + p .less * natAbs (difference cs (cond last 0 1))
   unfolding gapsSum cornerOf
-  first-less {n} en = rw (e, eu, en) (less-sum (times b) (other-under m h) (natAbs (difference cs 0)) _ _
-      (omega (arith, less-product (times b) (other-under m h) (natAbs (difference cs 0)))))
+  less-of true = rw (en, less-is h e) (less-sum (times (p .sixths)) (other-under (p .m) h) (natAbs (difference cs 0)) _ _
+      (omega (arith, less-product (times (p .sixths)) (other-under (p .m) h) (natAbs (difference cs 0)))))
+  less-of false = rw (en, less-is h e) (less-sum (times (p .sixths)) (other-under (p .m) h) (natAbs (difference cs 1)) _ _
+      (omega (arith, less-product (times (p .sixths)) (other-under (p .m) h) (natAbs (difference cs 1)))))
 
-  pub second-less : {n : ℕ} → n ≡ natAbs (difference cs 1) → getD ns 0 0 ≡ pointSum b m 3 false cs + u * n
-  unfolding gapsSum cornerOf
-  second-less {n} en = rw (e, eu, en) (less-sum (times b) (other-under m h) (natAbs (difference cs 1)) _ _
-      (omega (arith, less-product (times b) (other-under m h) (natAbs (difference cs 1)))))
+  -- by the size of the difference, as the code holds it
+  pub point-less : (last : Bool) {n : ℕ} {r : ℤ} → Computed (2 ^ 46) (difference cs (cond last 0 1)) r → n ≡ natAbs (stored w64 r)
+      → getD ns (cond last 1 0) 0 ≡ pointSum (p .sixths) (p .m) 3 last cs + p .less * n
+  point-less last d i = less-of last ∙ ap (λ n. pointSum (p .sixths) (p .m) 3 last cs + p .less * n) (sym (size-is d i))
 
 -- ---- how large the sums of a node are: each gap is at most 7500, and second differences are within 2^22 of a unit
 module _ (m : ℕ) (h : HasRows m) (W : ℕ) (cs : List ℤ) (each : (k : ℕ) → natAbs (difference cs k) ≤ W) where

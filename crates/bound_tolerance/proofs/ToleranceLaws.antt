@@ -1,21 +1,26 @@
 -- What the code of the test holds: whether the corners are break points, and the boxes, one break point after the other.
-use mathlib.Core.Path.{_≡_, sym, _∙_, ap, ap₂, subst}
+use mathlib.Core.Path.{_≡_, refl, sym, _∙_, ap, ap₂, subst}
 use mathlib.Core.Bool.{Bool, true, false, cond}
 use mathlib.Core.Logic.{⊎-elim}
 use mathlib.Core.List.{List}
-use Prim.Native.Nat.{ℕ, _+_, _-_, _*_, _≤_, _<_}
-use native.Mathlib.Nat.{eq-or-lt-of-le}
+use Prim.Native.Nat.{ℕ, _+_, _-_, _*_, _^_, _≤_, _<_}
+use native.Mathlib.Nat.{eq-or-lt-of-le, not-suc-le-zero}
 use native.Mathlib.Omega.{arith}
 use lib.Dec.{T, eqb}
-use lib.IntN.{ℤ, _-ℤ_, _+ℤ_}
+use lib.IntN.{ℤ, pos, _-ℤ_, _+ℤ_, _*ℤ_}
 use lib.Signed.{ltZ}
 use borrow.Author.Tests.{lt-ltb, le-ltb}
+use mir.Syntax.{w64}
+use mir.Val.{SFits}
 use Rattle.setting.specs.Setting.{Setting}
 use Rattle.integers.specs.Squares.{squared}
 use Rattle.integers.proofs.Order.{lt-or-ge}
-use Rattle.integers.proofs.Ranges.{lt-no}
+use Rattle.integers.proofs.Ranges.{lt-no, stored}
+use Rattle.integers.proofs.Machine.{fits!, is!, flag! }
 use Rattle.curve_nodes.specs.declared.Curve.{Curve}
 use Rattle.curve_nodes.specs.Bounds.{Sized}
+use Rattle.bound_coordinate.specs.Inside.{Small, Computed}
+use Rattle.bound_coordinate.proofs.Coordinates.{bounded, small! }
 use Rattle.bound_coordinate.specs.declared.terms.Terms.{Terms}
 use Rattle.bound_coordinate.specs.Terms.{termsOf, lowBy, highBy}
 use Rattle.bound_coordinate.specs.declared.higher.HigherTerms.{HigherTerms}
@@ -42,25 +47,73 @@ module _ (sixths : Bool) (m : ℕ) {d : ℕ} where
   pub inexact-cubic : exactOf sixths m d ≡ false → d ≤ 3 → d ≡ 3
   inexact-cubic e few = ⊎-elim (λ l. absurd (subst T (exact-below l ∙ e) tt)) (λ l. omega (arith, l, few)) (lt-or-ge d 3)
 
--- ---- the boxes, one break point after the other
-pub none-next : (f : ℕ → Bool) (n : ℕ) → ((j : ℕ) → j < n → f j ≡ false) → f n ≡ false → (j : ℕ) → j < n + 1 → f j ≡ false
-none-next f n before here j l = ⊎-elim (λ e. rw e here) (λ k. before j k) (eq-or-lt-of-le last)
-  where
-    last : j ≤ n
-    last = omega arith
+-- ---- the boxes, one break point after the other: none before i is too long
+pub record Passed (m : ℕ) (q : ℤ) (across : ℕ → ℤ) (i : ℕ) : Type 0 where
+  pub most : i ≤ m + 1
+  pub narrow : (j : ℕ) → j < i → ltZ q (across j) ≡ false
+
+module _ {m : ℕ} {q : ℤ} {across : ℕ → ℤ} where
+  pub passed-none : Passed m q across 0
+  passed-none = record { most = omega arith; narrow = λ j l. absurd (not-suc-le-zero l) }
+
+  -- one more, as the code has tested it
+  pub passed-next : {i : ℕ} {r : Bool} → Passed m q across i → i ≤ m → r ≡ ltZ q (across i) → r ≡ false → Passed m q across (i + 1)
+  passed-next {i} p inside is not-wide = record {
+    most = omega arith;
+    narrow = λ j l. ⊎-elim (λ e. rw e (sym is ∙ not-wide)) (λ k. p .narrow j k) (eq-or-lt-of-le (last j l));
+  }
+    where
+      last : (j : ℕ) → j < i + 1 → j ≤ i
+      last j l = omega arith
 
 -- the code's squares of the diagonals are those of the boxes; q is the square of the tolerance, as the code holds it
-module _ (σ : Setting) (depth : ℕ) (c : Curve) (across : ℕ → ℤ) (is : (i : ℕ) → i ≤ σ .pieces → across i ≡ diagonal σ depth c i)
-    (tolerance : ℤ) {q : ℤ} (eq : q ≡ squared tolerance) where
-  pub box-fails : (i : ℕ) → i ≤ σ .pieces → ltZ q (across i) ≡ true → meets σ tolerance depth c ≡ false
-  unfolding boxAt
-  box-fails i hi e = wide-fails σ tolerance depth c i hi
-      (longer-wide tolerance (boxAt σ depth c i) (ap₂ ltZ (sym eq) (sym (is i hi)) ∙ e))
+pub record Diagonals (σ : Setting) (depth : ℕ) (c : Curve) (tolerance : ℤ) (across : ℕ → ℤ) (q : ℤ) : Type 0 where
+  pub each : (i : ℕ) → i ≤ σ .pieces → across i ≡ diagonal σ depth c i
+  pub square : q ≡ squared tolerance
 
-  pub boxes-pass : ((i : ℕ) → i < σ .pieces + 1 → ltZ q (across i) ≡ false) → meets σ tolerance depth c ≡ true
-  boxes-pass f = narrow-meets σ tolerance depth c (record {
-    each = λ i hi. lt-no (ap₂ ltZ (sym eq) (sym (is i hi)) ∙ f i (omega arith));
-  })
+module _ {σ : Setting} {depth : ℕ} {c : Curve} {tolerance : ℤ} {across : ℕ → ℤ} {q : ℤ} (h : Diagonals σ depth c tolerance across q) where
+  pub box-fails : (i : ℕ) {r : Bool} → i ≤ σ .pieces → r ≡ ltZ q (across i) → r ≡ true → false ≡ meets σ tolerance depth c
+  unfolding boxAt
+  box-fails i hi is wide = sym (wide-fails σ tolerance depth c i hi
+      (longer-wide tolerance (boxAt σ depth c i) (ap₂ ltZ (sym (h .square)) (sym (h .each i hi)) ∙ sym is ∙ wide)))
+
+  pub boxes-pass : {i : ℕ} → Passed (σ .pieces) q across i → σ .pieces < i → true ≡ meets σ tolerance depth c
+  boxes-pass p all = sym (narrow-meets σ tolerance depth c (record {
+    each = λ i hi. lt-no (ap₂ ltZ (sym (h .square)) (sym (h .each i hi)) ∙ p .narrow i (omega arith));
+  }))
+
+-- ---- the square of a tolerance, as the code holds it
+module _ {t : ℤ} (small : Small (2 ^ 27) t) where
+  pub square-fits : SFits w64 (stored w64 t *ℤ stored w64 t)
+  square-fits = fits! (search (small, bounded) depth 40) tt
+
+  pub square-is : stored w64 (stored w64 t *ℤ stored w64 t) ≡ squared t
+  square-is = is! (search (small, bounded) depth 40) tt
+
+-- ---- the lows and the highs of a box, as the code holds them
+module _ {a b x y : ℤ} (low : Computed (2 ^ 28) a x) (high : Computed (2 ^ 28) b y) where
+  pub apart-fits : SFits w64 (stored w64 y -ℤ stored w64 x)
+  apart-fits = fits! (search (low, high, bounded) depth 40) tt
+
+  pub apart-small : Small (2 ^ 29) (stored w64 (stored w64 y -ℤ stored w64 x))
+  apart-small = small! (search (low, high, bounded) depth 40) tt
+
+  -- with those of the other coordinate, against a square
+  pub longer-held : {c d u v s : ℤ} → Computed (2 ^ 28) c u → Computed (2 ^ 28) d v → SFits w64 s
+      → ltZ (stored w64 s) (squared (stored w64 (stored w64 y -ℤ stored w64 x)) +ℤ squared (stored w64 (stored w64 v -ℤ stored w64 u)))
+      ≡ ltZ s (squared (b -ℤ a) +ℤ squared (d -ℤ c))
+  longer-held below above fits = sym (flag! refl (search (low, high, below, above, fits, bounded) depth 40) tt)
+
+-- ---- the sides of a box, rounded up, and one more
+module _ {a x : ℤ} (side : Computed (2 ^ 27) a x) where
+  pub side-small : Small (2 ^ 29) (stored w64 x)
+  side-small = small! (search (side, bounded) depth 40) tt
+
+  pub more-fits : SFits w64 (stored w64 x +ℤ pos 1)
+  more-fits = fits! (search (side, bounded) depth 40) tt
+
+  pub more-small : Small (2 ^ 29) (stored w64 (stored w64 x +ℤ pos 1))
+  more-small = small! (search (side, bounded) depth 40) tt
 
 module _ {p : Pieces} {rows : List ℤ} (r : PiecesReady p rows) {depth : ℕ} {c : Curve} (s : Sized depth c) where
   abbrev σ : Setting

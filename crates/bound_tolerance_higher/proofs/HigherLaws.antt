@@ -142,11 +142,11 @@ module _ (m : ℕ) (h : HasRows m) (l : 3 ≤ m) (cs : List ℤ) where
     most-covers-times units i hi = rw units (mul-le-mul (le-refl 6) (most-covers i hi))
 
     -- the first break point has at least this, and the last one from its own end
-    pub first-reaches : {a₀ a₁ : ℕ} → a₀ ≡ size 0 → a₁ ≡ size 1 → endOf g (a₀ ∷ a₁ ∷ []) ≤ gapsSum (gapsAt (rowsOf m d) 0) 0 cs
-    first-reaches e₀ e₁ = rw (e, many-gaps m d l, e₀, e₁) (first-least d a b)
+    pub first-reaches : endOf g (getD ns 0 0 ∷ getD ns 1 0 ∷ []) ≤ gapsSum (gapsAt (rowsOf m d) 0) 0 cs
+    first-reaches = rw (en, e, many-gaps m d l) (first-least d a b)
 
-    pub last-reaches : {a₀ a₁ : ℕ} → a₀ ≡ size (d - 2) → a₁ ≡ size (d - 3) → endOf g (a₀ ∷ a₁ ∷ []) ≤ gapsSum (gapsAt (rowsOf m d) m) 0 cs
-    last-reaches e₀ e₁ = rw (e, many-gaps m d l, e₀, e₁) (le-trans both (last-least d a b))
+    pub last-reaches : endOf g (getD ns 3 0 ∷ getD ns 2 0 ∷ []) ≤ gapsSum (gapsAt (rowsOf m d) m) 0 cs
+    last-reaches = rw (en, e, many-gaps m d l) (le-trans both (last-least d a b))
       where
         ends : T (endFine m d)
         ends = and-right (every-below (suc m) (pointFine m d)) (endFine m d) (fine d a b)

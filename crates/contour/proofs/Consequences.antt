@@ -26,7 +26,7 @@ use Rattle.engine.specs.declared.Outcome.{Outcome}
 use Rattle.engine.specs.declared.Outcome.the-variants.{Refused as Outright, Judged}
 use Rattle.engine.specs.Outcomes.{writtenFor, Answered}
 use Rattle.engine.proofs.Consequences.{refused-unaltered, judged-told}
-use Rattle.contour.specs.declared.OutcomeAnswer.{OutcomeAnswer}
+use Rattle.contour.specs.declared.c_answers.OutcomeAnswer.{OutcomeAnswer}
 use Rattle.contour.specs.Answers.{outcomeAnswerOf, JudgedInNumbers, AnsweredInNumbers}
 use Rattle.contour.specs.declared.c_answers.BoxUnits.{BoxUnits}
 use Rattle.contour.specs.declared.c_answers.BoxShort.{BoxShort}

@@ -11,7 +11,7 @@ use Rattle.contour.specs.declared.c_answers.JudgingAnswer.{JudgingAnswer
 use Rattle.contour.specs.Numbers.{judgingAnswerOf}
 use Rattle.engine.specs.declared.Outcome.{Outcome}
 use Rattle.engine.specs.declared.Outcome.the-variants.{Refused, Judged as WithJudgement}
-use Rattle.contour.specs.declared.OutcomeAnswer.{OutcomeAnswer}
+use Rattle.contour.specs.declared.c_answers.OutcomeAnswer.{OutcomeAnswer}
 use Rattle.engine.specs.Outcomes.{Answered}
 
 -- the report of banding beside the numbers of a judgement

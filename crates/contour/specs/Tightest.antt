@@ -1,5 +1,5 @@
--- What the question for the tightest band is answered by, in numbers: 0 and 0 and the least tolerance that fits, which
--- is 0 where none does, or a refusal's number and spot.
+-- The answer for the tightest band, in numbers: 0 and 0 and the least tolerance that fits, which is 0 where none does,
+-- or a refusal's number and spot.
 use Rattle.refusals.specs.Refusals.{numberOf, spotOf}
 use Rattle.band_tightest.specs.declared.tolerances.Tightest.{Tightest}
 use Rattle.band_tightest.specs.declared.tolerances.Tightest.the-variants.{Least, Nothing, Refused}

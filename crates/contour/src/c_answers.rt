@@ -7,6 +7,7 @@ ghost use Rattle.contour.specs.Points.{pointsAnswerOf};
 ghost use Rattle.contour.specs.Quotes.{quoteAnswerOf};
 ghost use Rattle.contour.specs.Drawings.{drawingOf};
 ghost use Rattle.contour.specs.BoxForms.{unitsOf, formOf, shortOf};
+ghost use Rattle.contour.specs.Answers.{outcomeAnswerOf};
 use band::banding::Banded;
 use band_foretold::foretelling::Foretold;
 use band_tightest::tolerances::Tightest;
@@ -14,6 +15,7 @@ use boxes_binary64::Short;
 use boxes_binary64::ShortAnswer;
 use boxes_binary64::UnitsAnswer;
 use draw::drawing::Drawn;
+use engine::Outcome;
 use judge::judging::Judgement;
 use judge_points::answers::PointsJudged;
 use quote_price::quoting::Quoted;
@@ -84,8 +86,8 @@ pub fn foretold_in_numbers(foretold: Foretold) -> ForetoldAnswer
     }
 }
 
-// What the question for the tightest band is answered by, in numbers: a refusal's number and spot, or 0 and 0 and the
-// least tolerance that fits, 0 where none does.
+// The answer for the tightest band, in numbers: a refusal's number and spot, or 0 and 0 and the least tolerance that
+// fits, 0 where none does.
 #[repr(C)]
 pub struct TightestAnswer {
     pub refusal: u32,
@@ -153,6 +155,56 @@ pub fn judgement_in_numbers(judgement: Judgement) -> JudgingAnswer
             leaf: 0,
             cover: 0,
         },
+    }
+}
+
+// What banding and judging together answer, in numbers: a refusal's number and spot, or 0 and 0, banding's report and
+// the judgement.
+#[repr(C)]
+pub struct OutcomeAnswer {
+    pub refusal: u32,
+    pub spot: u64,
+    pub curves: u64,
+    pub leaves: u64,
+    pub nodes: u64,
+    pub on: u32,
+    pub leaf: u64,
+    pub cover: u64,
+}
+
+// The numbers of an outcome.
+pub fn outcome_in_numbers(outcome: Outcome) -> OutcomeAnswer
+    ensures { λ r. ⌜ r ≡ outcomeAnswerOf outcome ⌝ }
+{
+    match outcome {
+        Outcome::Refused(refusal) => OutcomeAnswer {
+            refusal: refusal.number(),
+            spot: refusal.spot() as u64,
+            curves: 0,
+            leaves: 0,
+            nodes: 0,
+            on: 0,
+            leaf: 0,
+            cover: 0,
+        },
+        Outcome::Judged {
+            curves,
+            leaves,
+            nodes,
+            judgement,
+        } => {
+            let judged = judgement_in_numbers(judgement);
+            OutcomeAnswer {
+                refusal: judged.refusal,
+                spot: judged.spot,
+                curves: curves as u64,
+                leaves: leaves as u64,
+                nodes: nodes as u64,
+                on: judged.on,
+                leaf: judged.leaf,
+                cover: judged.cover,
+            }
+        }
     }
 }
 

@@ -2,8 +2,7 @@
 ghost use mathlib.Core.Path.{_≡_};
 ghost use lib.ListN.{length};
 ghost use Rattle.setting.specs.Setting.{lists, station};
-ghost use Rattle.band.specs.Banding.{banded, written, bandedSpline, writtenSpline};
-ghost use Rattle.band.specs.Banding.{bandedBinary64, writtenBinary64};
+ghost use Rattle.band.specs.Banding.{banded, written, bandedSpline, writtenSpline, bandedBinary64, writtenBinary64};
 ghost use Rattle.band_foretold.specs.Foretelling.{foretold, depthsWritten};
 ghost use Rattle.band_tightest.specs.Tightest.{tightest};
 ghost use Rattle.band_exchanged.specs.Exchange.{exchanged, exchangedList};
@@ -18,7 +17,7 @@ ghost use Rattle.contour.specs.Quotes.{quoteAnswerOf};
 ghost use Rattle.contour.specs.Drawings.{drawingOf};
 ghost use Rattle.contour.specs.BoxForms.{UnitsInNumbers, ShortInNumbers};
 ghost use Rattle.engine.specs.Outcomes.{writtenFor};
-ghost use Rattle.contour.specs.Answers.{outcomeAnswerOf, JudgedInNumbers, AnsweredInNumbers};
+ghost use Rattle.contour.specs.Answers.{JudgedInNumbers, AnsweredInNumbers};
 ghost use Rattle.contour.specs.Version.{version};
 use crate::c_answers::Answer;
 use crate::c_answers::BoxShort;
@@ -26,6 +25,7 @@ use crate::c_answers::BoxUnits;
 use crate::c_answers::Drawing;
 use crate::c_answers::ForetoldAnswer;
 use crate::c_answers::JudgingAnswer;
+use crate::c_answers::OutcomeAnswer;
 use crate::c_answers::PointsAnswer;
 use crate::c_answers::QuoteAnswer;
 use crate::c_answers::TightestAnswer;
@@ -33,13 +33,13 @@ use crate::c_answers::drawing_in_numbers;
 use crate::c_answers::foretold_in_numbers;
 use crate::c_answers::in_numbers;
 use crate::c_answers::judgement_in_numbers;
+use crate::c_answers::outcome_in_numbers;
 use crate::c_answers::points_in_numbers;
 use crate::c_answers::quote_in_numbers;
 use crate::c_answers::short_in_numbers;
 use crate::c_answers::tightest_in_numbers;
 use crate::c_answers::units_in_numbers;
 use boxes::Box;
-use engine::Outcome;
 use engine::band_and_judge;
 
 pub mod c_answers;
@@ -53,10 +53,9 @@ pub extern "C" fn contour_band(
     m: u32,
     records: &mut [i32],
 ) -> Answer
-    ensures { λ r. ⌜ r
-        ≡ bandAnswerOf (banded (lists m) tolerance (now (outline .entry)) (length (now (records .entry)))) ⌝ }
-    ensures { λ r. ⌜ now (records .exit)
-        ≡ written (lists m) tolerance (now (outline .entry)) (now (records .entry)) ⌝ }
+    ensures { λ r. ⌜ r ≡ bandAnswerOf (banded (lists m) tolerance (now (outline .entry))
+        (length (now (records .entry)))) ⌝ }
+    ensures { λ r. ⌜ now (records .exit) ≡ written (lists m) tolerance (now (outline .entry)) (now (records .entry)) ⌝ }
 {
     let banded = band::band(outline, tolerance, m, records);
     in_numbers(banded)
@@ -70,10 +69,10 @@ pub extern "C" fn contour_station_band(
     m: u32,
     records: &mut [i32],
 ) -> Answer
-    ensures { λ r. ⌜ r
-        ≡ bandAnswerOf (banded (station m) tolerance (now (outline .entry)) (length (now (records .entry)))) ⌝ }
-    ensures { λ r. ⌜ now (records .exit)
-        ≡ written (station m) tolerance (now (outline .entry)) (now (records .entry)) ⌝ }
+    ensures { λ r. ⌜ r ≡ bandAnswerOf (banded (station m) tolerance (now (outline .entry))
+        (length (now (records .entry)))) ⌝ }
+    ensures { λ r. ⌜ now (records .exit) ≡ written (station m) tolerance (now (outline .entry))
+        (now (records .entry)) ⌝ }
 {
     let banded = band::station_band(outline, tolerance, m, records);
     in_numbers(banded)
@@ -87,10 +86,9 @@ pub extern "C" fn contour_spline_band(
     m: u32,
     records: &mut [i32],
 ) -> Answer
-    ensures { λ r. ⌜ r
-        ≡ bandAnswerOf (bandedSpline m tolerance (now (points .entry)) (length (now (records .entry)))) ⌝ }
-    ensures { λ r. ⌜ now (records .exit)
-        ≡ writtenSpline m tolerance (now (points .entry)) (now (records .entry)) ⌝ }
+    ensures { λ r. ⌜ r ≡ bandAnswerOf (bandedSpline m tolerance (now (points .entry))
+        (length (now (records .entry)))) ⌝ }
+    ensures { λ r. ⌜ now (records .exit) ≡ writtenSpline m tolerance (now (points .entry)) (now (records .entry)) ⌝ }
 {
     let banded = band::spline_band(points, tolerance, m, records);
     in_numbers(banded)
@@ -104,10 +102,9 @@ pub extern "C" fn contour_binary64_band(
     m: u32,
     records: &mut [i32],
 ) -> Answer
-    ensures { λ r. ⌜ r
-        ≡ bandAnswerOf (bandedBinary64 m tolerance (now (outline .entry)) (length (now (records .entry)))) ⌝ }
-    ensures { λ r. ⌜ now (records .exit)
-        ≡ writtenBinary64 m tolerance (now (outline .entry)) (now (records .entry)) ⌝ }
+    ensures { λ r. ⌜ r ≡ bandAnswerOf (bandedBinary64 m tolerance (now (outline .entry))
+        (length (now (records .entry)))) ⌝ }
+    ensures { λ r. ⌜ now (records .exit) ≡ writtenBinary64 m tolerance (now (outline .entry)) (now (records .entry)) ⌝ }
 {
     let banded = band::binary64_band(outline, tolerance, m, records);
     in_numbers(banded)
@@ -122,10 +119,10 @@ pub extern "C" fn contour_foretell(
     m: u32,
     depths: &mut [i32],
 ) -> ForetoldAnswer
-    ensures { λ r. ⌜ r
-        ≡ foretoldAnswerOf (foretold (lists m) tolerance (now (outline .entry)) (length (now (depths .entry)))) ⌝ }
-    ensures { λ r. ⌜ now (depths .exit)
-        ≡ depthsWritten (lists m) tolerance (now (outline .entry)) (now (depths .entry)) ⌝ }
+    ensures { λ r. ⌜ r ≡ foretoldAnswerOf (foretold (lists m) tolerance (now (outline .entry))
+        (length (now (depths .entry)))) ⌝ }
+    ensures { λ r. ⌜ now (depths .exit) ≡ depthsWritten (lists m) tolerance (now (outline .entry))
+        (now (depths .entry)) ⌝ }
 {
     let foretold = band_foretell::foretell(outline, tolerance, m, depths);
     foretold_in_numbers(foretold)
@@ -152,8 +149,8 @@ pub extern "C" fn contour_exchange(
     given: usize,
     records: &mut [i32],
 ) -> Answer
-    ensures { λ r. ⌜ r ≡ bandAnswerOf (exchanged (lists m) tolerance (now (outline .entry)) number
-        (now (curve .entry)) given (now (records .entry))) ⌝ }
+    ensures { λ r. ⌜ r ≡ bandAnswerOf (exchanged (lists m) tolerance (now (outline .entry)) number (now (curve .entry))
+        given (now (records .entry))) ⌝ }
     ensures { λ r. ⌜ now (records .exit) ≡ exchangedList (lists m) tolerance (now (outline .entry)) number
         (now (curve .entry)) given (now (records .entry)) ⌝ }
 {
@@ -197,20 +194,6 @@ pub extern "C" fn contour_quote(leaves: &[i32], m: u32) -> QuoteAnswer
     quote_in_numbers(quoted)
 }
 
-// What banding and judging together answer, in numbers: a refusal's number and spot, or 0 and 0, banding's report and
-// the judgement.
-#[repr(C)]
-pub struct OutcomeAnswer {
-    pub refusal: u32,
-    pub spot: u64,
-    pub curves: u64,
-    pub leaves: u64,
-    pub nodes: u64,
-    pub on: u32,
-    pub leaf: u64,
-    pub cover: u64,
-}
-
 // Bands an outline with m pieces a leaf, and judges the point (x, y) against exactly the records written. A refusal
 // alters nothing.
 #[no_mangle]
@@ -222,48 +205,12 @@ pub extern "C" fn contour_band_and_judge(
     x: i32,
     y: i32,
 ) -> OutcomeAnswer
-    ensures { λ r. ⌜ now (records .exit)
-        ≡ writtenFor (lists m) tolerance (now (outline .entry)) x y (now (records .entry)) ⌝ }
+    ensures { λ r. ⌜ now (records .exit) ≡ writtenFor (lists m) tolerance (now (outline .entry)) x y
+        (now (records .entry)) ⌝ }
     ensures { λ r. ⌜ AnsweredInNumbers (lists m) tolerance (now (outline .entry)) x y (now (records .entry)) r ⌝ }
 {
     let outcome = band_and_judge(outline, tolerance, m, records, x, y);
     outcome_in_numbers(outcome)
-}
-
-// The numbers of an outcome.
-fn outcome_in_numbers(outcome: Outcome) -> OutcomeAnswer
-    ensures { λ r. ⌜ r ≡ outcomeAnswerOf outcome ⌝ }
-{
-    match outcome {
-        Outcome::Refused(refusal) => OutcomeAnswer {
-            refusal: refusal.number(),
-            spot: refusal.spot() as u64,
-            curves: 0,
-            leaves: 0,
-            nodes: 0,
-            on: 0,
-            leaf: 0,
-            cover: 0,
-        },
-        Outcome::Judged {
-            curves,
-            leaves,
-            nodes,
-            judgement,
-        } => {
-            let judged = judgement_in_numbers(judgement);
-            OutcomeAnswer {
-                refusal: judged.refusal,
-                spot: judged.spot,
-                curves: curves as u64,
-                leaves: leaves as u64,
-                nodes: nodes as u64,
-                on: judged.on,
-                leaf: judged.leaf,
-                cover: judged.cover,
-            }
-        }
-    }
 }
 
 // Draws the convex hull of two boxes, and writes x and y of its vertices to the front of the list.

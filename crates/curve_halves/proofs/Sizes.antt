@@ -38,7 +38,7 @@ module _ {B : ℕ} {cs : List ℤ} (h : Each B cs) where
       (le-trans (abs-add (triangle cs j i) (triangle cs j (suc i))) (add-le-add (triangle-under j i) (triangle-under j (suc i))))
 
   -- an entry of the left half
-  half-under : (d m j i : ℕ) → m + j ≡ d → natAbs (pow (pos 2) m *ℤ triangle cs j i) ≤ 2 ^ d * B
+  pub half-under : (d m j i : ℕ) → m + j ≡ d → natAbs (pow (pos 2) m *ℤ triangle cs j i) ≤ 2 ^ d * B
   half-under d m j i e = rw (← e, pow-add, mul-assoc)
       (le-trans (le-of-eq (abs-mul (pow (pos 2) m) (triangle cs j i))) (mul-le-mul (le-of-eq (ap natAbs (pow-natural 2 m))) (triangle-under j i)))
 

@@ -11,17 +11,17 @@ abbrev pub listed : ℕ → (ℕ → ℤ) → List ℤ
 listed zero f = []
 listed (suc n) f = f 0 ∷ listed n (λ k. f (suc k))
 
--- Row j of de Casteljau's triangle at place i: each number is the sum of the two below it in the row before, so it is
--- 2^j times the midpoint.
+-- Line j of de Casteljau's triangle at place i: each number is the sum of its two neighbours in the line before, so it
+-- is 2^j times the midpoint.
 unfoldable pub triangle : List ℤ → ℕ → ℕ → ℤ
 triangle cs zero i = entry cs i
 triangle cs (suc j) i = triangle cs j i +ℤ triangle cs j (suc i)
 
--- the left half: the first numbers of the rows 0 to d, each times 2^d
+-- the left half: the first numbers of the lines 0 to d, each times 2^d
 unfoldable pub left : ℕ → List ℤ → List ℤ
 left d cs = listed (suc d) (λ k. pow (pos 2) (d - k) *ℤ triangle cs k 0)
 
--- the right half: the last numbers of the rows d to 0, each times 2^d
+-- the right half: the last numbers of the lines d to 0, each times 2^d
 unfoldable pub right : ℕ → List ℤ → List ℤ
 right d cs = listed (suc d) (λ k. pow (pos 2) k *ℤ triangle cs (d - k) k)
 

@@ -2,7 +2,7 @@
 ghost use mathlib.Core.Path.{_≡_};
 ghost use Prim.Native.Nat.{_^_, _≤_};
 ghost use Rattle.setting.specs.Setting.{mostDegree};
-ghost use Rattle.curve_halves.specs.Halves.{left, right, reversed, padded};
+ghost use Rattle.curve_halves.specs.Halves.{listed, triangle, left, right, reversed, padded};
 ghost use Rattle.curve_halves.specs.Sizes.{Each};
 
 // One coordinate of the left half.
@@ -44,23 +44,17 @@ fn reversed(degree: u32, c: [i64; 6]) -> [i64; 6]
     requires { ⌜ (1 ≤ degree) × (degree ≤ mostDegree) ⌝ }
     ensures { λ r. ⌜ r ≡ padded (reversed degree c) ⌝ }
 {
-    let c0 = c[0];
-    let c1 = c[1];
-    let c2 = c[2];
-    let c3 = c[3];
-    let c4 = c[4];
-    let c5 = c[5];
     match degree {
-        1 => [c1, c0, 0, 0, 0, 0],
-        2 => [c2, c1, c0, 0, 0, 0],
-        3 => [c3, c2, c1, c0, 0, 0],
-        4 => [c4, c3, c2, c1, c0, 0],
-        _ => [c5, c4, c3, c2, c1, c0],
+        1 => [c[1], c[0], 0, 0, 0, 0],
+        2 => [c[2], c[1], c[0], 0, 0, 0],
+        3 => [c[3], c[2], c[1], c[0], 0, 0],
+        4 => [c[4], c[3], c[2], c[1], c[0], 0],
+        _ => [c[5], c[4], c[3], c[2], c[1], c[0]],
     }
 }
 
-// The left half, one degree each. s, t, u and v are rows 1 to 4 of de Casteljau's triangle: sums of neighbours in the
-// row before.
+// The left half, one degree each. s and t are rows 1 and 2 of de Casteljau's triangle: sums of neighbours in the row
+// before.
 fn left_line(c: [i64; 6]) -> [i64; 6]
     requires { ⌜ Each (2 ^ 44) c ⌝ }
     ensures { λ r. ⌜ r ≡ padded (left 1 c) ⌝ }
@@ -83,7 +77,7 @@ fn left_quadratic(c: [i64; 6]) -> [i64; 6]
 }
 
 fn left_cubic(c: [i64; 6]) -> [i64; 6]
-    requires { ⌜ Each (2 ^ 44) c ⌝ }
+    requires { ⌜ Each (2 ^ 46) c ⌝ }
     ensures { λ r. ⌜ r ≡ padded (left 3 c) ⌝ }
 {
     let c0 = c[0];
@@ -98,30 +92,29 @@ fn left_cubic(c: [i64; 6]) -> [i64; 6]
     [8 * c0, 4 * s0, 2 * t0, t0 + t1, 0, 0]
 }
 
+// Here the left half of row 1 is that of the degree below.
 fn left_quartic(c: [i64; 6]) -> [i64; 6]
-    requires { ⌜ Each (2 ^ 44) c ⌝ }
+    requires { ⌜ Each (2 ^ 45) c ⌝ }
     ensures { λ r. ⌜ r ≡ padded (left 4 c) ⌝ }
 {
+    let half = left_cubic(sums(c));
     let c0 = c[0];
-    let c1 = c[1];
-    let c2 = c[2];
-    let c3 = c[3];
-    let c4 = c[4];
-    let s0 = c0 + c1;
-    let s1 = c1 + c2;
-    let s2 = c2 + c3;
-    let s3 = c3 + c4;
-    let t0 = s0 + s1;
-    let t1 = s1 + s2;
-    let t2 = s2 + s3;
-    let u0 = t0 + t1;
-    let u1 = t1 + t2;
-    [16 * c0, 8 * s0, 4 * t0, 2 * u0, u0 + u1, 0]
+    [16 * c0, half[0], half[1], half[2], half[3], 0]
 }
 
 fn left_quintic(c: [i64; 6]) -> [i64; 6]
     requires { ⌜ Each (2 ^ 44) c ⌝ }
     ensures { λ r. ⌜ r ≡ padded (left 5 c) ⌝ }
+{
+    let half = left_quartic(sums(c));
+    let c0 = c[0];
+    [32 * c0, half[0], half[1], half[2], half[3], half[4]]
+}
+
+// Row 1 of the triangle, that of degree 5.
+fn sums(c: [i64; 6]) -> [i64; 6]
+    requires { ⌜ Each (2 ^ 45) c ⌝ }
+    ensures { λ r. ⌜ r ≡ padded (listed mostDegree (triangle c 1)) ⌝ }
 {
     let c0 = c[0];
     let c1 = c[1];
@@ -129,21 +122,7 @@ fn left_quintic(c: [i64; 6]) -> [i64; 6]
     let c3 = c[3];
     let c4 = c[4];
     let c5 = c[5];
-    let s0 = c0 + c1;
-    let s1 = c1 + c2;
-    let s2 = c2 + c3;
-    let s3 = c3 + c4;
-    let s4 = c4 + c5;
-    let t0 = s0 + s1;
-    let t1 = s1 + s2;
-    let t2 = s2 + s3;
-    let t3 = s3 + s4;
-    let u0 = t0 + t1;
-    let u1 = t1 + t2;
-    let u2 = t2 + t3;
-    let v0 = u0 + u1;
-    let v1 = u1 + u2;
-    [32 * c0, 16 * s0, 8 * t0, 4 * u0, 2 * v0, v0 + v1]
+    [c0 + c1, c1 + c2, c2 + c3, c3 + c4, c4 + c5, 0]
 }
 
 // A copy of the values, one by one.

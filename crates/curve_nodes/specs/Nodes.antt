@@ -6,8 +6,8 @@ use lib.Dec.{ltb}
 use Rattle.curve_nodes.specs.declared.Curve.{Curve}
 use Rattle.curve_nodes.specs.Halves.{leftHalf, rightHalf}
 
--- What is at a node, from what is at node 1 and a step from a node to its half by the node's lowest bit; at most `fuel`
--- steps.
+-- What belongs to node n, where `top` belongs to node 1, and `half b` makes of what belongs to a node what belongs to
+-- its half: b is 0 for the left half, 2n, and 1 for the right, 2n + 1. At most `fuel` steps; `descend` gives enough.
 unfoldable pub descendIn : {A : Type 0} → ℕ → A → (ℕ → A → A) → ℕ → A
 descendIn zero top half n = top
 descendIn (suc fuel) top half n = elim (ltb n 2) [ true ↦ top | false ↦ half (n % 2) (descendIn fuel top half (n / 2)) ]

@@ -155,22 +155,30 @@ module _ {B : ℕ} {cs : List ℤ} (h : Each B cs) (n k : ℕ) where
       let r = row-kept h 0 (alone (suc n) B l) in
       values-are n k cs r (differences-carried n k r l) l
 
--- ---- degrees 4 and 5, whose forward differences the function of degree n carried on: ss
-module _ {B : ℕ} {cs ss : List ℤ} (h : Each B cs) (n k : ℕ) (e : ss ≡ padded (onward n k (padded (forwardDifferences cs)))) (d : T (ltb n mostDegree)) where
+-- ---- degrees 4 and 5: `ss` are the forward differences of `cs`, carried on by the function of degree n
+pub record Below (B : ℕ) (cs ss : List ℤ) (n k : ℕ) : Type 0 where
+  pub under : Each B cs
+  pub carried-on : ss ≡ padded (onward n k (padded (forwardDifferences cs)))
+
+pub below-by : {B : ℕ} {cs ds ss : List ℤ} {n k : ℕ} → Each B cs → ds ≡ padded (forwardDifferences cs) → ss ≡ padded (onward n k ds) → Below B cs ss n k
+below-by {n} {k} h e f = record { under = h; carried-on = f ∙ ap (λ ds. padded (onward n k ds)) e }
+
+module _ {B : ℕ} {cs ss : List ℤ} {n k : ℕ} (b : Below B cs ss n k) (d : T (ltb n mostDegree)) where
   result-carried : 3 ^ suc n * B < 2 ^ 63 → (i : ℕ) → i ≤ n → keptRow ss 0 i ≡ onwardAt n k (forwardDifference (entry cs)) i
   result-carried l i m =
-      ap (stored w64) (carried n k cs e (ltb→lt n mostDegree d) i m)
-      ∙ toZ-ofZ (under-fits (onwardAt n k (forwardDifference (entry cs)) i) (onward-under n k (forwardDifference (entry cs)) (forward-difference-under (entry cs) (h .under)) i)
+      ap (stored w64) (carried n k cs (b .carried-on) (ltb→lt n mostDegree d) i m)
+      ∙ toZ-ofZ (under-fits (onwardAt n k (forwardDifference (entry cs)) i)
+      (onward-under n k (forwardDifference (entry cs)) (forward-difference-under (entry cs) (b .under .under)) i)
       (lt-of-le-of-lt (mul-le-mul-right (2 * B) (pow-le-pow-right (omega arith) m)) (below n B l)))
 
   pub next-fits : (i : ℕ) → T (leb i n) → T (ltb (3 ^ suc n * B) (2 ^ 63))
       → SFits w64 (keptNext n k (keptRow cs 0) (keptRow ss 0) i +ℤ keptRow ss 0 i)
   next-fits i t u =
       let l = ltb→lt (3 ^ suc n * B) (2 ^ 63) u in
-      value-fits n k (row-kept h 0 (alone (suc n) B l)) (result-carried l) l i (leb→le i n t)
+      value-fits n k (row-kept (b .under) 0 (alone (suc n) B l)) (result-carried l) l i (leb→le i n t)
 
   pub next-are : T (ltb (3 ^ suc n * B) (2 ^ 63))
       → padded (listed (suc (suc n)) (keptNext n k (keptRow cs 0) (keptRow ss 0))) ≡ padded (onward (suc n) k cs)
   next-are t =
       let l = ltb→lt (3 ^ suc n * B) (2 ^ 63) t in
-      values-are n k cs (row-kept h 0 (alone (suc n) B l)) (result-carried l) l
+      values-are n k cs (row-kept (b .under) 0 (alone (suc n) B l)) (result-carried l) l

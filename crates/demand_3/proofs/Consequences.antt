@@ -132,21 +132,13 @@ bow = record {
   y = pos 0 ∷ pos 0 ∷ pos 125 ∷ pos 250 ∷ pos 0 ∷ pos 0 ∷ [];
 }
 
-pub flat-from-255 : Flat standard (pos 255) bow 0
+pub flat-from-255 : Flat standard (pos 255) bow 0 × (Flat standard (pos 254) bow 0 → ⊥)
 unfolding largest bend largestOf gapOf rowsOf table
-flat-from-255 = leZ-yes tt
+flat-from-255 = (leZ-yes tt, λ f. f .le)
 
-pub not-flat-at-254 : Flat standard (pos 254) bow 0 → ⊥
+pub eighths-flat-from-37 : Flat (lists 8) (pos 37) bow 0 × (Flat (lists 8) (pos 36) bow 0 → ⊥)
 unfolding largest bend largestOf gapOf rowsOf table
-not-flat-at-254 f = f .le
-
-pub eighths-flat-from-37 : Flat (lists 8) (pos 37) bow 0
-unfolding largest bend largestOf gapOf rowsOf table
-eighths-flat-from-37 = leZ-yes tt
-
-pub eighths-not-flat-at-36 : Flat (lists 8) (pos 36) bow 0 → ⊥
-unfolding largest bend largestOf gapOf rowsOf table
-eighths-not-flat-at-36 f = f .le
+eighths-flat-from-37 = (leZ-yes tt, λ f. f .le)
 
 -- ---- an outline that is one point, (0 0): what is judged on lies in the circle of radius T round it, and not only in the square
 abbrev zeros : List ℤ

@@ -47,18 +47,18 @@ pub same-curves : {o : Outlined} {cs ds : List Curve} → o ≡ curves cs → o 
 same-curves e f = cc
 
 -- ---- neighbours by their numbers stand one behind the other
-next-is : (bs ds after rest : List Curve) (c d : Curve) → length ds ≡ suc (length bs) → bs ++ c ∷ after ≡ ds ++ d ∷ rest → after ≡ d ∷ rest
-next-is [] (b ∷ []) after rest c d l e = cc
-next-is [] (b ∷ a ∷ ds) after rest c d l e = absurd (omega arith)
-next-is [] [] after rest c d l e = absurd (omega arith)
-next-is (b ∷ bs) [] after rest c d l e = absurd (omega arith)
-next-is (b ∷ bs) (a ∷ ds) after rest c d l e = next-is bs ds after rest c d (omega arith) (cc)
+next-curve-is : (bs ds after rest : List Curve) (c d : Curve) → length ds ≡ suc (length bs) → bs ++ c ∷ after ≡ ds ++ d ∷ rest → after ≡ d ∷ rest
+next-curve-is [] (b ∷ []) after rest c d l e = cc
+next-curve-is [] (b ∷ a ∷ ds) after rest c d l e = absurd (omega arith)
+next-curve-is [] [] after rest c d l e = absurd (omega arith)
+next-curve-is (b ∷ bs) [] after rest c d l e = absurd (omega arith)
+next-curve-is (b ∷ bs) (a ∷ ds) after rest c d l e = next-curve-is bs ds after rest c d (omega arith) (cc)
 
 pub numbers-meet : (most m : ℕ) (ns : List ℤ) (cs : List Curve) → outlined most m ns ≡ curves cs
     → (k : ℕ) (c d : Curve) → CurveOf cs k c → CurveOf cs (suc k) d → CurvesMeet c d
 numbers-meet most m ns cs o k c d first second =
     let number = second .number ∙ ap suc (sym (first .number)) in
-    let after = next-is (first .before) (second .before) (first .after) (second .after) c d number (sym (first .split) ∙ second .split) in
+    let after = next-curve-is (first .before) (second .before) (first .after) (second .after) c d number (sym (first .split) ∙ second .split) in
     curves-meet most m ns (first .before) c d (second .after) (o ∙ ap curves (first .split ∙ ap (λ l. first .before ++ c ∷ l) after))
 
 -- ---- the point where curve k ends and curve k + 1 begins

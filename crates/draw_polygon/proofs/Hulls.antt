@@ -83,34 +83,38 @@ between-by {a} {b} {c} h k =
     fall : {d e : ℤ} → (e -ℤ d) ≤ℤ pos 0 → e ≤ℤ d
     fall {d} {e} l = le-by (d ∷ e ∷ []) (gap l) (search sides depth 20) refl
 
+-- one of the two coordinates
+data Axis : Type 0 where
+  across : Axis
+  upright : Axis
+
+abbrev along : Axis → Point → ℤ
+along across q = q .x
+along upright q = q .y
+
 module _ (t u v w p : Point) (line : turn u v p ≡ pos 0) where
-  ahead-x : (v .x -ℤ u .x) *ℤ turn v w p ≡ (v .x -ℤ p .x) *ℤ turn u v w +ℤ (w .x -ℤ v .x) *ℤ turn u v p
+  ahead : (k : Axis)
+      → (along k v -ℤ along k u) *ℤ turn v w p ≡ (along k v -ℤ along k p) *ℤ turn u v w +ℤ (along k w -ℤ along k v) *ℤ turn u v p
   unfolding turn
-  ahead-x = ring (u .x ∷ u .y ∷ v .x ∷ v .y ∷ w .x ∷ w .y ∷ p .x ∷ p .y ∷ []) (search sides depth 40 fits 9999) refl
+  ahead across = ring (u .x ∷ u .y ∷ v .x ∷ v .y ∷ w .x ∷ w .y ∷ p .x ∷ p .y ∷ []) (search sides depth 40 fits 9999) refl
+  ahead upright = ring (u .x ∷ u .y ∷ v .x ∷ v .y ∷ w .x ∷ w .y ∷ p .x ∷ p .y ∷ []) (search sides depth 40 fits 9999) refl
 
-  ahead-y : (v .y -ℤ u .y) *ℤ turn v w p ≡ (v .y -ℤ p .y) *ℤ turn u v w +ℤ (w .y -ℤ v .y) *ℤ turn u v p
+  behind : (k : Axis)
+      → (along k v -ℤ along k u) *ℤ turn t u p ≡ (along k p -ℤ along k u) *ℤ turn t u v +ℤ (along k u -ℤ along k t) *ℤ turn u v p
   unfolding turn
-  ahead-y = ring (u .x ∷ u .y ∷ v .x ∷ v .y ∷ w .x ∷ w .y ∷ p .x ∷ p .y ∷ []) (search sides depth 40 fits 9999) refl
-
-  behind-x : (v .x -ℤ u .x) *ℤ turn t u p ≡ (p .x -ℤ u .x) *ℤ turn t u v +ℤ (u .x -ℤ t .x) *ℤ turn u v p
-  unfolding turn
-  behind-x = ring (u .x ∷ u .y ∷ v .x ∷ v .y ∷ t .x ∷ t .y ∷ p .x ∷ p .y ∷ []) (search sides depth 40 fits 9999) refl
-
-  behind-y : (v .y -ℤ u .y) *ℤ turn t u p ≡ (p .y -ℤ u .y) *ℤ turn t u v +ℤ (u .y -ℤ t .y) *ℤ turn u v p
-  unfolding turn
-  behind-y = ring (u .x ∷ u .y ∷ v .x ∷ v .y ∷ t .x ∷ t .y ∷ p .x ∷ p .y ∷ []) (search sides depth 40 fits 9999) refl
+  behind across = ring (u .x ∷ u .y ∷ v .x ∷ v .y ∷ t .x ∷ t .y ∷ p .x ∷ p .y ∷ []) (search sides depth 40 fits 9999) refl
+  behind upright = ring (u .x ∷ u .y ∷ v .x ∷ v .y ∷ t .x ∷ t .y ∷ p .x ∷ p .y ∷ []) (search sides depth 40 fits 9999) refl
 
   drop-line : (x c : ℤ) → x +ℤ c *ℤ turn u v p ≡ x
   drop-line x c = ap (λ z. x +ℤ c *ℤ z) line ∙ ring (x ∷ c ∷ []) (search sides depth 20) refl
 
-  between-ends : pos 0 <ℤ turn t u v → pos 0 <ℤ turn u v w → pos 0 ≤ℤ turn t u p → pos 0 ≤ℤ turn v w p
-      → Between (u .x) (v .x) (p .x) × Between (u .y) (v .y) (p .y)
-  between-ends st sw ht hw = (
-    between-by (same-sign (behind-x ∙ drop-line ((p .x -ℤ u .x) *ℤ turn t u v) (u .x -ℤ t .x)) ht st)
-        (same-sign (ahead-x ∙ drop-line ((v .x -ℤ p .x) *ℤ turn u v w) (w .x -ℤ v .x)) hw sw),
-    between-by (same-sign (behind-y ∙ drop-line ((p .y -ℤ u .y) *ℤ turn t u v) (u .y -ℤ t .y)) ht st)
-        (same-sign (ahead-y ∙ drop-line ((v .y -ℤ p .y) *ℤ turn u v w) (w .y -ℤ v .y)) hw sw),
-  )
+  module _ (st : pos 0 <ℤ turn t u v) (sw : pos 0 <ℤ turn u v w) (ht : pos 0 ≤ℤ turn t u p) (hw : pos 0 ≤ℤ turn v w p) where
+    between-along : (k : Axis) → Between (along k u) (along k v) (along k p)
+    between-along k = between-by (same-sign (behind k ∙ drop-line ((along k p -ℤ along k u) *ℤ turn t u v) (along k u -ℤ along k t)) ht st)
+        (same-sign (ahead k ∙ drop-line ((along k v -ℤ along k p) *ℤ turn u v w) (along k w -ℤ along k v)) hw sw)
+
+    between-ends : Between (u .x) (v .x) (p .x) × Between (u .y) (v .y) (p .y)
+    between-ends = (between-along across, between-along upright)
 
 module _ {X : Point → Type 0} {vs : List Point} (h : Hull X vs) (three : 3 ≤ length vs) (p : Point)
     (left : (k : ℕ) → k < length vs → pos 0 ≤ℤ turn (round vs k) (round vs (suc k)) p) where

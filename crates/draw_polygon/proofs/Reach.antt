@@ -64,37 +64,35 @@ module _ (a b : ℤ) where
       ⊎-elim (λ h. let e = sym (higher-second h) in (≤ℤ-trans h (≡-≤ e), ≡-≤ e)) (λ h. let e = sym (higher-first h) in (≡-≤ e, ≤ℤ-trans h (≡-≤ e)))
       (≥-total a b)
 
--- ---- the lowest level with what is covered there, and the highest
-data Bottom (l m : ℤ) (s t : Span) : ℤ → Span → Type 0 where
-  first : l <ℤ m → Bottom l m s t l s
-  second : m <ℤ l → Bottom l m s t m t
-  both : l ≡ m → Bottom l m s t m (joinedSpan s t)
+-- ---- the lowest of two levels l and m with what is covered there, and the highest: a is below b where l is farther out
+data End (a b l m : ℤ) (s t : Span) : ℤ → Span → Type 0 where
+  first : a <ℤ b → End a b l m s t l s
+  second : b <ℤ a → End a b l m s t m t
+  both : l ≡ m → End a b l m s t m (joinedSpan s t)
+
+module _ (a b l m : ℤ) (s t : Span) {z : ℤ} (at-first : a <ℤ b → z ≡ l) (at-second : b <ℤ a → z ≡ m) (at-both : a ≡ b → (l ≡ m) × (z ≡ m)) where
+  end : End a b l m s t z (reached a b s t)
+  unfolding reached
+  end = go (ltZ a b) refl (ltZ b a) refl
+    where
+      go : (c : Bool) → ltZ a b ≡ c → (d : Bool) → ltZ b a ≡ d
+          → End a b l m s t z (elim c [ true ↦ s | false ↦ elim d [ true ↦ t | false ↦ joinedSpan s t ] ])
+      go true e d f = let h = lt-yes e in rw (at-first h) (first h)
+      go false e true f = let h = lt-yes f in rw (at-second h) (second h)
+      go false e false f = let h = at-both (≤ℤ-antisymm (lt-no f) (lt-no e)) in rw (h .1) (both (h .0))
+
+abbrev Bottom : (l m : ℤ) (s t : Span) → ℤ → Span → Type 0
+Bottom l m = End l m l m
 
 bottom : (l m : ℤ) (s t : Span) → Bottom l m s t (lower l m) (reached l m s t)
-unfolding reached
-bottom l m s t = go (ltZ l m) refl (ltZ m l) refl
-  where
-    go : (c : Bool) → ltZ l m ≡ c → (d : Bool) → ltZ m l ≡ d
-        → Bottom l m s t (elim c [ true ↦ l | false ↦ m ]) (elim c [ true ↦ s | false ↦ elim d [ true ↦ t | false ↦ joinedSpan s t ] ])
-    go true e d f = first (lt-yes e)
-    go false e true f = second (lt-yes f)
-    go false e false f = both (≤ℤ-antisymm (lt-no f) (lt-no e))
+bottom l m s t =
+    end l m l m s t (λ h. lower-first (lt-le h)) (λ h. lower-second (lt-le h)) (λ e. (e, lower-second (≡-≤ (sym e))))
 
-data Top (l m : ℤ) (s t : Span) : ℤ → Span → Type 0 where
-  first : m <ℤ l → Top l m s t l s
-  second : l <ℤ m → Top l m s t m t
-  both : l ≡ m → Top l m s t l (joinedSpan s t)
+abbrev Top : (l m : ℤ) (s t : Span) → ℤ → Span → Type 0
+Top l m = End m l l m
 
 top : (l m : ℤ) (s t : Span) → Top l m s t (higher l m) (reached m l s t)
-unfolding reached
-top l m s t = go (ltZ l m) refl (ltZ m l) refl
-  where
-    go : (c : Bool) → ltZ l m ≡ c → (d : Bool) → ltZ m l ≡ d
-        → Top l m s t (elim c [ true ↦ m | false ↦ l ]) (elim d [ true ↦ s | false ↦ elim c [ true ↦ t | false ↦ joinedSpan s t ] ])
-    go true e true f = clashℤ (lt-yes {a = l} {b = m} e) (lt-le (lt-yes {a = m} {b = l} f))
-    go true e false f = second (lt-yes e)
-    go false e true f = first (lt-yes f)
-    go false e false f = both (≤ℤ-antisymm (lt-no f) (lt-no e))
+top l m s t = end m l l m s t (λ h. higher-first (lt-le h)) (λ h. higher-second (lt-le h)) (λ e. (sym e, higher-second (≡-≤ (sym e))))
 
 -- ---- to the right, and not down
 pub record East (u v : Point) : Type 0 where
@@ -187,13 +185,13 @@ slope-of : {a b : Box} {level side : ℤ} {floor wall : Span} → Bottom (a .«y
     → Top (a .«x_high») (b .«x_high») (uprightOf a) (uprightOf b) side wall → Slope (OfBoxes a b) (pt (floor .high) level) (pt side (wall .low))
 slope-of (first l) (first r) = stays refl
 slope-of (first l) (second r) = slopes r l (λ p h. ⊎-elim (λ w. inl (w .x-to, w .y-from)) (λ w. inr (w .x-to, w .y-from)) h)
-slope-of (first l) (both e) = stays (point-≡ refl (sym (lower-first (lt-le l))))
+slope-of (first l) (both e) = stays (point-≡ e (sym (lower-first (lt-le l))))
 slope-of (second l) (first r) = slopes r l (λ p h. ⊎-elim (λ w. inr (w .x-to, w .y-from)) (λ w. inl (w .x-to, w .y-from)) h)
 slope-of (second l) (second r) = stays refl
-slope-of (second l) (both e) = stays (point-≡ (sym e) (sym (lower-second (lt-le l))))
+slope-of (second l) (both e) = stays (point-≡ refl (sym (lower-second (lt-le l))))
 slope-of (both e) (first r) = stays (point-≡ (higher-first (lt-le r)) (sym e))
 slope-of (both e) (second r) = stays (point-≡ (higher-second (lt-le r)) refl)
-slope-of (both e) (both f) = stays (point-≡ (higher-first (≡-≤ (sym f))) (sym (lower-second (≡-≤ (sym e)))))
+slope-of (both e) (both f) = stays (point-≡ (higher-second (≡-≤ f)) (sym (lower-second (≡-≤ (sym e)))))
 
 -- both terms of a sum are 0 where it is
 both-zero : {d e g h : ℤ} → pos 0 <ℤ d → pos 0 <ℤ e → pos 0 ≤ℤ g → pos 0 ≤ℤ h → (d *ℤ g +ℤ e *ℤ h) ≤ℤ pos 0 → (g ≡ pos 0) × (h ≡ pos 0)

@@ -22,6 +22,7 @@ use Rattle.band_passes.specs.Leaves.{firstTooWide, leavesOf, nodesOf}
 use Rattle.band.specs.declared.banding.Banded.{Banded}
 use Rattle.band.specs.declared.banding.Banded.the-variants.{Done, Refused as NotBanded}
 use Rattle.band.specs.Banding.{bandGiven, answerFor, bandCurves, bandOutlined, banded, written}
+use Rattle.band.specs.Outcomes.{Faultless, Few}
 use Rattle.band.proofs.Theorems.{few-exactly, done-exactly, faultless-rows, written-some, written-sound}
 use Rattle.judge.specs.declared.judging.Judgement.{Judgement}
 use Rattle.judge.specs.Judging.{pointFault, judgingFault, Verdict, Judged}
@@ -43,38 +44,37 @@ module _ (m room l : ℕ) where
 
 -- ---- banding with no number lent, by which a point out of range is refused
 module _ (σ : Setting) (T : ℤ) (ns : List ℤ) (room : ℕ) (point : Refusal) where
-  -- 8 says how many leaves there are: it is 8 again where the room is too little for them
-  pub few-again : {l : ℕ} → banded σ T ns 0 ≡ NotBanded (TooFewRecords l) → room < recordLength σ * l
-      → TooFewRecords l ≡ refusalOr point (banded σ T ns room)
-  few-again {l} e h =
-      let f = few-exactly σ T ns 0 l .0 e in
-      rw (few-exactly σ T ns room l .1 (
-        f .0,
-        f .1,
-        record {
-          meet = f .2 .meet;
-          taken = f .2 .taken;
-          short = omega (arith, h, ap (λ n. recordLength σ * n) (f .2 .leaves));
-          leaves = f .2 .leaves;
-        },
-      ))
+  -- 8 says how many leaves there are
+  module _ {l : ℕ} (e : banded σ T ns 0 ≡ NotBanded (TooFewRecords l)) where
+    few : (cs : List Curve) × Faultless σ T ns cs × Few σ T cs 0 l
+    few = few-exactly σ T ns 0 l .0 e
 
-  -- and else banding is done
-  pub few-no-more : {l : ℕ} → banded σ T ns 0 ≡ NotBanded (TooFewRecords l) → recordLength σ * l ≤ room → point ≡ refusalOr point (banded σ T ns room)
-  few-no-more {l} e h =
-      let f = few-exactly σ T ns 0 l .0 e in
-      rw (done-exactly σ T ns room (length (f .0)) l (nodesOf σ T (f .0)) .1 (
-        f .0,
-        f .1,
-        record {
-          meet = f .2 .meet;
-          taken = f .2 .taken;
-          enough = omega (arith, h, ap (λ n. recordLength σ * n) (f .2 .leaves));
-          curves = refl;
-          leaves = f .2 .leaves;
-          nodes = refl;
-        },
-      ))
+    numbers : recordLength σ * leavesOf σ T (few .0) ≡ recordLength σ * l
+    numbers = ap (λ n. recordLength σ * n) (few .2 .leaves)
+
+    -- it is 8 again where the room is too little for them
+    pub few-again : room < recordLength σ * l → TooFewRecords l ≡ refusalOr point (banded σ T ns room)
+    few-again h =
+        let f = few .2 in
+        let again : Few σ T (few .0) room l = record { meet = f .meet; taken = f .taken; short = omega (arith, h, numbers); leaves = f .leaves } in
+        rw (few-exactly σ T ns room l .1 (few .0, few .1, again))
+
+    -- and else banding is done
+    pub few-no-more : recordLength σ * l ≤ room → point ≡ refusalOr point (banded σ T ns room)
+    few-no-more h =
+        let f = few .2 in
+        rw (done-exactly σ T ns room (length (few .0)) l (nodesOf σ T (few .0)) .1 (
+          few .0,
+          few .1,
+          record {
+            meet = f .meet;
+            taken = f .taken;
+            enough = omega (arith, h, numbers);
+            curves = refl;
+            leaves = f .leaves;
+            nodes = refl;
+          },
+        ))
 
   -- every other refusal is the same whatever is lent
   module _ {r : Refusal} (other : (l : ℕ) → TooFewRecords l ≡ r → ⊥) where

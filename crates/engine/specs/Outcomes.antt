@@ -21,8 +21,8 @@ abbrev pub writtenFor : Setting → ℤ → List ℤ → (x y : ℤ) → List �
 writtenFor σ T ns x y old = elim (pointFault x y) [ some r ↦ old | none ↦ written σ T ns old ]
 
 -- ---- the answer
--- The outcome is a judgement of the leaves rs in which nothing is refused, beside the report of a curves, b leaves and
--- c nodes.
+-- The outcome is banding's report (`a` curves, `b` leaves, `c` nodes) with a judgement of the leaves rs in which
+-- nothing is refused, and demand 3 holds of it.
 pub record JudgedAs (σ : Setting) (T : ℤ) (ns rs : List ℤ) (x y : ℤ) (a b c : ℕ) (outcome : Outcome) : Type 0 where
   pub judgement : Judgement
   pub is : outcome ≡ Judged a b c judgement

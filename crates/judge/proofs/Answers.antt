@@ -4,14 +4,18 @@ use mathlib.Core.Bool.{Bool, true, false, not}
 use mathlib.Core.List.{List}
 use mathlib.Core.Option.{Option, none, some}
 use Prim.Native.Nat.{ℕ, _%_, _≤_, _<_}
-use borrow.Author.Tests.{le-leb, lt-leb, leb-true}
+use borrow.Author.Tests.{not-true, not-false, lt-leb}
 use lib.Dec.{T, eqb, leb, eqb→eq, eqb-refl}
 use lib.ListN.{length}
 use lib.IntN.{ℤ}
+use mir.Syntax.{w32}
+use mir.Val.{SFits}
+use mir.Facts.{toZ-ofZ}
 use Rattle.refusals.specs.declared.Refusal.{Refusal}
 use Rattle.refusals.specs.declared.Refusal.the-variants.{Pieces, LeafListLength, LeafListNumber, PointX, PointY}
 use Rattle.boxes.specs.Ranges.{inRange, placeOr}
 use Rattle.setting.specs.Setting.{Setting, piecesFine, HasRows, recordLength}
+use Rattle.setting.proofs.Pieces.{fine-has-rows, has-rows-fine}
 use Rattle.boxes.proofs.Faults.{place-some, place-none}
 use Rattle.judge_list.specs.Checks.{lengthFine, numberFault}
 use Rattle.judge_list.proofs.Numbers.{inList}
@@ -21,7 +25,8 @@ use Rattle.judge.specs.declared.judging.Checked.the-variants.{Fine, Refu
 use Rattle.judge.specs.Judging.{listFault, judgingFault, Passed, Verdict, Judged}
 use Rattle.judge.specs.Inside.{checkedOf}
 use Rattle.integers.proofs.Clash.{clash}
-use Rattle.integers.proofs.Both.{and-false, both-true}
+use Rattle.integers.proofs.Both.{and-false}
+use Rattle.integers.proofs.Ranges.{stored}
 
 eqb-is : (a b : ℕ) → a ≡ b → eqb a b ≡ true
 eqb-is a b e = go (eqb a b) (subst (λ n. T (eqb a n)) e (eqb-refl a))
@@ -38,9 +43,6 @@ eqb-not a b n = go (eqb a b) (λ t. n (eqb→eq a b t))
     go true u = absurd (u tt)
 
 -- ---- the number of pieces
-pub pieces-fine : {m : ℕ} → HasRows m → piecesFine m ≡ true
-pieces-fine {m} h = rw (le-leb 1 m (h .least), le-leb m 8 (h .most))
-
 pub pieces-none : {m : ℕ} → m < 1 → piecesFine m ≡ false
 pieces-none {m} h = rw (lt-leb 1 m h)
 
@@ -55,7 +57,7 @@ module _ (σ : Setting) (ns : List ℤ) where
   module _ (has : HasRows (σ .pieces)) where
     -- ---- 9
     length-bad : lengthFine σ (length ns) ≡ false → listFault σ ns ≡ some (LeafListLength (length ns))
-    length-bad e = rw (listFault, pieces-fine has, e)
+    length-bad e = rw (listFault, has-rows-fine (σ .pieces) has, e)
 
     pub list-empty : length ns ≡ 0 → listFault σ ns ≡ some (LeafListLength (length ns))
     list-empty e = length-bad (rw (eqb-is (length ns) 0 e))
@@ -71,21 +73,16 @@ module _ (σ : Setting) (ns : List ℤ) where
       pub number-bad : (i : ℕ) → i ≡ placeOr (length ns) (numberFault σ ns) → i < length ns → listFault σ ns ≡ some (LeafListNumber i)
       number-bad i e h =
           let f = place-some (length ns) (numberFault σ ns) (subst (λ k. k < length ns) e h) ∙ ap some (sym e) in
-          rw (listFault, pieces-fine has, length-fine, f)
+          rw (listFault, has-rows-fine (σ .pieces) has, length-fine, f)
 
       pub list-fine : length ns ≤ placeOr (length ns) (numberFault σ ns) → listFault σ ns ≡ none
       unfolding numberFault
-      list-fine all = let f = place-none (inList σ ns) (length ns) all in rw (listFault, pieces-fine has, length-fine, f)
+      list-fine all = let f = place-none (inList σ ns) (length ns) all in rw (listFault, has-rows-fine (σ .pieces) has, length-fine, f)
 
   -- ---- a list that passed
   pub list-passed : listFault σ ns ≡ none → HasRows (σ .pieces) × Passed σ ns
   list-passed e = go (piecesFine (σ .pieces)) (lengthFine σ (length ns)) (numberFault σ ns) refl refl refl e
     where
-      rows : (m : ℕ) → piecesFine m ≡ true → HasRows m
-      rows m f =
-          let s = both-true (leb 1 m) (leb m 8) f in
-          record { least = leb-true 1 m (s .0); most = leb-true m 8 (s .1) }
-
       go : (a b : Bool) (o : Option ℕ) → piecesFine (σ .pieces) ≡ a → lengthFine σ (length ns) ≡ b → numberFault σ ns ≡ o
           → _≡_ {A = Option Refusal} (elim a [
             | false ↦ some Pieces
@@ -94,7 +91,7 @@ module _ (σ : Setting) (ns : List ℤ) where
               | true ↦ elim o [ some i ↦ some (LeafListNumber i) | none ↦ none ]
             ]
           ]) none → HasRows (σ .pieces) × Passed σ ns
-      go true true none p l n f = (rows (σ .pieces) p, record { whole = l; numbers = n })
+      go true true none p l n f = (fine-has-rows (σ .pieces) p, record { whole = l; numbers = n })
       go true true (some i) p l n f = clash (cc)
       go true false o p l n f = clash (cc)
       go false b o p l n f = clash (cc)
@@ -113,6 +110,14 @@ module _ (σ : Setting) (ns : List ℤ) where
       go none f = clash (cc)
       go (some q) f = cc
 
+-- ---- the test of a coordinate z, as the code has it
+module _ {z : ℤ} (fits : SFits w32 z) {r : Bool} (e : r ≡ inRange (stored w32 z)) where
+  pub range-bad : not r ≡ true → inRange z ≡ false
+  range-bad h = rw (toZ-ofZ fits) at (sym e ∙ not-true r h)
+
+  pub range-fine : not r ≡ false → inRange z ≡ true
+  range-fine h = rw (toZ-ofZ fits) at (sym e ∙ not-false r h)
+
 module _ (σ : Setting) (ns : List ℤ) (x y : ℤ) where
   -- ---- 18, 9 and 10 come before the point
   pub list-first : {r : Refusal} → listFault σ ns ≡ some r → judgingFault σ ns x y ≡ some r
@@ -123,15 +128,15 @@ module _ (σ : Setting) (ns : List ℤ) (x y : ℤ) where
   module _ (has : HasRows (σ .pieces)) (p : Passed σ ns) where
     pub x-bad : inRange x ≡ false → judgingFault σ ns x y ≡ some PointX
     unfolding judgingFault
-    x-bad e = rw (judgingFault, listFault, pieces-fine has, p .whole, p .numbers, e)
+    x-bad e = rw (judgingFault, listFault, has-rows-fine (σ .pieces) has, p .whole, p .numbers, e)
 
     pub y-bad : inRange x ≡ true → inRange y ≡ false → judgingFault σ ns x y ≡ some PointY
     unfolding judgingFault
-    y-bad e f = rw (judgingFault, listFault, pieces-fine has, p .whole, p .numbers, e, f)
+    y-bad e f = rw (judgingFault, listFault, has-rows-fine (σ .pieces) has, p .whole, p .numbers, e, f)
 
     pub none-bad : inRange x ≡ true → inRange y ≡ true → judgingFault σ ns x y ≡ none
     unfolding judgingFault
-    none-bad e f = rw (judgingFault, listFault, pieces-fine has, p .whole, p .numbers, e, f)
+    none-bad e f = rw (judgingFault, listFault, has-rows-fine (σ .pieces) has, p .whole, p .numbers, e, f)
 
   -- ---- the answer
   pub judged-refused : (r : Refusal) → judgingFault σ ns x y ≡ some r → Judged σ ns x y (Refused r)

@@ -12,6 +12,10 @@ use lib.ListN.{length}
 use lib.IntN.{ℤ, pos, negℤ, natAbs}
 use lib.Signed.{leZ}
 use borrow.Author.Tests.{not-true, not-false}
+use mir.Syntax.{w32}
+use mir.Val.{SFits}
+use mir.Facts.{toZ-ofZ}
+use Rattle.integers.proofs.Ranges.{stored}
 use Rattle.integers.specs.Entry.{entry}
 use Rattle.integers.specs.First.{firstBad}
 use Rattle.integers.proofs.Clash.{clash}
@@ -36,12 +40,16 @@ use Rattle.judge_cover.proofs.Deciding.{held-exactly}
 use Rattle.judge.specs.declared.judging.Judgement.the-variants.{Off}
 use Rattle.judge.specs.declared.holder.Holder.{Holder}
 use Rattle.judge.specs.Judging.{Passed, FirstHolder, Verdict}
-use Rattle.judge.specs.Inside.{RecordAt, heldAt, holderAt, ApartTo, Searched, FoundTo}
+use Rattle.judge.specs.Inside.{InRange, RecordAt, heldAt, holderAt, ApartTo, Searched, FoundTo}
 use Rattle.judge.proofs.Apart.{apart-held}
 use Rattle.judge.proofs.Judgements.{whole-of}
 
 pub range-size : (z : ℤ) → inRange z ≡ true → natAbs z ≤ farthest
 range-size z e = abs-within farthest z (between-low (negℤ (pos farthest)) (pos farthest) z e) (between-high (negℤ (pos farthest)) (pos farthest) z e)
+
+-- a point that passed check 11, as the code hands it on
+pub in-ranges : {x y : ℤ} → SFits w32 x → SFits w32 y → inRange x ≡ true → inRange y ≡ true → InRange (stored w32 x) (stored w32 y)
+in-ranges {x} {y} fx fy ex ey = rw (toZ-ofZ fx, toZ-ofZ fy) (record { in-x = range-size x ex; in-y = range-size y ey })
 
 -- ---- a record that passed: its boxes are in range
 number-range : (p : ℕ) (z next : ℤ) → boxNumberFine p z next ≡ true → inRange z ≡ true

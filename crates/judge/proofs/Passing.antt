@@ -31,7 +31,7 @@ module _ (test : ℤ → Bool) (ns : List ℤ) (at : ℕ) where
     pub pass-more : i < n → test (entry ns (at + 4 * i)) ≡ true → Passing n (i + 1)
     pass-more h f = let m : i + 1 ≡ suc i = omega arith in record { few = omega arith; each = rw (m, p .each, f) }
 
-    pub pass-done : n ≤ i → true ≡ allPass test ns at n
+    pass-done : n ≤ i → true ≡ allPass test ns at n
     pass-done h =
         let f = p .few in
         let m : i ≡ n = omega arith in
@@ -62,21 +62,25 @@ wide-fits fits = rw (toZ-ofZ fits) (sfits-widen tt fits)
 pub widened : {z : ℤ} → SFits w32 z → stored w64 (stored w32 z) ≡ z
 widened fits = ap (stored w64) (toZ-ofZ fits) ∙ toZ-ofZ (sfits-widen {w′ = w64} tt fits)
 
--- ---- a turn of a loop that reads m + 1 numbers: the comparison says where the test fails
-module _ (test compared : ℤ → Bool) (ns : List ℤ) (at n i : ℕ) where
+-- ---- a loop that tests m + 1 numbers against z, which the code holds as it is kept: the comparison says where the test fails
+module _ (test compared : ℤ → ℤ → Bool) (z : ℤ) (ns : List ℤ) (at n i : ℕ) where
   abbrev read : ℤ
   read = stored w32 (entry ns (at + 4 * i))
 
   pub record Reading : Type 0 where
-    pub fails : compared read ≡ true → false ≡ allPass test ns at n
-    pub passes : compared read ≡ false → Passing test ns at n (i + 1)
+    pub fails : compared (stored w32 z) read ≡ true → false ≡ allPass (test z) ns at n
+    pub passes : compared (stored w32 z) read ≡ false → Passing (test (stored w32 z)) ns at n (i + 1)
 
-pub reading : (test compared : ℤ → Bool) → ((a : ℤ) (t : Bool) → compared a ≡ t → test a ≡ not t) → {ns : List ℤ} {at m i : ℕ}
-    → Passing test ns at (suc m) i → i ≤ m → mag (entry ns (at + 4 * i)) < 2 ^ 31 → Reading test compared ns at (suc m) i
-reading test compared turn {ns} {at} {m} {i} p h b =
-    let fits = element-fits ns (at + 4 * i) b in
-    let in-turn : i < suc m = omega arith in
-    record {
-      fails = λ e. pass-fails test ns at (suc m) i in-turn (turn _ true (rw (toZ-ofZ fits) at e));
-      passes = λ e. pass-more test ns at p in-turn (turn _ false (rw (toZ-ofZ fits) at e));
-    }
+module _ (test : ℤ → ℤ → Bool) {z : ℤ} (kept : SFits w32 z) {ns : List ℤ} {at : ℕ} where
+  pub reading : (compared : ℤ → ℤ → Bool) → ((y a : ℤ) (t : Bool) → compared y a ≡ t → test y a ≡ not t) → {m i : ℕ}
+      → Passing (test (stored w32 z)) ns at (suc m) i → i ≤ m → mag (entry ns (at + 4 * i)) < 2 ^ 31 → Reading test compared z ns at (suc m) i
+  reading compared turn {m} {i} p h b =
+      let fits = element-fits ns (at + 4 * i) b in
+      let in-turn : i < suc m = omega arith in
+      record {
+        fails = λ e. pass-fails (test z) ns at (suc m) i in-turn (turn _ _ true (rw (toZ-ofZ fits, toZ-ofZ kept) at e));
+        passes = λ e. pass-more (test (stored w32 z)) ns at p in-turn (turn _ _ false (rw (toZ-ofZ fits) at e));
+      }
+
+  pub all-read : {n i : ℕ} → Passing (test (stored w32 z)) ns at n i → n ≤ i → true ≡ allPass (test z) ns at n
+  all-read p h = rw (toZ-ofZ kept) at (pass-done (test (stored w32 z)) ns at p h)

@@ -1,5 +1,5 @@
 -- How large the numbers of a decision are: `search sizes`; and that what is picked or cut from small weights is small.
-use mathlib.Core.Path.{_≡_, _∙_, ap}
+use mathlib.Core.Path.{_≡_, sym, _∙_, ap}
 use mathlib.Core.Bool.{Bool, true, false}
 use Prim.Native.Nat.{ℕ, _^_, _≤_}
 use native.Mathlib.Nat.{le-trans, le-of-eq, add-le-add}
@@ -7,6 +7,7 @@ use lib.Dec.{lit≤}
 use lib.IntN.{ℤ, pos, negℤ, natAbs, _-ℤ_}
 use lib.Signed.{ltZ}
 use mir.Syntax.{w32, w64}
+use mir.Val.{SFits}
 use mir.Facts.{toZ-ofZ}
 use Rattle.boxes.specs.Ranges.{farthest}
 use Rattle.integers.proofs.Ranges.{stored}
@@ -15,7 +16,7 @@ use Rattle.integers.proofs.Machine.{tests}
 use Rattle.judge_cover.specs.declared.held.Weights.{Weights}
 use Rattle.judge_cover.specs.declared.held.Range.{Range}
 use Rattle.judge_cover.specs.declared.held.Sides.{Sides}
-use Rattle.judge_cover.specs.Deciding.{ordered, later, earlier, sidesOf, cut, cutSides, whole}
+use Rattle.judge_cover.specs.Deciding.{ordered, later, earlier, sidesOf, apart, cut, cutSides, whole}
 use Rattle.judge_cover.specs.Inside.{SmallWeights, SmallRange, SmallSides, SpanInRange}
 
 module _ {w : Weights} (h : SmallWeights w) where
@@ -115,7 +116,7 @@ whole-small = record { low = record { first = lit≤ tt; second = lit≤ tt }; h
 apart-small : (a b : ℤ) → natAbs a ≤ farthest → natAbs b ≤ farthest → natAbs (a -ℤ b) ≤ 2 ^ 30
 apart-small a b ha hb = le-trans (abs-add a (negℤ b)) (add-le-add ha (le-trans (le-of-eq (abs-neg b)) hb))
 
-pub sides-small-of : {l h l₁ h₁ : ℤ} (z : ℤ) → SpanInRange l h → SpanInRange l₁ h₁ → natAbs z ≤ farthest → SmallSides (sidesOf l h l₁ h₁ z)
+sides-small-of : {l h l₁ h₁ : ℤ} (z : ℤ) → SpanInRange l h → SpanInRange l₁ h₁ → natAbs z ≤ farthest → SmallSides (sidesOf l h l₁ h₁ z)
 sides-small-of {l} {h} {l₁} {h₁} z p q e = record {
   low-first = apart-small z l e (p .low);
   low-second = apart-small z l₁ e (q .low);
@@ -124,6 +125,20 @@ sides-small-of {l} {h} {l₁} {h₁} z p q e = record {
 }
 
 -- and what the machine keeps of the numbers does not change them
-pub sides-kept : {l h l₁ h₁ : ℤ} (z : ℤ) → SpanInRange l h → SpanInRange l₁ h₁
+sides-kept : {l h l₁ h₁ : ℤ} (z : ℤ) → SpanInRange l h → SpanInRange l₁ h₁
     → sidesOf (stored w32 l) (stored w32 h) (stored w32 l₁) (stored w32 h₁) z ≡ sidesOf l h l₁ h₁ z
 sides-kept {l} {h} {l₁} {h₁} z p q = rw (kept-in l (p .low), kept-in h (p .high), kept-in l₁ (q .low), kept-in h₁ (q .high))
+
+-- ---- the sides r of a coordinate z, as code has computed them
+pub record Seen (r sides : Sides) : Type 0 where
+  pub is : r ≡ sides
+  pub small : SmallSides r
+
+pub seen : {l h l₁ h₁ z : ℤ} → SFits w64 z → SpanInRange l h → SpanInRange l₁ h₁ → natAbs z ≤ farthest → {r : Sides}
+    → r ≡ sidesOf (stored w32 l) (stored w32 h) (stored w32 l₁) (stored w32 h₁) (stored w64 z) → Seen r (sidesOf l h l₁ h₁ z)
+seen {z} fits p q near e =
+    let f = (rw (toZ-ofZ fits) at e) ∙ sides-kept z p q in
+    record { is = f; small = rw f (sides-small-of z p q near) }
+
+pub apart-seen : {r sides : Sides} → Seen r sides → {a t : Bool} → a ≡ apart r → a ≡ t → apart sides ≡ t
+apart-seen s e f = ap apart (sym (s .is)) ∙ sym e ∙ f

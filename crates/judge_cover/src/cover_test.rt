@@ -15,11 +15,7 @@ fn in_order(p: Weights, q: Weights) -> bool
     requires { ⌜ (SmallWeights p) × (SmallWeights q) ⌝ }
     ensures { λ r. ⌜ r ≡ ordered p q ⌝ }
 {
-    let p_first = p.first;
-    let p_second = p.second;
-    let q_first = q.first;
-    let q_second = q.second;
-    p_second * q_first <= p_first * q_second
+    p.second * q.first <= p.first * q.second
 }
 
 // What one side leaves of a range: a and b say how far the coordinate lies inside of it at the first box and at the
@@ -58,12 +54,8 @@ fn cut_sides(range: Range, sides: Sides) -> Range
     requires { ⌜ (SmallRange range) × (SmallSides sides) ⌝ }
     ensures { λ r. ⌜ r ≡ cutSides range sides ⌝ }
 {
-    let low_first = sides.low_first;
-    let low_second = sides.low_second;
-    let high_first = sides.high_first;
-    let high_second = sides.high_second;
-    let half = cut(range, low_first, low_second);
-    cut(half, high_first, high_second)
+    let half = cut(range, sides.low_first, sides.low_second);
+    cut(half, sides.high_first, sides.high_second)
 }
 
 // Whether the sides of both coordinates leave any weights.
@@ -91,14 +83,10 @@ fn apart(sides: Sides) -> bool
     requires { ⌜ SmallSides sides ⌝ }
     ensures { λ r. ⌜ r ≡ apart sides ⌝ }
 {
-    let low_first = sides.low_first;
-    let low_second = sides.low_second;
-    let high_first = sides.high_first;
-    let high_second = sides.high_second;
-    if outside(low_first, low_second) {
+    if outside(sides.low_first, sides.low_second) {
         return true;
     }
-    outside(high_first, high_second)
+    outside(sides.high_first, sides.high_second)
 }
 
 // Whether a coordinate lies outside of a side at both boxes.

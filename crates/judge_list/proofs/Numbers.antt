@@ -5,7 +5,7 @@ use mathlib.Core.Logic.{⊎-elim}
 use mathlib.Core.List.{List}
 use mathlib.Core.Option.{Option, none, some}
 use Prim.Native.Nat.{ℕ, zero, suc, _+_, _*_, _-_, _/_, _%_, _≤_, _<_}
-use native.Mathlib.Nat.{zero-add, zero-mod, eq-or-lt-of-le, le-of-suc-le-suc}
+use native.Mathlib.Nat.{zero-add, zero-mod, div-add-mod, mod-lt, mul-mod-right, eq-or-lt-of-le, le-of-suc-le-suc}
 use native.Mathlib.Omega.{arith}
 use lib.ListN.{length}
 use lib.IntN.{ℤ, pos}
@@ -18,16 +18,16 @@ use Rattle.integers.specs.First.{firstBad}
 use Rattle.integers.proofs.Ranges.{stored, lt-yes, lt-no, le-yes, le-no, yes-lt, no-lt, yes-le, no-le}
 use Rattle.integers.proofs.Clash.{clash}
 use Rattle.integers.proofs.Order.{lt-or-ge}
-use Rattle.integers.proofs.First.{orElse, moved, bad-parts, bad-moved, none-bad, bad-none}
+use Rattle.integers.proofs.First.{orElse, moved, bad-parts, bad-moved, none-bad, bad-none, bad-below, bad-is, bad-first}
 use Rattle.integers.proofs.Both.{and-false, both-true}
 use Rattle.setting.specs.Setting.{Setting, breakPoints, recordLength}
 use Rattle.boxes.specs.Ranges.{lowFine, inRange, boxNumberFine, numbersOf, boxFault, placeOr}
 use Rattle.boxes.specs.Inside.{sideFine}
 use Rattle.boxes.specs.Records.{boxAtIndex}
-use Rattle.boxes.proofs.Records.{record-left, record-next, place-in}
+use Rattle.boxes.proofs.Records.{whole-is, record-left, record-next, place-in, record-is}
 use Rattle.boxes.proofs.Faults.{fault-at, place-some, place-none, box-none, interval, interval-low, interval-high, side-interval, interval-side}
 use Rattle.judge_list.specs.Checks.{numberFine, numberFault}
-use Rattle.judge_list.specs.Inside.{inBoxes, boxFineAt, boxesFaultAt, fineAt, recordFaultAt, sidesFine, recordFine, noFault}
+use Rattle.judge_list.specs.Inside.{inBoxes, boxFineAt, boxesFaultAt, fineAt, recordFaultAt, sidesFine, recordFine}
 
 -- ---- a search that found nothing among the first a places goes on with the next b
 module _ (fine : ℕ → Bool) (a b : ℕ) (e : firstBad fine a 0 ≡ none) where
@@ -299,16 +299,73 @@ module _ (σ : Setting) (ns : List ℤ) where
   pub read-all : (at : ℕ) → ReadTo at → length ns ≤ at → length ns ≡ placeOr (length ns) (numberFault σ ns)
   read-all at r l = sym (ap (placeOr (length ns)) (read-whole at r l))
 
-  -- ---- whether there is a fault
-  pub list-fine : (at : ℕ) → ReadTo at → length ns ≤ at → true ≡ noFault (numberFault σ ns)
-  list-fine at r l = sym (ap noFault (read-whole at r l))
+  -- ---- the record of the first bad number
+  abbrev found : ℕ
+  found = placeOr (length ns) (numberFault σ ns)
 
-  pub list-bad : (at : ℕ) → Turn at → placeOr (recordLength σ) (recordFaultAt σ ns at) < recordLength σ → false ≡ noFault (numberFault σ ns)
-  list-bad at t l =
-      let h = t .more in
-      let e = record-bad at t l in
-      sym (ap noFault (place-some (length ns) (numberFault σ ns) (omega (arith, e))))
+  pub begins-bad : (at : ℕ) → Turn at → placeOr (recordLength σ) (recordFaultAt σ ns at) < recordLength σ → at ≡ recordLength σ * (found / recordLength σ)
+  begins-bad at t l =
+      let w = whole-is (recordLength σ) at (t .read .whole) in
+      let p = placeOr (recordLength σ) (recordFaultAt σ ns at) in
+      let e : found ≡ recordLength σ * (at / recordLength σ) + p = omega (arith, record-bad at t l) in
+      w ∙ ap (λ k. recordLength σ * k) (sym (ap (λ n. n / recordLength σ) e ∙ record-is (recordLength σ) l (at / recordLength σ)))
 
-pub no-fault : (n : ℕ) (o : Option ℕ) → noFault o ≡ true → n ≡ placeOr n o
-no-fault n none e = refl
-no-fault n (some i) e = clash (cc)
+  pub begins-nowhere : length ns % recordLength σ ≡ 0 → (at : ℕ) → ReadTo at → length ns ≤ at → at ≡ recordLength σ * (found / recordLength σ)
+  begins-nowhere w at r l =
+      let e : at ≡ length ns = omega (arith, r .inside) in
+      e ∙ whole-is (recordLength σ) (length ns) w ∙ ap (λ n. recordLength σ * (n / recordLength σ)) (read-all at r l)
+
+  fine-before : (k : ℕ) → k < found → inList k ≡ true
+  unfolding numberFault
+  fine-before k h = go (firstBad inList (length ns) 0) refl h
+    where
+      go : (o : Option ℕ) → firstBad inList (length ns) 0 ≡ o → k < placeOr (length ns) o → inList k ≡ true
+      go none f l = rw (zero-add k) at (none-bad inList (length ns) 0 f k l)
+      go (some n) f l = bad-first inList (length ns) 0 n f k (omega arith) l
+
+  found-bad : found < length ns → inList found ≡ false
+  unfolding numberFault
+  found-bad h = go (firstBad inList (length ns) 0) refl h
+    where
+      go : (o : Option ℕ) → firstBad inList (length ns) 0 ≡ o → placeOr (length ns) o < length ns → inList (placeOr (length ns) o) ≡ false
+      go none f l = absurd (omega arith)
+      go (some n) f l = bad-is inList (length ns) 0 n f
+
+  found-within : found ≤ length ns
+  unfolding numberFault
+  found-within = go (firstBad inList (length ns) 0) refl
+    where
+      go : (o : Option ℕ) → firstBad inList (length ns) 0 ≡ o → placeOr (length ns) o ≤ length ns
+      go none f = omega arith
+      go (some n) f = omega (arith, bad-below inList (length ns) 0 n f)
+
+  module _ (w : length ns % recordLength σ ≡ 0) {at : ℕ} (e : at ≡ recordLength σ * (found / recordLength σ)) where
+    after : at ≤ found
+    after = omega (arith, e, div-add-mod found (recordLength σ))
+
+    -- the first bad number is one of the record that begins there
+    pub bad-turn : at < length ns → Turn at
+    bad-turn h = turn-at (record {
+      whole = subst (λ n. n % recordLength σ ≡ 0) (sym e) (mul-mod-right (recordLength σ) (found / recordLength σ));
+      inside = omega arith;
+      fine = bad-none inList at 0 (λ k l. fine-before (0 + k) (omega (arith, after)));
+    }) w h
+
+    pub bad-there : at < length ns → at + placeOr (recordLength σ) (recordFaultAt σ ns at) ≡ found
+    bad-there h = let t = bad-turn h in ⊎-elim (record-bad at t) (λ l. absurd (none-there t (read-more at t l)))
+        (lt-or-ge (placeOr (recordLength σ) (recordFaultAt σ ns at)) (recordLength σ))
+      where
+        within : found < at + recordLength σ
+        within = omega (arith, e, div-add-mod found (recordLength σ), mod-lt found {m = recordLength σ} (omega arith))
+
+        none-there : Turn at → ReadTo (at + recordLength σ) → ⊥
+        none-there t r =
+            let f = rw (zero-add found) at (none-bad inList (at + recordLength σ) 0 (r .fine) found within) in
+            let b = found-bad (omega (arith, within, t .more)) in
+            clash (cc (f, b))
+
+    pub bad-within : at < length ns → at + placeOr (recordLength σ) (recordFaultAt σ ns at) ≤ length ns
+    bad-within h = omega (arith, bad-there h, found-within)
+
+    pub bad-nowhere : length ns ≤ at → at ≡ found
+    bad-nowhere h = omega (arith, after, found-within)

@@ -1,11 +1,8 @@
--- How the code goes by the number m of pieces: the length of a record, and the m that is left where it is none of 1 to 7.
+-- How the code goes by the number m of pieces: the m that is left where it is none of 1 to 7.
 use mathlib.Core.Path.{_≡_}
-use Prim.Native.Nat.{ℕ, suc, _+_, _*_, _≤_}
+use Prim.Native.Nat.{ℕ, suc, _≤_}
 use native.Mathlib.Omega.{arith}
-use Rattle.setting.specs.Setting.{lists, HasRows, recordLength}
-
-pub length-is : (m : ℕ) → 6 + 4 * m ≡ recordLength (lists m)
-length-is m = omega arith
+use Rattle.setting.specs.Setting.{HasRows}
 
 not-least : {k m : ℕ} → k ≤ m → (m ≡ k → ⊥) → suc k ≤ m
 not-least h n = omega (arith, n)
@@ -19,7 +16,7 @@ eight-left {m} h r =
     let three = not-least (not-least (h .least) (r .0 .0 .0 .0 .0 .0 .1)) (r .0 .0 .0 .0 .0 .1) in
     let five = not-least (not-least three (r .0 .0 .0 .0 .1)) (r .0 .0 .0 .1) in
     let seven = not-least (not-least five (r .0 .0 .1)) (r .0 .1) in
-    both-ways (not-least seven (r .1)) (h .most)
+    last (not-least seven (r .1)) (h .most)
   where
-    both-ways : 8 ≤ m → m ≤ 8 → m ≡ 8
-    both-ways l k = omega arith
+    last : 8 ≤ m → m ≤ 8 → m ≡ 8
+    last l k = omega arith

@@ -1,8 +1,8 @@
 -- For contracts of private functions: how the code goes through a leaf list, number by number and side by side. Places
 -- are counted from the index `at` where a record, or its boxes, begin.
-use mathlib.Core.Bool.{Bool, true, false, _&&_}
+use mathlib.Core.Bool.{Bool, true, _&&_}
 use mathlib.Core.List.{List}
-use mathlib.Core.Option.{Option, none, some}
+use mathlib.Core.Option.{Option}
 use Prim.Native.Nat.{ℕ, zero, suc, _+_, _*_}
 use lib.IntN.{ℤ}
 use Rattle.integers.specs.Entry.{entry}
@@ -38,7 +38,3 @@ sidesFine ns at (suc n) = sidesFine ns at n && sideFine (entry ns (at + 2 * n)) 
 abbrev pub recordFine : Setting → List ℤ → ℕ → Bool
 recordFine σ ns at =
     fineAt (σ .most) ns at 0 && fineAt (σ .most) ns at 1 && sidesFine ns (at + 2) (2 * breakPoints σ)
-
-abbrev pub noFault : Option ℕ → Bool
-noFault none = true
-noFault (some i) = false

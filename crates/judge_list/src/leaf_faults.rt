@@ -7,7 +7,7 @@ ghost use Rattle.boxes.specs.Ranges.{placeOr};
 ghost use Rattle.boxes.specs.Records.{boxAtIndex};
 ghost use Rattle.judge_list.specs.Checks.{numberFault};
 ghost use Rattle.judge_list.specs.Inside.{inBoxes, boxesFaultAt, recordFaultAt};
-use crate::leaf_list::list_fine;
+use crate::leaf_list::bad_record;
 use boxes::Box;
 
 // The box whose four numbers begin at index `at`.
@@ -65,32 +65,15 @@ fn record_fault(leaves: &[i32], m: usize, at: usize) -> usize
     2 + boxes_fault(leaves, m, at + 2)
 }
 
-// The index of the first bad number of a list of whole records of m pieces, or the list's length, looked for record by
-// record.
-fn first_fault(leaves: &[i32], m: usize) -> usize
-    requires { ⌜ (HasRows m) × (length (now leaves) % recordLength (lists m) ≡ 0) ⌝ }
-    ensures { λ r. ⌜ r ≡ placeOr (length (now (leaves .entry))) (numberFault (lists m) (now (leaves .entry))) ⌝ }
-{
-    let record_length = 6 + 4 * m;
-    let mut at: usize = 0;
-    while at < leaves.len() {
-        let place = record_fault(leaves, m, at);
-        if place < record_length {
-            return at + place;
-        }
-        at += record_length;
-    }
-    leaves.len()
-}
-
-// The index of the first bad number of a list of whole records of m pieces, or the list's length. The numbers are
-// looked at one by one only in a list that has a bad one.
+// The index of the first bad number of a list of whole records of m pieces, or the list's length. Numbers are looked at
+// one by one only in the first record that has a bad one.
 pub fn number_fault(leaves: &[i32], m: usize) -> usize
     requires { ⌜ (HasRows m) × (length (now leaves) % recordLength (lists m) ≡ 0) ⌝ }
     ensures { λ r. ⌜ r ≡ placeOr (length (now (leaves .entry))) (numberFault (lists m) (now (leaves .entry))) ⌝ }
 {
-    if list_fine(leaves, m) {
-        return leaves.len();
+    let at = bad_record(leaves, m);
+    if at < leaves.len() {
+        return at + record_fault(leaves, m, at);
     }
-    first_fault(leaves, m)
+    at
 }

@@ -1,10 +1,11 @@
-// Whether all numbers of a leaf list are fine, without a branch and without naming one.
+// The first record of a leaf list that has a bad number, each record looked at without a branch.
 ghost use mathlib.Core.Path.{_≡_};
-ghost use Prim.Native.Nat.{_+_, _*_, _≤_, _%_};
+ghost use Prim.Native.Nat.{_+_, _*_, _/_, _≤_, _%_};
 ghost use lib.ListN.{length};
 ghost use Rattle.setting.specs.Setting.{lists, HasRows, recordLength};
+ghost use Rattle.boxes.specs.Ranges.{placeOr};
 ghost use Rattle.judge_list.specs.Checks.{numberFault};
-ghost use Rattle.judge_list.specs.Inside.{sidesFine, recordFine, noFault};
+ghost use Rattle.judge_list.specs.Inside.{sidesFine, recordFine};
 use boxes::side_fine;
 
 // Whether the first `sides` sides from index `at` on, a low and its high each, are all fine. Nothing here branches: the
@@ -40,36 +41,41 @@ fn record_fine(leaves: &[i32], m: usize, at: usize) -> bool
     curve_fine & node_fine & most & last
 }
 
-// Whether a list of whole records of m pieces has no bad number, record by record.
-fn records_fine(leaves: &[i32], m: usize) -> bool
+// The index where the first record with a bad number begins, in a list of whole records of m pieces, or the list's
+// length.
+fn first_bad(leaves: &[i32], m: usize) -> usize
     requires { ⌜ (HasRows m) × (length (now leaves) % recordLength (lists m) ≡ 0) ⌝ }
-    ensures { λ r. ⌜ r ≡ noFault (numberFault (lists m) (now (leaves .entry))) ⌝ }
+    ensures { λ r. ⌜ r ≡ recordLength (lists m)
+        * (placeOr (length (now (leaves .entry))) (numberFault (lists m) (now (leaves .entry)))
+        / recordLength (lists m)) ⌝ }
 {
     let record_length = 6 + 4 * m;
     let mut at: usize = 0;
     while at < leaves.len() {
         if !record_fine(leaves, m, at) {
-            return false;
+            return at;
         }
         at += record_length;
     }
-    true
+    at
 }
 
-// Whether a list of whole records of m pieces has no bad number. Each m has a call of its own, so that the compiler
-// knows how many numbers a record has.
-pub fn list_fine(leaves: &[i32], m: usize) -> bool
+// The index where the first record with a bad number begins, in a list of whole records of m pieces, or the list's
+// length. Each m has a call of its own, so that the compiler knows how many numbers a record has.
+pub fn bad_record(leaves: &[i32], m: usize) -> usize
     requires { ⌜ (HasRows m) × (length (now leaves) % recordLength (lists m) ≡ 0) ⌝ }
-    ensures { λ r. ⌜ r ≡ noFault (numberFault (lists m) (now (leaves .entry))) ⌝ }
+    ensures { λ r. ⌜ r ≡ recordLength (lists m)
+        * (placeOr (length (now (leaves .entry))) (numberFault (lists m) (now (leaves .entry)))
+        / recordLength (lists m)) ⌝ }
 {
     match m {
-        1 => records_fine(leaves, 1),
-        2 => records_fine(leaves, 2),
-        3 => records_fine(leaves, 3),
-        4 => records_fine(leaves, 4),
-        5 => records_fine(leaves, 5),
-        6 => records_fine(leaves, 6),
-        7 => records_fine(leaves, 7),
-        _ => records_fine(leaves, 8),
+        1 => first_bad(leaves, 1),
+        2 => first_bad(leaves, 2),
+        3 => first_bad(leaves, 3),
+        4 => first_bad(leaves, 4),
+        5 => first_bad(leaves, 5),
+        6 => first_bad(leaves, 6),
+        7 => first_bad(leaves, 7),
+        _ => first_bad(leaves, 8),
     }
 }

@@ -30,33 +30,19 @@ same-box {c} {d} {a′} {b′} ea eb ec ed = ap₂ (λ x y. boxOf x y c d) ea eb
 
 -- ---- the lesser and the greater of two numbers
 module _ (a b : ℤ) where
-  lesser-first : lesser a b ≤ℤ a
-  lesser-first = go (ltZ b a) refl
+  lesser-le : (lesser a b ≤ℤ a) × (lesser a b ≤ℤ b)
+  lesser-le = go (ltZ b a) refl
     where
-      go : (t : Bool) → ltZ b a ≡ t → cond t b a ≤ℤ a
-      go true e = lt-le (lt-yes e)
-      go false e = ≤ℤ-refl a
+      go : (t : Bool) → ltZ b a ≡ t → (cond t b a ≤ℤ a) × (cond t b a ≤ℤ b)
+      go true e = (lt-le (lt-yes e), ≤ℤ-refl b)
+      go false e = (≤ℤ-refl a, lt-no e)
 
-  lesser-second : lesser a b ≤ℤ b
-  lesser-second = go (ltZ b a) refl
+  greater-ge : (a ≤ℤ greater a b) × (b ≤ℤ greater a b)
+  greater-ge = go (ltZ a b) refl
     where
-      go : (t : Bool) → ltZ b a ≡ t → cond t b a ≤ℤ b
-      go true e = ≤ℤ-refl b
-      go false e = lt-no e
-
-  greater-first : a ≤ℤ greater a b
-  greater-first = go (ltZ a b) refl
-    where
-      go : (t : Bool) → ltZ a b ≡ t → a ≤ℤ cond t b a
-      go true e = lt-le (lt-yes e)
-      go false e = ≤ℤ-refl a
-
-  greater-second : b ≤ℤ greater a b
-  greater-second = go (ltZ a b) refl
-    where
-      go : (t : Bool) → ltZ a b ≡ t → b ≤ℤ cond t b a
-      go true e = ≤ℤ-refl b
-      go false e = lt-no e
+      go : (t : Bool) → ltZ a b ≡ t → (a ≤ℤ cond t b a) × (b ≤ℤ cond t b a)
+      go true e = (lt-le (lt-yes e), ≤ℤ-refl b)
+      go false e = (≤ℤ-refl a, lt-no e)
 
 -- ---- boxes in boxes
 pub lies-on : {a b c : Box} → LiesIn a b → LiesIn b c → LiesIn a c
@@ -68,23 +54,18 @@ lies-on p q = record {
 }
 
 module _ (a b : Box) where
-  first-lies : LiesIn a (roundBoth a b)
+  -- a box of numbers that lie between those of the two
+  between-lies : (pick : ℤ → ℤ → ℤ) → ((u v : ℤ) → (lesser u v ≤ℤ pick u v) × (pick u v ≤ℤ greater u v))
+      → LiesIn (boxOf (pick (a .«x_low») (b .«x_low»)) (pick (a .«x_high») (b .«x_high»)) (pick (a .«y_low») (b .«y_low»)) (pick (a .«y_high») (b .«y_high»)))
+      (roundBoth a b)
   unfolding roundBoth
-  first-lies = record {
-    x-low = lesser-first (a .«x_low») (b .«x_low»);
-    x-high = greater-first (a .«x_high») (b .«x_high»);
-    y-low = lesser-first (a .«y_low») (b .«y_low»);
-    y-high = greater-first (a .«y_high») (b .«y_high»);
-  }
+  between-lies pick h = record { x-low = h _ _ .0; x-high = h _ _ .1; y-low = h _ _ .0; y-high = h _ _ .1 }
+
+  first-lies : LiesIn a (roundBoth a b)
+  first-lies = between-lies (λ u v. u) (λ u v. (lesser-le u v .0, greater-ge u v .0))
 
   second-lies : LiesIn b (roundBoth a b)
-  unfolding roundBoth
-  second-lies = record {
-    x-low = lesser-second (a .«x_low») (b .«x_low»);
-    x-high = greater-second (a .«x_high») (b .«x_high»);
-    y-low = lesser-second (a .«y_low») (b .«y_low»);
-    y-high = greater-second (a .«y_high») (b .«y_high»);
-  }
+  second-lies = between-lies (λ u v. v) (λ u v. (lesser-le u v .1, greater-ge u v .1))
 
 lies-itself : (a : Box) → LiesIn a a
 lies-itself a = record { x-low = ≤ℤ-refl _; x-high = ≤ℤ-refl _; y-low = ≤ℤ-refl _; y-high = ≤ℤ-refl _ }

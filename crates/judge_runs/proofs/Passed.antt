@@ -163,6 +163,31 @@ pub runs-from : {σ : Setting} {ns : List ℤ} {run : ℕ} {boxes : List ℤ} {f
     → RunsTo σ ns run boxes f to
 runs-from f r h l = record { order = l; whole = r .whole; room = r .room; each = λ g a b. r .each g (omega arith) b }
 
+-- ---- the loop over boxes of runs `from` to before `to`: no record before run k holds the point
+pub record SearchedRuns (σ : Setting) (ns : List ℤ) (x y : ℤ) (run from to k : ℕ) : Type 0 where
+  pub after : from ≤ k
+  pub before : k ≤ to
+  pub searched : Searched σ ns x y (run * k)
+
+module _ {σ : Setting} {ns : List ℤ} {x y : ℤ} {run from to : ℕ} {boxes : List ℤ} (rs : RunsTo σ ns run boxes from to) where
+  pub search-begun : {r : ℕ} → Searched σ ns x y (run * from) → OutsideTo boxes x y from to r → SearchedRuns σ ns x y run from to r
+  search-begun {r} s o = record { after = o .after; before = o .before; searched = runs-passed run boxes from to r s rs o }
+
+  pub search-on : {k r : ℕ} → SearchedRuns σ ns x y run from to k → k < to → Searched σ ns x y (run * (k + 1)) → OutsideTo boxes x y (k + 1) to r
+      → SearchedRuns σ ns x y run from to r
+  search-on {k} {r} i h s o = record {
+    after = omega (arith, i .after, o .after);
+    before = o .before;
+    searched = runs-passed run boxes (k + 1) to r s (runs-from (k + 1) rs (omega (arith, i .after)) (omega arith)) o;
+  }
+
+pub search-less : {boxes : List ℤ} {x y : ℤ} {k to r : ℕ} → OutsideTo boxes x y (k + 1) to r → k < to → to - r < to - k
+search-less o h = omega (arith, o .after, o .before)
+
+pub search-done : {σ : Setting} {ns : List ℤ} {x y : ℤ} {run from to k : ℕ} → SearchedRuns σ ns x y run from to k → to ≤ k
+    → Searched σ ns x y (run * to)
+search-done {to} {k} i h = let e : k ≡ to = omega (arith, i .before) in rw e at (i .searched)
+
 -- ---- a holder that is found is the first, however far the search was to go
 pub found-farther : {σ : Setting} {ns : List ℤ} {x y : ℤ} {a : ℕ} {h : Holder} → FoundTo σ ns x y a h → h .cover < covers σ → (b : ℕ)
     → FoundTo σ ns x y b h

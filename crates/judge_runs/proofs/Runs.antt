@@ -69,6 +69,10 @@ module _ (l : List ℤ) (i : ℕ) (b : Box) where
       (sym (entry-before (numbersOf b) l i (j + 2) (omega arith)))
       (sym (entry-before (numbersOf b) l i (j + 3) (omega arith)))
 
+-- ---- a list of l numbers has room for box n of fewer than `most`, where one as long has room for all
+pub room-left : {n most l k : ℕ} → n < most → l ≡ k → 4 * most ≤ k → 4 * n + 4 ≤ l
+room-left h e r = omega arith
+
 -- ---- one more box written, and the boxes before it
 module _ {σ : Setting} {ns : List ℤ} {run count : ℕ} (boxes : List ℤ) {boxes′ : List ℤ} (b : Box)
     (e : boxes′ ≡ sets boxes (4 * count) (numbersOf b)) (room : 4 * count + 4 ≤ length boxes) where

@@ -27,7 +27,7 @@ abbrev pub withCurve : Curve → Outlined → Outlined
 withCurve c (curves cs) = curves (c ∷ cs)
 withCurve c (faulty r) = faulty r
 
--- curve by curve from index `at` on: 5 where more than `left` begin, then the faults of each
+-- curve by curve from index `at` on, where `left` is how many more may begin: 5 where one more does, else its faults
 unfoldable pub outlineFrom : (left m : ℕ) → List ℤ → ℕ → Outlined
 outlineFrom zero m ns at = elim (ltb at (length ns)) [ true ↦ faulty (TooManyCurves at) | false ↦ curves [] ]
 outlineFrom (suc left) m ns at =

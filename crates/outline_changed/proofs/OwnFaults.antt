@@ -1,5 +1,5 @@
 -- The faults of a curve given by itself, check by check, and of an outline in which it stands for another.
-use mathlib.Core.Path.{_≡_, refl}
+use mathlib.Core.Path.{_≡_, refl, sym}
 use mathlib.Core.Bool.{Bool, true, false}
 use mathlib.Core.List.{List}
 use mathlib.Core.Option.{Option, none, some}
@@ -15,6 +15,7 @@ use Rattle.refusals.specs.declared.Refusal.the-variants.{Degree, Coordinate, Ga
 use Rattle.outline.specs.Curves.{degreeFine, coordinates, degreeAt, nextAt}
 use Rattle.outline.specs.Faults.{coordinateFine, firstBeyond}
 use Rattle.outline.specs.Inside.{foundOf, faultOf}
+use Rattle.outline.proofs.Searching.{found-own}
 use Rattle.outline.specs.declared.curve_faults.Found.{Found}
 use Rattle.outline.specs.declared.curve_faults.Found.the-variants.{At, Nowhere}
 use Rattle.outline.specs.declared.curve_faults.Fault.{Fault}
@@ -57,11 +58,9 @@ module _ (m : ℕ) (new : List ℤ) (at : ℕ) where
 
 pub found-place : (new : List ℤ) (i : ℕ) → At i ≡ foundOf (firstBeyond new (nextAt new 0 - 1) 1) → i < nextAt new 0
 found-place new i e =
-    let l = bad-below (λ k. coordinateFine (entry new k)) (nextAt new 0 - 1) 1 i (is (firstBeyond new (nextAt new 0 - 1) 1) e) in omega arith
-  where
-    is : (o : Option ℕ) → At i ≡ foundOf o → o ≡ some i
-    is none f = clash (cc)
-    is (some j) f = cc
+    let o = firstBeyond new (nextAt new 0 - 1) 1 in
+    let l = bad-below (λ k. coordinateFine (entry new k)) (nextAt new 0 - 1) 1 i (found-own o (some i) (sym e)) in
+    omega arith
 
 pub fault-none : (o : Option Refusal) → NoFault ≡ faultOf o → o ≡ none
 fault-none none e = refl

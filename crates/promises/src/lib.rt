@@ -6,4 +6,3 @@
 pub mod exported;
 pub mod operations;
 pub mod station;
-pub mod together;

@@ -1,10 +1,9 @@
-// Callers of banding, foretelling, the question for the tightest band, exchanging a curve, judging, drawing and handing
-// out.
+// What each operation promises, as the contract of a caller. The first `ensures` says what is returned, the second what
+// stands in the lent list afterwards. `lists m` and `station m` are the setting: limits, and m pieces a leaf.
 ghost use mathlib.Core.Path.{_≡_};
 ghost use lib.ListN.{length};
 ghost use Rattle.setting.specs.Setting.{lists, station};
-ghost use Rattle.band.specs.Banding.{banded, written, bandedSpline, writtenSpline};
-ghost use Rattle.band.specs.Banding.{bandedBinary64, writtenBinary64};
+ghost use Rattle.band.specs.Banding.{banded, written, bandedSpline, writtenSpline, bandedBinary64, writtenBinary64};
 ghost use Rattle.band_foretold.specs.Foretelling.{foretold, depthsWritten};
 ghost use Rattle.band_tightest.specs.Tightest.{tightest};
 ghost use Rattle.band_exchanged.specs.Exchange.{exchanged, exchangedList};
@@ -26,40 +25,37 @@ use quote_price::quoting::Quoted;
 
 pub fn band(outline: &[i32], tolerance: i32, m: u32, records: &mut [i32]) -> Banded
     ensures { λ r. ⌜ r ≡ banded (lists m) tolerance (now (outline .entry)) (length (now (records .entry))) ⌝ }
-    ensures { λ r. ⌜ now (records .exit)
-        ≡ written (lists m) tolerance (now (outline .entry)) (now (records .entry)) ⌝ }
+    ensures { λ r. ⌜ now (records .exit) ≡ written (lists m) tolerance (now (outline .entry)) (now (records .entry)) ⌝ }
 {
     band::band(outline, tolerance, m, records)
 }
 
 pub fn station_band(outline: &[i32], tolerance: i32, m: u32, records: &mut [i32]) -> Banded
     ensures { λ r. ⌜ r ≡ banded (station m) tolerance (now (outline .entry)) (length (now (records .entry))) ⌝ }
-    ensures { λ r. ⌜ now (records .exit)
-        ≡ written (station m) tolerance (now (outline .entry)) (now (records .entry)) ⌝ }
+    ensures { λ r. ⌜ now (records .exit) ≡ written (station m) tolerance (now (outline .entry))
+        (now (records .entry)) ⌝ }
 {
     band::station_band(outline, tolerance, m, records)
 }
 
 pub fn spline_band(points: &[i32], tolerance: i32, m: u32, records: &mut [i32]) -> Banded
     ensures { λ r. ⌜ r ≡ bandedSpline m tolerance (now (points .entry)) (length (now (records .entry))) ⌝ }
-    ensures { λ r. ⌜ now (records .exit)
-        ≡ writtenSpline m tolerance (now (points .entry)) (now (records .entry)) ⌝ }
+    ensures { λ r. ⌜ now (records .exit) ≡ writtenSpline m tolerance (now (points .entry)) (now (records .entry)) ⌝ }
 {
     band::spline_band(points, tolerance, m, records)
 }
 
 pub fn binary64_band(outline: &[f64], tolerance: i32, m: u32, records: &mut [i32]) -> Banded
     ensures { λ r. ⌜ r ≡ bandedBinary64 m tolerance (now (outline .entry)) (length (now (records .entry))) ⌝ }
-    ensures { λ r. ⌜ now (records .exit)
-        ≡ writtenBinary64 m tolerance (now (outline .entry)) (now (records .entry)) ⌝ }
+    ensures { λ r. ⌜ now (records .exit) ≡ writtenBinary64 m tolerance (now (outline .entry)) (now (records .entry)) ⌝ }
 {
     band::binary64_band(outline, tolerance, m, records)
 }
 
 pub fn foretell(outline: &[i32], tolerance: i32, m: u32, depths: &mut [i32]) -> Foretold
     ensures { λ r. ⌜ r ≡ foretold (lists m) tolerance (now (outline .entry)) (length (now (depths .entry))) ⌝ }
-    ensures { λ r. ⌜ now (depths .exit)
-        ≡ depthsWritten (lists m) tolerance (now (outline .entry)) (now (depths .entry)) ⌝ }
+    ensures { λ r. ⌜ now (depths .exit) ≡ depthsWritten (lists m) tolerance (now (outline .entry))
+        (now (depths .entry)) ⌝ }
 {
     band_foretell::foretell(outline, tolerance, m, depths)
 }
@@ -79,10 +75,10 @@ pub fn exchange(
     given: usize,
     records: &mut [i32],
 ) -> Banded
-    ensures { λ r. ⌜ r
-        ≡ exchanged (lists m) tolerance (now (outline .entry)) number curve given (now (records .entry)) ⌝ }
-    ensures { λ r. ⌜ now (records .exit)
-        ≡ exchangedList (lists m) tolerance (now (outline .entry)) number curve given (now (records .entry)) ⌝ }
+    ensures { λ r. ⌜ r ≡ exchanged (lists m) tolerance (now (outline .entry)) number curve given
+        (now (records .entry)) ⌝ }
+    ensures { λ r. ⌜ now (records .exit) ≡ exchangedList (lists m) tolerance (now (outline .entry)) number curve given
+        (now (records .entry)) ⌝ }
 {
     band_exchange::exchange(outline, tolerance, m, number, curve, given, records)
 }

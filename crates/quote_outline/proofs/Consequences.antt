@@ -1,6 +1,7 @@
 -- What a caller may conclude of an arch with its chord: at T 44 two curves of a leaf each, at T 8 one of four and one of one.
 use mathlib.Core.Path.{_≡_, refl, _∙_, ap}
 use mathlib.Core.List.{List, [], _∷_}
+use Prim.Native.Nat.{ℕ, _*_}
 use lib.ListN.{take, replicate}
 use lib.IntN.{ℤ, pos}
 use Rattle.setting.specs.Setting.{lists}
@@ -21,24 +22,14 @@ bow = pos 3 ∷ pos 0 ∷ pos 0 ∷ pos 10 ∷ pos 30 ∷ pos 20 ∷ pos 30 ∷ 
 abbrev lent : List ℤ
 lent = replicate 100 (pos 7)
 
-done-44 : banded (lists 3) (pos 44) bow 100 ≡ Done 2 2 2
-unfolding computing
-done-44 = refl
-
-cost-44 : curveCosts (lists 3) (pos 44) (curvesOf (outlined 4096 3 bow)) ≡ 280
-unfolding computing curveCosts
-cost-44 = refl
+bow-at : (T : ℤ) (l n s : ℕ) → banded (lists 3) T bow 100 ≡ Done 2 l n → curveCosts (lists 3) T (curvesOf (outlined 4096 3 bow)) ≡ s
+    → quoted (lists 3) (take (18 * l) (written (lists 3) T bow lent)) ≡ Cents (total s)
+bow-at T l n s done costs = quote-of-outline 3 T bow lent 2 l n done ∙ ap (λ c. Cents (total c)) costs
 
 pub bow-44 : quoted (lists 3) (take 36 (written (lists 3) (pos 44) bow lent)) ≡ Cents 315
-bow-44 = quote-of-outline 3 (pos 44) bow lent 2 2 2 done-44 ∙ ap (λ s. Cents (total s)) cost-44
-
-done-8 : banded (lists 3) (pos 8) bow 100 ≡ Done 2 5 8
-unfolding computing
-done-8 = refl
-
-cost-8 : curveCosts (lists 3) (pos 8) (curvesOf (outlined 4096 3 bow)) ≡ 350
 unfolding computing curveCosts
-cost-8 = refl
+bow-44 = bow-at (pos 44) 2 2 280 refl refl
 
 pub bow-8 : quoted (lists 3) (take 90 (written (lists 3) (pos 8) bow lent)) ≡ Cents 394
-bow-8 = quote-of-outline 3 (pos 8) bow lent 2 5 8 done-8 ∙ ap (λ s. Cents (total s)) cost-8
+unfolding computing curveCosts
+bow-8 = bow-at (pos 8) 5 8 350 refl refl

@@ -17,7 +17,8 @@ pub enum Refusal {
     EmptyOutline,
     // 7: the first node at the last depth that does not meet the tolerance.
     TooWide { curve: u32, node: u32 },
-    // 8: the numbers lent are too few for the records of this many leaves, or for the answers to this many points.
+    // 8: the numbers lent are too few for the records of this many leaves, for the answers to this many points, or for
+    // the depths of this many curves.
     TooFewRecords(usize),
     // 9: the leaf list is empty or its length is no multiple of a record's.
     LeafListLength(usize),
@@ -27,7 +28,7 @@ pub enum Refusal {
     PointX,
     // 11: the point's y is, and its x is not.
     PointY,
-    // 12: the first bad number of two boxes, at this place from 0 to 7.
+    // 12: the first bad number of one box, at this place from 0 to 3, or of two boxes, from 0 to 7.
     BoxNumber(usize),
     // 13: the vertices lent are too few; their length.
     TooFewVertices(usize),

@@ -11,10 +11,10 @@ pub record Setting : Type 0 where
   pub leaves : ℕ
   -- how many pieces a leaf has, so that its break points are 0 to this number
   pub pieces : ℕ
-  -- control values are sixths of a stage unit (request 13), and no units
+  -- whether control values count sixths of a stage unit (request 13), and not whole units
   pub sixths : Bool
 
--- how many of what control values count make a stage unit
+-- how many steps of a control value make a stage unit
 abbrev pub scale : Setting → ℕ
 scale σ = cond (σ .sixths) 6 1
 
@@ -47,7 +47,8 @@ station m = limited 64 128 m
 abbrev pub standard : Setting
 standard = lists 3
 
--- the setting of texts, which stop at their 65th curve; their limit of leaves is never passed either
+-- the setting of texts, which stop at their 65th curve. 64 curves have at most 16384 leaves, so this limit is never
+-- passed: the 910 leaves of a text are check 8's, as 16,380 numbers are lent and a record has 18.
 abbrev pub texts : Setting
 texts = limited 64 16384 3
 

@@ -1,6 +1,6 @@
 // A curve line read from a text.
 ghost use mathlib.Core.Path.{_≡_};
-ghost use Rattle.text_forms.specs.Forms.{curveFormAt, curveThird, curveFourth, curveEnd};
+ghost use Rattle.text_forms.specs.Forms.{curveFormAt, curveThird, curveEnd};
 use crate::forms::Form;
 use crate::forms::Points;
 use crate::pairs::Pair;
@@ -45,21 +45,13 @@ fn curve_third(text: &[u8], i: usize, p: Points) -> Form
     q.degree = 2;
     q.x2 = x;
     q.y2 = y;
-    curve_fourth(text, j, q)
-}
-
-// A curve line, after three points.
-fn curve_fourth(text: &[u8], i: usize, p: Points) -> Form
-    ensures { λ r. ⌜ r ≡ curveFourth (now (text .entry)) i p ⌝ }
-{
-    let Pair::IsPair(x, y, j) = spaced_pair_at(text, i) else {
-        return curve_end(text, i, p);
+    let Pair::IsPair(x, y, k) = spaced_pair_at(text, j) else {
+        return curve_end(text, j, q);
     };
-    let mut q = p;
     q.degree = 3;
     q.x3 = x;
     q.y3 = y;
-    curve_end(text, j, q)
+    curve_end(text, k, q)
 }
 
 // A curve line, after its last point.

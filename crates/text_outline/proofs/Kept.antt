@@ -41,11 +41,11 @@ record Agree (ns ms : List ℤ) (e : ℕ) : Type 0 where
   first : e ≤ length ns
   second : e ≤ length ms
 
-fault-of : (o p : Option Refusal) → faultOf o ≡ faultOf p → o ≡ p
-fault-of none none e = refl
-fault-of (some a) (some b) e = cc
-fault-of none (some b) e = let z : _≡_ {A = ℕ} 0 1 = cc in absurd (omega arith)
-fault-of (some a) none e = let z : _≡_ {A = ℕ} 0 1 = cc in absurd (omega arith)
+same-fault : (o p : Option Refusal) → faultOf o ≡ faultOf p → o ≡ p
+same-fault none none e = refl
+same-fault (some a) (some b) e = cc
+same-fault none (some b) e = let z : _≡_ {A = ℕ} 0 1 = cc in absurd (omega arith)
+same-fault (some a) none e = let z : _≡_ {A = ℕ} 0 1 = cc in absurd (omega arith)
 
 module _ {ns ms : List ℤ} {e : ℕ} (a : Agree ns ms e) where
   beyond-same : (n i : ℕ) → i + n ≤ e → firstBeyond ns n i ≡ firstBeyond ms n i
@@ -82,7 +82,7 @@ module _ {ns ms : List ℤ} {e : ℕ} (a : Agree ns ms e) where
         either false f q g = fault-degree m ns at f ∙ sym (fault-degree m ms at (fine-same ∙ f))
         either true f false g = fault-pieces m ns at f g ∙ sym (fault-pieces m ms at (fine-same ∙ f) (pieces-same ∙ g))
         either true f true g =
-            fault-of (faultAt m ns at) (faultAt m ms at)
+            same-fault (faultAt m ns at) (faultAt m ms at)
             (fault-last m ns at f g (omega (arith, a .first))
             ∙ ap₂ (λ (t : Bool) (o : Option ℕ). lastFault at t (foundOf o)) meets-same
             (beyond-same (nextAt ns at - (at + 1)) (at + 1) (omega arith) ∙ ap (λ (n : ℕ). firstBeyond ms (n - (at + 1)) (at + 1)) next-same)

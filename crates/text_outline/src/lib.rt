@@ -26,9 +26,6 @@ pub fn keep_outline(text: &[u8], numbers: &mut [i32]) -> usize
             Form::NoForm => {
                 return at;
             }
-            Form::Tolerance(_, next) => {
-                i = next;
-            }
             Form::Curve(p, next) => {
                 if left == 0 {
                     return put(numbers, at, p.degree);
@@ -37,7 +34,7 @@ pub fn keep_outline(text: &[u8], numbers: &mut [i32]) -> usize
                 left -= 1;
                 i = next;
             }
-            Form::Point(_, _, next) => {
+            Form::Tolerance(_, next) | Form::Point(_, _, next) => {
                 i = next;
             }
         }

@@ -59,18 +59,10 @@ unfolding depthOf firstBad largest bend largestOf gapOf rowsOf table
 jagged-at-most = refl
 
 -- degree 3 has depths to 8, degree 4 to 4
-pub jagged-at-21 : depthOf (lists 8) (pos 21) (jagged 3) ≡ some 8
+pub jagged-from-21 : (depthOf (lists 8) (pos 21) (jagged 3) ≡ some 8) × (depthOf (lists 8) (pos 20) (jagged 3) ≡ none)
 unfolding depthOf firstBad largest bend largestOf gapOf rowsOf table
-jagged-at-21 = refl
+jagged-from-21 = (refl, refl)
 
-pub jagged-at-20 : depthOf (lists 8) (pos 20) (jagged 3) ≡ none
+pub quartic-from-8864 : (depthOf (lists 8) (pos 8864) (jagged 4) ≡ some 4) × (depthOf (lists 8) (pos 8863) (jagged 4) ≡ none)
 unfolding depthOf firstBad largest bend largestOf gapOf rowsOf table
-jagged-at-20 = refl
-
-pub quartic-at-8864 : depthOf (lists 8) (pos 8864) (jagged 4) ≡ some 4
-unfolding depthOf firstBad largest bend largestOf gapOf rowsOf table
-quartic-at-8864 = refl
-
-pub quartic-at-8863 : depthOf (lists 8) (pos 8863) (jagged 4) ≡ none
-unfolding depthOf firstBad largest bend largestOf gapOf rowsOf table
-quartic-at-8863 = refl
+quartic-from-8864 = (refl, refl)

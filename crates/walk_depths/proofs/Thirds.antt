@@ -62,10 +62,6 @@ arch = record {
   y = pos 150 ∷ pos 180 ∷ pos 180 ∷ pos 150 ∷ pos 0 ∷ pos 0 ∷ [];
 }
 
-pub sixths-flat-from-13 : Flat (splines 3) (pos 13) arch 0
+pub sixths-flat-from-13 : Flat (splines 3) (pos 13) arch 0 × (Flat (splines 3) (pos 12) arch 0 → ⊥)
 unfolding largest bend largestOf gapOf rowsOf table
-sixths-flat-from-13 = leZ-yes tt
-
-pub sixths-not-flat-at-12 : Flat (splines 3) (pos 12) arch 0 → ⊥
-unfolding largest bend largestOf gapOf rowsOf table
-sixths-not-flat-at-12 f = f .le
+sixths-flat-from-13 = (leZ-yes tt, λ f. f .le)

@@ -18,18 +18,17 @@ use Rattle.write_leaves.specs.Boxes.{fourNumbers, opening, ending, boxBy
 
 -- ---- a number as it was read from the list
 module _ (d o : List ℕ) (i j : ℕ) (z : ℤ) (h : mag z < 2 ^ 31) where
-  pub first-put : PutWithin d i 11 (decimal (stored w32 z)) o j → PutWithin d i 11 (decimal z) o j
-  first-put a = rw (read-again w32 z h) at a
-
   pub element-put : PutWithin d i 12 (spaced (stored w32 z)) o j → PutWithin d i 12 (spaced z) o j
   element-put a = rw (read-again w32 z h) at a
 
 -- ---- parts of a box
 module _ (d : List ℕ) (i : ℕ) (ns : List ℤ) (k : ℕ) where
-  pub four-put : (o u v w : List ℕ) (a b c e : ℕ) → PutWithin d i 11 (decimal (entry ns k)) o a → PutWithin o a 12 (spaced (entry ns (k + 1))) u b
-      → PutWithin u b 12 (spaced (entry ns (k + 2))) v c → PutWithin v c 12 (spaced (entry ns (k + 3))) w e → PutWithin d i 47 (fourNumbers ns k) w e
+  pub four-put : (o u v w : List ℕ) (a b c e : ℕ) → mag (entry ns k) < 2 ^ 31 → PutWithin d i 11 (decimal (stored w32 (entry ns k))) o a
+      → PutWithin o a 12 (spaced (entry ns (k + 1))) u b → PutWithin u b 12 (spaced (entry ns (k + 2))) v c
+      → PutWithin v c 12 (spaced (entry ns (k + 3))) w e
+      → PutWithin d i 47 (fourNumbers ns k) w e
   unfolding fourNumbers
-  four-put o u v w a b c e p q r s = within-both (within-both (within-both p q) r) s
+  four-put o u v w a b c e h p q r s = within-both (within-both (within-both (rw (read-again w32 (entry ns k) h) at p) q) r) s
 
   pub box-put : (o u v : List ℕ) (a b c : ℕ) → Appended d i opening o a → PutWithin o a 47 (fourNumbers ns k) u b → Appended u b ending v c
       → PutWithin d i 50 (boxBytes ns k) v c

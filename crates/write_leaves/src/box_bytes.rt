@@ -4,7 +4,7 @@ ghost use Prim.Native.Nat.{_+_, _≤_, _<_};
 ghost use lib.ListN.{length};
 ghost use Rattle.integers.specs.Entry.{entry};
 ghost use Rattle.write_numbers.specs.Appends.{PutWithin};
-ghost use Rattle.write_numbers.specs.Decimals.{decimal, spaced};
+ghost use Rattle.write_numbers.specs.Decimals.{spaced};
 ghost use Rattle.write_leaves.specs.Boxes.{fourNumbers, boxBytes, boxesBytes};
 use write_numbers::decimals::put_number;
 use write_numbers::decimals::put_spaced;
@@ -39,19 +39,11 @@ fn put_four(ns: &[i32], k: usize, out: &mut [u8], at: usize) -> usize
     requires { ⌜ (k + 4 ≤ length (now ns)) × (at + 47 ≤ length (now out)) ⌝ }
     ensures { λ r. ⌜ PutWithin (now (out .entry)) at 47 (fourNumbers (now (ns .entry)) k) (now (out .exit)) r ⌝ }
 {
-    let a = put_first(ns, k, out, at);
+    let first = ns[k];
+    let a = put_number(out, at, first);
     let b = put_element(ns, k + 1, out, a);
     let c = put_element(ns, k + 2, out, b);
     put_element(ns, k + 3, out, c)
-}
-
-// A number with no space before it.
-fn put_first(ns: &[i32], k: usize, out: &mut [u8], at: usize) -> usize
-    requires { ⌜ (k < length (now ns)) × (at + 11 ≤ length (now out)) ⌝ }
-    ensures { λ r. ⌜ PutWithin (now (out .entry)) at 11 (decimal (entry (now (ns .entry)) k)) (now (out .exit)) r ⌝ }
-{
-    let value = ns[k];
-    put_number(out, at, value)
 }
 
 // A space and a number.

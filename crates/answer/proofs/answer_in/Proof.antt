@@ -6,9 +6,6 @@ use Rattle.text_answers.proofs.Answers.{answer-refused, done-fits, done-inside,
 use Rattle.answer.proofs.answer_in.Statement.{statement}
 use Rattle.answer.proofs.answer_in.Tie as tie
 
-put-band-requires : tie.Need-put-band-requires
-put-band-requires c κs = search lines-room
-
 mul-put-points : tie.Need-mul-put-points
 mul-put-points c = search done-fits
 
@@ -18,19 +15,10 @@ slice-reshare-prefix-put-points c = search done-inside
 slice-aggregate-put-points : tie.Need-slice-aggregate-put-points
 slice-aggregate-put-points c = sym (length-take-le _ _ (slice-reshare-prefix-put-points (c .before)))
 
-put-points-requires : tie.Need-put-points-requires
-put-points-requires c κs = (search points-room, search done-fine)
-
-returns : tie.Need-returns
-returns c = search answer-refused
-
-returns-2 : tie.Need-returns-2
-returns-2 c = search answer-done
-
 pub answer-in-spec : {M : Type 1} → statement M
 answer-in-spec =
     tie.close
-    (tie.spec (λ c κs. search needs) (λ c. search needs) (λ c κs. search needs) (λ c. search needs) put-band-requires
-    mul-put-points slice-reshare-prefix-put-points slice-aggregate-put-points put-points-requires (λ c. search needs)
-    (λ c. search needs) (λ c. search needs) returns (λ c. search needs) (λ c. search needs) (λ c. search needs)
-    returns-2)
+    (tie.spec (λ c κs. search needs) (λ c. search needs) (λ c κs. search needs) (λ c. search needs)
+    (λ c κs. search lines-room) mul-put-points slice-reshare-prefix-put-points slice-aggregate-put-points
+    (λ c κs. (search points-room, search done-fine)) (λ c. search needs) (λ c. search needs) (λ c. search needs)
+    (λ c. search answer-refused) (λ c. search needs) (λ c. search needs) (λ c. search needs) (λ c. search answer-done))

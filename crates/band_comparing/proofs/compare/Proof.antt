@@ -15,11 +15,11 @@ use Rattle.band_comparing.proofs.compare.Statement.{statement}
 use Rattle.band_comparing.proofs.compare.Tie as tie
 
 abbrev Inv-loop : tie.InvT-loop
-Inv-loop given shown rows m scale ns t curves number k₀ here₀ first₀ second₀ reach₀ k here first second reach =
+Inv-loop given shown rows m scale ns t curves number by k₀ here₀ first₀ second₀ reach₀ k here first second reach =
     Comparing (lists m) (toZ w64 t) ns curves number given shown k here first second reach
 
 abbrev μ-loop : tie.MeasureT-loop
-μ-loop given shown rows m scale ns t curves number k₀ here₀ first₀ second₀ reach₀ k here first second reach = curves - k
+μ-loop given shown rows m scale ns t curves number by k₀ here₀ first₀ second₀ reach₀ k here first second reach = curves - k
 
 loop-holds : tie.Need-loop-holds Inv-loop μ-loop
 loop-holds c = comparing-start _ _ _ _ _ _ _ (c .pre .3)

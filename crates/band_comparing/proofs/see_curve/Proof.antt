@@ -16,11 +16,11 @@ use Rattle.band_comparing.proofs.see_curve.Statement.{statement}
 use Rattle.band_comparing.proofs.see_curve.Tie as tie
 
 abbrev Inv-loop : tie.InvT-loop
-Inv-loop given reach at rows m scale number t record-length last part₀ place₀ to₀ part place to =
-    Seeing (lists m) (toZ w64 t) (part₀ .curve) number given reach at part place to
+Inv-loop given reach at rows by number t m record-length last part₀ place₀ to₀ part place to =
+    Seeing (lists (by .m)) (toZ w64 t) (part₀ .curve) number given reach at part place to
 
 abbrev μ-loop : tie.MeasureT-loop
-μ-loop given reach at rows m scale number t record-length last part₀ place₀ to₀ part place to = partRank (part₀ .curve) part
+μ-loop given reach at rows by number t m record-length last part₀ place₀ to₀ part place to = partRank (part₀ .curve) part
 
 mul-record-length : tie.Need-mul-record-length Inv-loop μ-loop
 mul-record-length c = omega (arith, c .pre .0 .lent .has .most)
@@ -100,7 +100,7 @@ returns-2 c =
     let l = t .before .before in
     let s = l .before .before in
     rw (toZ-ofZ (s .fits .t)) at
-    (seeing-done (l .loop .inv) (sym (k .before .n .given .1) ∙ t .try-node .ensures) (record-length-is (s .args .m)) (a .after .ensures)
+    (seeing-done (l .loop .inv) (sym (k .before .n .given .1) ∙ t .try-node .ensures) (record-length-is (s .args .by .m)) (a .after .ensures)
     (c .if2 .taken))
 
 loop-less-2 : tie.Need-loop-less-2 Inv-loop μ-loop
@@ -115,7 +115,7 @@ loop-again-2 c =
     let t = k .before .before .before in
     let l = t .before .before in
     let s = l .before .before in
-    seeing-after (l .loop .inv) (sym (k .before .n .given .1) ∙ t .try-node .ensures) (record-length-is (s .args .m)) (a .after .ensures)
+    seeing-after (l .loop .inv) (sym (k .before .n .given .1) ∙ t .try-node .ensures) (record-length-is (s .args .by .m)) (a .after .ensures)
     (c .if2 .left)
 
 pub see-curve-spec : {M : Type 1} → statement M

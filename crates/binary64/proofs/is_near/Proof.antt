@@ -8,7 +8,7 @@ use lib.Ieee.Casts.{toSigned-in}
 use mir.Syntax.{w32, w64}
 use mir.Val.{SFits, toZ, ofZ}
 use mir.ValLaws.{toZ-ofZ}
-use Rattle.binary64.proofs.Near.{cut-fits, cut-low, cut-high, near-is, too-low, too-high}
+use Rattle.binary64.proofs.Near.{cut-fits, near-low, near-high, near-is, too-low, too-high}
 use Rattle.binary64.proofs.is_near.Statement.{statement}
 use Rattle.binary64.proofs.is_near.Tie as tie
 
@@ -18,7 +18,7 @@ truncating-f64-to-i64-requires c κs =
     let x = c .before .before .args .x in
     let p = c .before .if1 .taken in
     let q = c .if2 .taken in
-    (cut-low x p q, cut-high x p q)
+    (near-low x p q, near-high x p q)
 
 -- the cut, as the machine keeps it
 cut-is : (c : tie.After-truncating-f64-to-i64) → toZ w64 (ofZ w64 (c .truncating-f64-to-i64 .result)) ≡ toSigned 63 (c .before .before .before .args .x)

@@ -7,12 +7,9 @@ use Rattle.binary64.proofs.Quotient.{cast-quotient}
 use Rattle.binary64.proofs.sixteenth.Statement.{statement}
 use Rattle.binary64.proofs.sixteenth.Tie as tie
 
-int-to-float-result : tie.Need-int-to-float-result
-int-to-float-result c = search needs
-
 returns : tie.Need-returns
 unfolding ofBits
 returns c = let n = c .before .args .n in cast-quotient 4 (lit≤ tt) n n refl (c .before .fits .n)
 
 pub sixteenth-spec : {M : Type 1} → statement M
-sixteenth-spec = tie.close (tie.spec int-to-float-result returns)
+sixteenth-spec = tie.close (tie.spec (λ c. search needs) returns)

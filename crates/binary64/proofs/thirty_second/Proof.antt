@@ -7,12 +7,7 @@ use Rattle.binary64.proofs.Quotient.{cast-quotient}
 use Rattle.binary64.proofs.thirty_second.Statement.{statement}
 use Rattle.binary64.proofs.thirty_second.Tie as tie
 
-int-to-float-result : tie.Need-int-to-float-result
-int-to-float-result c = search needs
-
-returns : tie.Need-returns
-unfolding ofBits
-returns c = let n = c .before .args .n in cast-quotient 5 (lit≤ tt) n n refl (c .before .fits .n)
-
 pub thirty-second-spec : {M : Type 1} → statement M
-thirty-second-spec = tie.close (tie.spec int-to-float-result returns)
+unfolding ofBits
+thirty-second-spec =
+    tie.close (tie.spec (λ c. search needs) (λ c. let n = c .before .args .n in cast-quotient 5 (lit≤ tt) n n refl (c .before .fits .n)))

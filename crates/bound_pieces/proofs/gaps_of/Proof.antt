@@ -1,89 +1,52 @@
 -- The gaps of degree 4 or 5, from those at the break points 0 and 1.
 use mathlib.Core.Path.{_≡_}
+use mathlib.Core.Bool.{true}
+use Prim.Native.Nat.{ℕ, _-_, _≤_, _<_}
 use native.Mathlib.Omega.{arith}
 use borrow.Author.Needs.{needs}
+use Rattle.setting.specs.Setting.{HasRows, degreePieces}
+use Rattle.bound_row_table.specs.Inside.{Copied}
 use Rattle.bound_pieces.proofs.Boxes.{many-takes}
-use Rattle.bound_pieces.proofs.PiecesLaws.{few-gaps, quartic-gaps, quintic-gaps}
+use Rattle.bound_pieces.proofs.PiecesLaws.{FiveGaps, few-gaps, quartic-gaps, quintic-gaps}
 use Rattle.bound_pieces.proofs.gaps_of.Statement.{statement}
 use Rattle.bound_pieces.proofs.gaps_of.Tie as tie
 
-returns : tie.Need-returns
-returns c = few-gaps (c .before .args .m) (c .before .args .degree) (c .if1 .taken)
-
-gap-at-requires : tie.Need-gap-at-requires
-gap-at-requires c κs =
-    let e = c in
+-- what the gap of second difference k at break point i asks, for three pieces and more
+asked : (e : tie.Else1) (k i : ℕ) → let a = e .before .args in
+    k < a .degree - 1 → i ≤ a .m
+    → (HasRows (a .m)) × (Copied (a .m) (a .rows .now)) × (k < a .degree - 1) × (a .degree ≤ 5) × (i ≤ a .m)
+    × (degreePieces (a .degree) (a .m) ≡ true)
+asked e k i hk hi =
     let s = e .before in
     let p = s .pre in
-    (p .0, p .1, omega arith, p .3, omega arith, many-takes (s .args .degree) (s .args .m) (e .if1 .left))
+    (p .0, p .1, hk, p .3, hi, many-takes (s .args .degree) (s .args .m) (e .if1 .left))
 
-gap-at-requires-2 : tie.Need-gap-at-requires-2
-gap-at-requires-2 c κs =
-    let e = c .before in
-    let s = e .before in
-    let p = s .pre in
-    (p .0, p .1, omega arith, p .3, omega arith, many-takes (s .args .degree) (s .args .m) (e .if1 .left))
-
-gap-at-requires-3 : tie.Need-gap-at-requires-3
-gap-at-requires-3 c κs =
-    let e = c .before .before in
-    let s = e .before in
-    let p = s .pre in
-    (p .0, p .1, omega arith, p .3, omega arith, many-takes (s .args .degree) (s .args .m) (e .if1 .left))
-
-gap-at-requires-4 : tie.Need-gap-at-requires-4
-gap-at-requires-4 c κs =
-    let e = c .before .before .before in
-    let s = e .before in
-    let p = s .pre in
-    (p .0, p .1, omega arith, p .3, omega arith, many-takes (s .args .degree) (s .args .m) (e .if1 .left))
-
-gap-at-requires-5 : tie.Need-gap-at-requires-5
-gap-at-requires-5 c κs =
-    let e = c .before .before .before .before in
-    let s = e .before in
-    let p = s .pre in
-    (p .0, p .1, omega arith, p .3, omega arith, many-takes (s .args .degree) (s .args .m) (e .if1 .left))
-
-gap-at-requires-6 : tie.Need-gap-at-requires-6
-gap-at-requires-6 c κs =
-    let e = c .before .before .before .before .before .before in
-    let s = e .before in
-    let p = s .pre in
-    (p .0, p .1, omega arith, p .3, omega arith, many-takes (s .args .degree) (s .args .m) (e .if1 .left))
-
-gap-at-requires-7 : tie.Need-gap-at-requires-7
-gap-at-requires-7 c κs =
-    let e = c .before .before .before .before .before .before .before in
-    let s = e .before in
-    let p = s .pre in
-    (p .0, p .1, omega arith, p .3, omega arith, many-takes (s .args .degree) (s .args .m) (e .if1 .left))
-
-returns-2 : tie.Need-returns-2
-returns-2 c =
-    let second = c .before in
-    let first = second .before in
-    let three = first .before in
-    let e = three .before .before .before in
-    let s = e .before in
-    let four : s .args .degree ≡ 4 = omega arith in
-    quartic-gaps (s .pre .0) (e .if1 .left) (s .args .degree) (three .before .before .gap-at .ensures .0) (three .before .gap-at2 .ensures .0)
-    (three .gap-at3 .ensures .0) (first .gap-at4 .ensures .0) (second .gap-at5 .ensures .0) four
-
-returns-3 : tie.Need-returns-3
-returns-3 c =
-    let second = c .before .before .before in
-    let first = second .before in
-    let three = first .before in
-    let e = three .before .before .before in
-    let s = e .before in
-    let five : s .args .degree ≡ 5 = omega arith in
-    quintic-gaps (s .pre .0) (e .if1 .left) (s .args .degree) (three .before .before .gap-at .ensures .0) (three .before .gap-at2 .ensures .0)
-    (three .gap-at3 .ensures .0) (first .gap-at4 .ensures .0) (second .gap-at5 .ensures .0) (c .before .gap-at6 .ensures .0) (c .gap-at7 .ensures .0)
-    five
+-- those that both degrees read
+five : (c : tie.After-gap-at5) → let t = c .before .before in
+    let a = t .before .before .before .before .args in
+    FiveGaps (a .m) (a .degree) (t .before .before .gap-at .result) (t .before .gap-at2 .result) (t .gap-at3 .result) (c .before .gap-at4 .result)
+    (c .gap-at5 .result)
+five c =
+    let t = c .before .before in
+    let e = t .before .before .before in
+    record {
+      has = e .before .pre .0;
+      many = e .if1 .left;
+      first-there = t .before .before .gap-at .ensures .0;
+      second-there = t .before .gap-at2 .ensures .0;
+      third-there = t .gap-at3 .ensures .0;
+      first = c .before .gap-at4 .ensures .0;
+      second = c .gap-at5 .ensures .0;
+    }
 
 pub gaps-of-spec : {M : Type 1} → statement M
 gaps-of-spec =
     tie.close
-    (tie.spec returns gap-at-requires gap-at-requires-2 (λ c. search needs) gap-at-requires-3 (λ c. search needs) gap-at-requires-4
-    gap-at-requires-5 returns-2 gap-at-requires-6 (λ c. search needs) gap-at-requires-7 (λ c. search needs) returns-3)
+    (tie.spec (λ c. few-gaps (c .before .args .m) (c .before .args .degree) (c .if1 .taken)) (λ c κs. asked c 0 1 (omega arith) (omega arith))
+    (λ c κs. asked (c .before) 1 1 (omega arith) (omega arith)) (λ c. search needs)
+    (λ c κs. asked (c .before .before) 2 1 (omega arith) (omega arith)) (λ c. search needs)
+    (λ c κs. asked (c .before .before .before) 0 0 (omega arith) (omega arith))
+    (λ c κs. asked (c .before .before .before .before) 1 0 (omega arith) (omega arith)) (λ c. quartic-gaps (five (c .before)) (omega arith))
+    (λ c κs. asked (c .before .before .before .before .before .before) 3 1 (omega arith) (omega arith)) (λ c. search needs)
+    (λ c κs. asked (c .before .before .before .before .before .before .before) 3 0 (omega arith) (omega arith)) (λ c. search needs)
+    (λ c. quintic-gaps (five (c .before .before .before)) (c .before .gap-at6 .ensures .0) (c .gap-at7 .ensures .0) (omega arith)))

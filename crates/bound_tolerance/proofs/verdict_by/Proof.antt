@@ -1,21 +1,28 @@
 -- What the gaps tell of a node: by the spreads of the corners, and by those at the break point of one.
 use mathlib.Core.Path.{_≡_, sym, _∙_, ap, subst}
-use mathlib.Core.Bool.{Bool}
+use mathlib.Core.Bool.{Bool, true, false}
 use mathlib.Core.Logic.{inl, inr, ⊎-elim}
-use Prim.Native.Nat.{ℕ, _*_, _≤_}
+use mathlib.Core.List.{List}
+use Prim.Native.Nat.{ℕ, _-_, _*_, _%_, _^_, _≤_}
 use native.Mathlib.Omega.{arith}
-use lib.Dec.{ltb}
+use lib.Dec.{ltb, lit≤}
+use lib.IntN.{ℤ, pos, _+ℤ_}
 use lib.ListN.{getD}
+use lib.Signed.{ltZ}
 use borrow.Author.Needs.{needs}
 use borrow.Author.Tests.{not-true}
-use Rattle.integers.proofs.Machine.{fits!, flag! }
+use Rattle.setting.specs.Setting.{HasRows}
+use Rattle.integers.specs.Squares.{squared}
+use Rattle.integers.proofs.Machine.{flag! }
+use Rattle.curve_halves.specs.Sizes.{Each}
 use Rattle.bound_coordinate.specs.Inside.{Boundable}
-use Rattle.bound_coordinate.proofs.Coordinates.{bounded, small!, shift-small}
-use Rattle.bound_pieces.specs.Inside.{settingOf, sumsOf, pointSum}
+use Rattle.bound_coordinate.proofs.Coordinates.{bounded, shift-small}
+use Rattle.bound_pieces.specs.Inside.{spreadOf, piecesOf, settingOf, sumsOf, pointSum}
+use Rattle.bound_node.specs.Boxes.{meets}
 use Rattle.bound_pieces.proofs.Boxes.{boundable-x, boundable-y}
 use Rattle.bound_pieces.proofs.Corners.{close-meets, point-fails, wider-fails}
-use Rattle.bound_tolerance.proofs.SpreadLaws.{unit-is, unit-some, unit-less, sums-under, point-under}
-use Rattle.bound_tolerance.proofs.ToleranceLaws.{inexact-cubic}
+use Rattle.bound_tolerance.proofs.SpreadLaws.{unit, unit-is, unit-some, rounding-asked, sums-under, point-under}
+use Rattle.bound_tolerance.proofs.ToleranceLaws.{inexact-cubic, square-fits, side-small, more-fits, more-small}
 use Rattle.bound_tolerance.proofs.verdict_by.Statement.{statement}
 use Rattle.bound_tolerance.proofs.verdict_by.Tie as tie
 
@@ -28,8 +35,14 @@ shift c = begin c .args .curve .degree * begin c .args .depth
 shift-under : (c : tie.After-ys) → shift c ≤ 24
 shift-under c = shift-small (begin c .pre .3) (begin c .pre .4)
 
-mul-square : tie.Need-mul-square
-mul-square c = fits! (search (c .pre .5, bounded) depth 40) tt
+-- the sums of both coordinates are not too large
+under : (y : tie.After-sums2) → let B = 6 * (2 ^ 36 * 2 ^ shift (y .before .before)) in
+    let xs = y .before .sums .result in
+    let ys = y .sums2 .result in
+    ((getD xs 0 0 ≤ B) × (getD xs 1 0 ≤ B)) × ((getD ys 0 0 ≤ B) × (getD ys 1 0 ≤ B))
+under y =
+    let s = begin (y .before .before) in
+    sums-under (s .args .pieces .sixths) (s .pre .0) (s .pre .2) (s .pre .3) (y .before .sums .ensures) (y .sums2 .ensures)
 
 sums-requires : tie.Need-sums-requires
 sums-requires c κs = let p = begin c .pre in (p .0, p .1, boundable-x (p .2) (p .3) (p .4))
@@ -38,23 +51,7 @@ sums-requires-2 : tie.Need-sums-requires-2
 sums-requires-2 c κs = let p = begin (c .before) .pre in (p .0, p .1, boundable-y (p .2) (p .3) (p .4))
 
 rounded-up-requires : tie.Need-rounded-up-requires
-rounded-up-requires c κs =
-    let y = c .before in
-    let s = y .before .before in
-    let under = sums-under (begin s .args .pieces .sixths) (begin s .pre .0) (begin s .pre .2) (begin s .pre .3) (y .before .sums .ensures) (y .sums2 .ensures) in
-    (omega (arith, under, c .larger .ensures), unit-less (shift-under s), shift-under s)
-
-rounded-up-requires-2 : tie.Need-rounded-up-requires-2
-rounded-up-requires-2 c κs =
-    let y = c .before .before .before in
-    let s = y .before .before in
-    let under = sums-under (begin s .args .pieces .sixths) (begin s .pre .0) (begin s .pre .2) (begin s .pre .3) (y .before .sums .ensures) (y .sums2 .ensures) in
-    (omega (arith, under, c .larger2 .ensures), unit-less (shift-under s), shift-under s)
-
-is-longer-requires : tie.Need-is-longer-requires
-is-longer-requires c κs =
-    let w = c .before .before in
-    (small! (search (w .rounded-up .ensures, bounded) depth 40) tt, small! (search (c .rounded-up2 .ensures, bounded) depth 40) tt)
+rounded-up-requires c κs = rounding-asked 3750 tt (shift-under (c .before .before .before)) (omega (arith, under (c .before), c .larger .ensures))
 
 returns : tie.Need-returns
 returns c =
@@ -73,14 +70,7 @@ returns c =
 rounded-up-requires-3 : tie.Need-rounded-up-requires-3
 rounded-up-requires-3 c κs =
     let y = c .before .before .before .before .before .before .before .before .before in
-    let s = y .before .before in
-    let under = sums-under (begin s .args .pieces .sixths) (begin s .pre .0) (begin s .pre .2) (begin s .pre .3) (y .before .sums .ensures) (y .sums2 .ensures) in
-    (⊎-elim (λ w. omega (arith, under)) (λ w. omega (arith, under)) (c .if3 .came), unit-less (shift-under s), shift-under s)
-
-is-longer-requires-2 : tie.Need-is-longer-requires-2
-is-longer-requires-2 c κs =
-    let w = c .before .before .before .before .before .before .before .before in
-    (small! (search (w .rounded-up .ensures, bounded) depth 40) tt, small! (search (c .rounded-up3 .ensures, bounded) depth 40) tt)
+    rounding-asked 3750 tt (shift-under (y .before .before)) (⊎-elim (λ w. omega (arith, under y)) (λ w. omega (arith, under y)) (c .if3 .came))
 
 returns-2 : tie.Need-returns-2
 returns-2 c =
@@ -97,100 +87,80 @@ returns-2 c =
     (search (w .rounded-up .ensures, n .before .rounded-up3 .ensures, s .pre .5, bounded) depth 40) tt)
 
 -- ---- they are not: the degree is 3
-abbrev second : tie.Else2 → tie.After-sums2
-second c = c .before .before .before .before .before .before .before .before
+module _ (c : tie.Else2) where
+  abbrev second : tie.After-sums2
+  second = c .before .before .before .before .before .before .before .before
 
-abbrev start : tie.Else2 → tie.Start
-start c = begin (second c .before .before)
+  abbrev start : tie.Start
+  start = begin (second .before .before)
 
--- x is the wider at the far corner
-abbrev last : tie.Else2 → Bool
-last c = let x = second c .before .sums .result in ltb (getD x 0 0) (getD x 1 0)
+  abbrev sixths : Bool
+  sixths = start .args .pieces .sixths
 
-cubic : (c : tie.Else2) → start c .args .curve .degree ≡ 3
-cubic c =
-    let a = start c .args in
-    inexact-cubic (a .pieces .sixths) (a .pieces .m) (sym (c .before .is-exact .ensures) ∙ c .if2 .left) (start c .pre .3)
+  abbrev m : ℕ
+  m = start .args .pieces .m
 
-sum-there-requires : tie.Need-sum-there-requires
-sum-there-requires c κs =
-    let s = start c in
-    let a = s .args in
-    let p = s .pre in (
-      p .0,
-      p .1,
-      subst (Boundable (a .curve .x)) (cubic c) (boundable-x (p .2) (p .3) (p .4)),
-      second c .before .sums .ensures ∙ ap (λ d. sumsOf (a .pieces .sixths) (a .pieces .m) d (a .curve .x)) (cubic c),
-    )
+  abbrev degree : ℕ
+  degree = start .args .curve .degree
 
-sum-there-requires-2 : tie.Need-sum-there-requires-2
-sum-there-requires-2 c κs =
-    let e = c .before .before in
-    let s = start e in
-    let a = s .args in
-    let p = s .pre in (
-      p .0,
-      p .1,
-      subst (Boundable (a .curve .y)) (cubic e) (boundable-y (p .2) (p .3) (p .4)),
-      second e .sums2 .ensures ∙ ap (λ d. sumsOf (a .pieces .sixths) (a .pieces .m) d (a .curve .y)) (cubic e),
-    )
+  -- x is the wider at the far corner
+  abbrev last : Bool
+  last = let x = second .before .sums .result in ltb (getD x 0 0) (getD x 1 0)
 
-rounded-up-requires-4 : tie.Need-rounded-up-requires-4
-rounded-up-requires-4 c κs =
-    let e = c .before in
-    let y = second e in
-    let s = start e in
-    let a = s .args in
-    let is = c .sum-there .ensures ∙ ap (λ d. pointSum (a .pieces .sixths) (a .pieces .m) d (last e) (a .curve .x)) (sym (cubic e)) in (
-      rw is (point-under (a .pieces .sixths) (s .pre .0) (s .pre .2) (s .pre .3) (last e) (a .curve .x) (s .pre .2 .x)),
-      unit-less (shift-under (y .before .before)),
-      shift-under (y .before .before),
-    )
+  cubic : degree ≡ 3
+  cubic = inexact-cubic sixths m (sym (c .before .is-exact .ensures) ∙ c .if2 .left) (start .pre .3)
 
-rounded-up-requires-5 : tie.Need-rounded-up-requires-5
-rounded-up-requires-5 c κs =
-    let e = c .before .before .before in
-    let y = second e in
-    let s = start e in
-    let a = s .args in
-    let is = c .sum-there2 .ensures ∙ ap (λ d. pointSum (a .pieces .sixths) (a .pieces .m) d (last e) (a .curve .y)) (sym (cubic e)) in (
-      rw is (point-under (a .pieces .sixths) (s .pre .0) (s .pre .2) (s .pre .3) (last e) (a .curve .y) (s .pre .2 .y)),
-      unit-less (shift-under (y .before .before)),
-      shift-under (y .before .before),
-    )
+  -- what the sum at the break point of the corner asks of a coordinate
+  there-asked : (cs : List ℤ) {ns : List ℕ} → Boundable cs degree → ns ≡ sumsOf sixths m degree cs
+      → (HasRows m) × (start .args .pieces ≡ piecesOf m sixths) × (Boundable cs 3) × (ns ≡ sumsOf sixths m 3 cs)
+  there-asked cs h e = (start .pre .0, start .pre .1, subst (Boundable cs) cubic h, e ∙ ap (λ d. sumsOf sixths m d cs) cubic)
 
-is-longer-requires-3 : tie.Need-is-longer-requires-3
-is-longer-requires-3 c κs =
-    let w = c .before .before in
-    (small! (search (w .rounded-up4 .ensures, bounded) depth 40) tt, small! (search (c .rounded-up5 .ensures, bounded) depth 40) tt)
+  there-is : (cs : List ℤ) {n : ℕ} → n ≡ pointSum sixths m 3 last cs → n ≡ pointSum sixths m degree last cs
+  there-is cs e = e ∙ ap (λ d. pointSum sixths m d last cs) (sym cubic)
+
+  -- a node that is too long there does not meet the tolerance
+  there-fails : {nx ny : ℕ} → let a = start .args in
+      nx ≡ pointSum sixths m 3 last (a .curve .x) → ny ≡ pointSum sixths m 3 last (a .curve .y)
+      → ltZ (squared (a .t)) (squared (pos (spreadOf nx (degree * a .depth))) +ℤ squared (pos (spreadOf ny (degree * a .depth)))) ≡ true
+      → meets (settingOf (a .pieces)) (a .t) (a .depth) (a .curve) ≡ false
+  there-fails ex ey wide =
+      let a = start .args in
+      let p = start .pre in
+      point-fails (settingOf (a .pieces)) (p .0) (a .t) (p .2) (p .3) (second .before .sums .ensures) (second .sums2 .ensures) last
+      (rw (there-is (a .curve .x) ex, there-is (a .curve .y) ey) at wide)
+
+  -- what rounding that sum up asks
+  point-asked : (cs : List ℤ) {n : ℕ} → let s = degree * start .args .depth in
+      Each (2 ^ 20 * 2 ^ s) cs → n ≡ pointSum sixths m 3 last cs
+      → (n ≤ 6 * (2 ^ 36 * 2 ^ s)) × (unit 3750 s % 2 ^ 64 - 1 ≡ unit 3750 s - 1) × (s ≤ 24)
+  point-asked cs each e = rounding-asked 3750 tt (shift-under (second .before .before))
+      (rw (there-is cs e) (point-under sixths (start .pre .0) (start .pre .2) (start .pre .3) last cs each))
 
 returns-4 : tie.Need-returns-4
 returns-4 c =
-    let n = c .before in
-    let h = n .before in
-    let hs = h .before in
-    let w = hs .before in
-    let ws = w .before in
-    let e = ws .before in
-    let y = second e in
-    let x = y .before in
-    let s = start e in
-    let a = s .args in
-    let ix = ws .sum-there .ensures ∙ ap (λ d. pointSum (a .pieces .sixths) (a .pieces .m) d (last e) (a .curve .x)) (sym (cubic e)) in
-    let iy = hs .sum-there2 .ensures ∙ ap (λ d. pointSum (a .pieces .sixths) (a .pieces .m) d (last e) (a .curve .y)) (sym (cubic e)) in
-    point-fails (settingOf (a .pieces)) (s .pre .0) (a .t) (s .pre .2) (s .pre .3) (x .sums .ensures) (y .sums2 .ensures) (last e)
-    (rw (ix, iy) at (flag! (sym (n .is-longer3 .ensures) ∙ c .if5 .taken)
-    (search (w .rounded-up4 .ensures, h .rounded-up5 .ensures, s .pre .5, bounded) depth 40) tt))
+    let h = c .before .before in
+    let w = h .before .before in
+    let e = w .before .before in
+    there-fails e (w .before .sum-there .ensures) (h .before .sum-there2 .ensures)
+    (flag! (sym (c .before .is-longer3 .ensures) ∙ c .if5 .taken)
+    (search (w .rounded-up4 .ensures, h .rounded-up5 .ensures, start e .pre .5, bounded) depth 40) tt)
 
 pub verdict-by-spec : {M : Type 1} → statement M
 verdict-by-spec =
     tie.close
-    (tie.spec mul-square sums-requires sums-requires-2
+    (tie.spec (λ c. square-fits (c .pre .5)) sums-requires sums-requires-2
     (λ c. omega (arith, shift-under (c .before .before))) (λ c. omega (arith, shift-under (c .before .before)))
     (λ c. omega (arith, shift-under (c .before .before)))
-    (λ c. rw (unit-is (shift-under (c .before .before))) (unit-some (shift (c .before .before)))) (λ c. search needs) (λ c. search needs)
-    (λ c. search needs) (λ c. search needs) (λ c κs. search needs) rounded-up-requires (λ c κs. search needs) rounded-up-requires-2
-    (λ c. fits! (search (c .before .before .rounded-up .ensures, bounded) depth 40) tt)
-    (λ c. fits! (search (c .rounded-up2 .ensures, bounded) depth 40) tt) is-longer-requires returns (λ c κs. search needs)
-    rounded-up-requires-3 is-longer-requires-2 returns-2 (λ c. search needs) sum-there-requires rounded-up-requires-4 sum-there-requires-2
-    rounded-up-requires-5 is-longer-requires-3 returns-4 (λ c. search needs))
+    (λ c. rw (unit-is 3750 tt (shift-under (c .before .before))) (unit-some 3750 (shift (c .before .before)) (lit≤ tt)))
+    (λ c. search needs) (λ c. search needs) (λ c. search needs) (λ c. search needs) (λ c κs. search needs) rounded-up-requires (λ c κs. search needs)
+    (λ c κs. let y = c .before .before .before in
+    rounding-asked 3750 tt (shift-under (y .before .before)) (omega (arith, under y, c .larger2 .ensures)))
+    (λ c. more-fits (c .before .before .rounded-up .ensures)) (λ c. more-fits (c .rounded-up2 .ensures)) (λ c κs. search (needs, more-small)) returns
+    (λ c κs. search needs) rounded-up-requires-3 (λ c κs. search (needs, side-small)) returns-2 (λ c. search needs)
+    (λ c κs. let p = start c .pre in there-asked c (start c .args .curve .x) (boundable-x (p .2) (p .3) (p .4)) (second c .before .sums .ensures))
+    (λ c κs. let e = c .before in point-asked e (start e .args .curve .x) (start e .pre .2 .x) (c .sum-there .ensures))
+    (λ c κs. let e = c .before .before in
+    let p = start e .pre in
+    there-asked e (start e .args .curve .y) (boundable-y (p .2) (p .3) (p .4)) (second e .sums2 .ensures))
+    (λ c κs. let e = c .before .before .before in point-asked e (start e .args .curve .y) (start e .pre .2 .y) (c .sum-there2 .ensures))
+    (λ c κs. search (needs, side-small)) returns-4 (λ c. search needs))

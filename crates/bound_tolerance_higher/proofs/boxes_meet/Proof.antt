@@ -1,29 +1,22 @@
 -- The test of a node of degree 4 or 5 by its boxes. The loop's invariant: no box before i is too long. The measure is what is left of m + 1.
-use mathlib.Core.Path.{_≡_, sym, _∙_}
-use mathlib.Core.Bool.{false}
-use Prim.Native.Nat.{ℕ, _+_, _*_, _-_, _≤_, _<_}
-use native.Mathlib.Nat.{not-suc-le-zero, mul-le-mul}
+use Prim.Native.Nat.{_+_, _*_, _-_}
+use native.Mathlib.Nat.{mul-le-mul}
 use native.Mathlib.Omega.{arith}
-use lib.IntN.{ℤ, _*ℤ_}
-use lib.Signed.{ltZ}
+use lib.IntN.{_*ℤ_}
 use mir.Syntax.{w64}
 use mir.Val.{toZ}
-use Rattle.integers.specs.Squares.{squared}
 use Rattle.integers.proofs.Ranges.{stored}
-use Rattle.integers.proofs.Machine.{fits!, is! }
-use Rattle.bound_coordinate.proofs.Coordinates.{bounded}
 use Rattle.bound_coordinate.proofs.Chosen.{higher-computable}
 use Rattle.bound_pieces.specs.Inside.{settingOf, higherAcrossBy}
-use Rattle.bound_node.proofs.Narrow.{diagonal}
 use Rattle.bound_pieces.proofs.Boxes.{higher-boundable-x, higher-boundable-y}
 use Rattle.bound_pieces.proofs.PiecesLaws.{scaled-alone}
-use Rattle.bound_tolerance.proofs.ToleranceLaws.{none-next, box-fails, boxes-pass, higher-across-is}
+use Rattle.bound_tolerance.proofs.ToleranceLaws.{Passed, passed-none, passed-next, Diagonals, box-fails, boxes-pass, higher-across-is}
+use Rattle.bound_tolerance.proofs.ToleranceLaws.{square-fits, square-is}
 use Rattle.bound_tolerance_higher.proofs.boxes_meet.Statement.{statement}
 use Rattle.bound_tolerance_higher.proofs.boxes_meet.Tie as tie
 
 abbrev Inv-loop : tie.InvT-loop
-Inv-loop rows depth t m scale degree shift square x y i₀ i =
-    (i ≤ m + 1) × ((j : ℕ) → j < i → ltZ (toZ w64 square) (higherAcrossBy m shift rows x y j) ≡ false)
+Inv-loop rows depth t m scale degree shift square x y i₀ i = Passed m (toZ w64 square) (higherAcrossBy m shift rows x y) i
 
 abbrev μ-loop : tie.MeasureT-loop
 μ-loop rows depth t m scale degree shift square x y i₀ i = m + 1 - i
@@ -31,17 +24,11 @@ abbrev μ-loop : tie.MeasureT-loop
 mul-shift : tie.Need-mul-shift Inv-loop μ-loop
 mul-shift c = let p = c .before .before .pre in omega (arith, mul-le-mul (p .2 .most) (p .4))
 
-mul-square : tie.Need-mul-square Inv-loop μ-loop
-mul-square c = fits! (search (c .before .before .pre .5, bounded) depth 40) tt
-
 higher-of-requires : tie.Need-higher-of-requires Inv-loop μ-loop
 higher-of-requires c κs = let p = c .before .before .pre in (higher-boundable-x (p .2) (p .3) (p .4), p .0 .has .most, mul-le-mul (p .2 .most) (p .4))
 
 higher-of-requires-2 : tie.Need-higher-of-requires-2 Inv-loop μ-loop
 higher-of-requires-2 c κs = let p = c .before .before .before .pre in (higher-boundable-y (p .2) (p .3) (p .4), p .0 .has .most, mul-le-mul (p .2 .most) (p .4))
-
-loop-holds : tie.Need-loop-holds Inv-loop μ-loop
-loop-holds c = (omega arith, λ j l. absurd (not-suc-le-zero l))
 
 is-wide-requires : tie.Need-is-wide-requires Inv-loop μ-loop
 is-wide-requires c κs =
@@ -53,57 +40,24 @@ is-wide-requires c κs =
       omega arith,
     )
 
--- the square of the tolerance
-square-is : (s : tie.Start Inv-loop μ-loop) → stored w64 (stored w64 (s .args .t) *ℤ stored w64 (s .args .t)) ≡ squared (s .args .t)
-square-is s = is! (search (s .pre .5, bounded) depth 40) tt
-
--- the squares of the diagonals, as the loop finds them, are those of the boxes
-abbrev found : tie.After-higher-of2 Inv-loop μ-loop → ℕ → ℤ
-found y =
-    let a = y .before .before .before .before .args in
-    higherAcrossBy (a .pieces .m) (a .curve .degree * a .depth) (a .rows .now) (y .before .higher-of .result) (y .higher-of2 .result)
-
-same : (y : tie.After-higher-of2 Inv-loop μ-loop) →
-    let a = y .before .before .before .before .args in
-    (i : ℕ) → i ≤ a .pieces .m → found y i ≡ diagonal (settingOf (a .pieces)) (a .depth) (a .curve) i
-same y =
+-- the boxes as the loop finds them, and the square of the tolerance
+boxes : (y : tie.After-higher-of2 Inv-loop μ-loop) → let a = y .before .before .before .before .args in
+    Diagonals (settingOf (a .pieces)) (a .depth) (a .curve) (a .t)
+    (higherAcrossBy (a .pieces .m) (a .curve .degree * a .depth) (a .rows .now) (y .before .higher-of .result) (y .higher-of2 .result))
+    (stored w64 (stored w64 (a .t) *ℤ stored w64 (a .t)))
+boxes y =
     let p = y .before .before .before .before .pre in
-    higher-across-is (p .0) (p .2) (p .3) (p .1) (p .6) (y .before .higher-of .ensures) (y .higher-of2 .ensures)
-
-returns : tie.Need-returns Inv-loop μ-loop
-returns c =
-    let l = c .before .before .before in
-    let y = l .before in
-    let s = y .before .before .before .before in
-    sym (box-fails (settingOf (s .args .pieces)) (s .args .depth) (s .args .curve) (found y) (same y) (s .args .t) (square-is s) (l .loop .i) (omega arith) (sym (c .before .is-wide .ensures) ∙ c .if1 .taken))
-
-add-i : tie.Need-add-i Inv-loop μ-loop
-add-i c = omega (arith, c .before .before .before .before .before .before .before .before .pre .0 .has .most)
-
-loop-less : tie.Need-loop-less Inv-loop μ-loop
-loop-less c = omega arith
-
-loop-again : tie.Need-loop-again Inv-loop μ-loop
-loop-again c =
-    let l = c .before .before .before in
-    let y = l .before in
-    let a = y .before .before .before .before .args in (
-      omega arith,
-      none-next (λ j. ltZ (stored w64 (stored w64 (a .t) *ℤ stored w64 (a .t))) (found y j)) (l .loop .i) (l .loop .inv .1)
-          (sym (c .before .is-wide .ensures) ∙ c .if1 .left),
-    )
-
-returns-2 : tie.Need-returns-2 Inv-loop μ-loop
-returns-2 c =
-    let l = c .before in
-    let y = l .before in
-    let s = y .before .before .before .before in
-    let e : l .loop .i ≡ s .args .pieces .m + 1 = omega arith in
-    sym (boxes-pass (settingOf (s .args .pieces)) (s .args .depth) (s .args .curve) (found y) (same y) (s .args .t) (square-is s)
-    (λ j h. l .loop .inv .1 j (omega (arith, e, h))))
+    record {
+      each = higher-across-is (p .0) (p .2) (p .3) (p .1) (p .6) (y .before .higher-of .ensures) (y .higher-of2 .ensures);
+      square = square-is (p .5);
+    }
 
 pub boxes-meet-spec : {M : Type 1} → statement M
 boxes-meet-spec =
     tie.close
-    (tie.spec Inv-loop μ-loop mul-shift mul-square higher-of-requires higher-of-requires-2 loop-holds is-wide-requires
-    returns add-i loop-less loop-again returns-2)
+    (tie.spec Inv-loop μ-loop mul-shift (λ c. square-fits (c .before .before .pre .5)) higher-of-requires higher-of-requires-2 (λ c. passed-none)
+    is-wide-requires
+    (λ c. let l = c .before .before .before in box-fails (boxes (l .before)) (l .loop .i) (omega arith) (c .before .is-wide .ensures) (c .if1 .taken))
+    (λ c. omega (arith, c .before .before .before .before .before .before .before .before .pre .0 .has .most)) (λ c. omega arith)
+    (λ c. passed-next (c .before .before .before .loop .inv) (omega arith) (c .before .is-wide .ensures) (c .if1 .left))
+    (λ c. boxes-pass (boxes (c .before .before)) (c .before .loop .inv) (omega arith)))

@@ -1,23 +1,14 @@
 -- The fraction rounded up: raised by its denominator less one, then divided down by a shift and by 625.
-use Prim.Native.Nat.{_+_, _^_}
-use native.Mathlib.Nat.{div-le-self}
 use native.Mathlib.Omega.{arith}
 use borrow.Author.Needs.{needs}
-use Rattle.bound_tolerance_higher.proofs.Units.{raised-under, units-computed}
+use Rattle.bound_tolerance.proofs.SpreadLaws.{raised-under, lowered-fits}
+use Rattle.bound_tolerance_higher.proofs.Units.{units-computed}
 use Rattle.bound_tolerance_higher.proofs.whole_units.Statement.{statement}
 use Rattle.bound_tolerance_higher.proofs.whole_units.Tie as tie
 
-add-result : tie.Need-add-result
-add-result c = rw (c .pre .1) (omega (arith, raised-under (c .args .sum) (c .args .shift) (c .pre .0) (c .pre .2)))
-
-cast-result : tie.Need-cast-result
-cast-result c =
-    let n = c .args .sum + c .args .more in
-    let under = rw (← c .pre .1) at (raised-under (c .args .sum) (c .args .shift) (c .pre .0) (c .pre .2)) in
-    record { sfits = omega (arith, div-le-self n (2 ^ c .args .shift), under) }
-
-returns : tie.Need-returns
-returns c = rw (c .pre .1) (units-computed (c .args .sum) (c .args .shift) (c .pre .0) (c .pre .2))
-
 pub whole-units-spec : {M : Type 1} → statement M
-whole-units-spec = tie.close (tie.spec add-result (λ c. search needs) cast-result returns)
+whole-units-spec =
+    tie.close
+    (tie.spec (λ c. omega (arith, raised-under 625 tt (c .pre .2) (c .args .sum) (omega arith) (c .pre .1))) (λ c. search needs)
+    (λ c. lowered-fits 625 tt (c .pre .2) (c .args .sum) (omega arith) (c .pre .1))
+    (λ c. units-computed (c .args .sum) (c .pre .0) (c .pre .1) (c .pre .2)))

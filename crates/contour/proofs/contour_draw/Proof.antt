@@ -1,7 +1,7 @@
 -- Drawing for programs in other languages.
-use mathlib.Core.Path.{_∙_, ap}
 use borrow.Author.Needs.{needs}
 use Rattle.contour.specs.Drawings.{drawingOf}
+use Rattle.contour.proofs.InNumbers.{numbers-beside}
 use Rattle.contour.proofs.contour_draw.Statement.{statement}
 use Rattle.contour.proofs.contour_draw.Tie as tie
 
@@ -15,7 +15,7 @@ same-length : tie.Need-same-length
 same-length c = search needs
 
 returns : tie.Need-returns
-returns c = let r = c .before .before .draw .ensures in (c .drawing-in-numbers .ensures ∙ ap drawingOf (r .0), r .1)
+returns c = numbers-beside drawingOf (c .drawing-in-numbers .ensures) (c .before .before .draw .ensures)
 
 pub contour-draw-spec : {M : Type 1} → statement M
 contour-draw-spec = tie.close (tie.spec draw-requires drawing-in-numbers-requires same-length returns)

@@ -4,11 +4,8 @@ use Rattle.contour_band.proofs.Steps.{idle-fits}
 use Rattle.contour_band.proofs.read_from.Statement.{statement}
 use Rattle.contour_band.proofs.read_from.Tie as tie
 
-returns : tie.Need-returns
-returns c = search idle-fits
-
 pub read-from-spec : {M : Type 1} → statement M
 read-from-spec =
     tie.close
     (tie.spec (λ c. search needs) (λ c. search needs) (λ c. search needs) (λ c κs. search needs)
-    (λ c κs. search needs) (λ c. search needs) returns (λ c κs. search needs) (λ c. search needs) (λ c. search needs))
+    (λ c κs. search needs) (λ c. search needs) (λ c. search idle-fits) (λ c κs. search needs) (λ c. search needs) (λ c. search needs))

@@ -1,13 +1,8 @@
 -- The left half of one coordinate of a line: the sums are those of de Casteljau's triangle.
-use mathlib.Core.List.{_∷_}
-use mathlib.Core.Path.{refl, sym, _∙_, ap₂}
 use Prim.Native.Nat.{_^_}
-use lib.IntN.{pow, one}
 use borrow.Author.Needs.{needs}
-use Rattle.integers.proofs.RingLaws.{one-*ℤ}
-use Rattle.curve_halves.specs.Halves.{left}
 use Rattle.curve_halves.specs.Sizes.{Each}
-use Rattle.curve_halves.proofs.Kept.{kept-is, sum-fits, times-fits, times-is}
+use Rattle.curve_halves.proofs.Kept.{sum-fits, times-fits, left-are}
 use Rattle.curve_halves.proofs.left_line.Statement.{statement}
 use Rattle.curve_halves.proofs.left_line.Tie as tie
 
@@ -15,10 +10,7 @@ each : (c : tie.After-c1) → Each (2 ^ 44) (c .before .before .args .t1)
 each c = c .before .before .pre
 
 returns : tie.Need-returns
-unfolding left pow one
-returns c =
-    ap₂ _∷_ (times-is (each c) 2 0 tt tt) (
-    ap₂ _∷_ (kept-is (each c) 1 0 tt ∙ sym (one-*ℤ _)) refl)
+returns c = left-are (each c) 1 tt
 
 pub left-line-spec : {M : Type 1} → statement M
 left-line-spec =

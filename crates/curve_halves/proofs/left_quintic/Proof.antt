@@ -1,36 +1,18 @@
--- The left half of one coordinate of a quintic: the sums are those of de Casteljau's triangle.
-use mathlib.Core.List.{_∷_}
-use mathlib.Core.Path.{refl, sym, _∙_, ap₂}
-use Prim.Native.Nat.{_^_}
-use lib.IntN.{pow, one}
+-- The left half of one coordinate of a quintic: its first value, and the left half of row 1 by the degree below.
+use lib.Dec.{lit≤}
 use borrow.Author.Needs.{needs}
-use Rattle.integers.proofs.RingLaws.{one-*ℤ}
-use Rattle.curve_halves.specs.Halves.{left}
-use Rattle.curve_halves.specs.Sizes.{Each}
-use Rattle.curve_halves.proofs.Kept.{kept-is, sum-fits, times-fits, times-is}
+use Rattle.curve_halves.proofs.Sizes.{each-wider}
+use Rattle.curve_halves.proofs.Kept.{times-fits, each-sum, next-are}
 use Rattle.curve_halves.proofs.left_quintic.Statement.{statement}
 use Rattle.curve_halves.proofs.left_quintic.Tie as tie
 
-each : (c : tie.After-c5) → Each (2 ^ 44) (c .before .before .before .before .before .before .args .t1)
-each c = c .before .before .before .before .before .before .pre
-
 returns : tie.Need-returns
-unfolding left pow one
 returns c =
-    ap₂ _∷_ (times-is (each c) 32 0 tt tt) (
-    ap₂ _∷_ (times-is (each c) 16 1 tt tt) (
-    ap₂ _∷_ (times-is (each c) 8 2 tt tt) (
-    ap₂ _∷_ (times-is (each c) 4 3 tt tt) (
-    ap₂ _∷_ (times-is (each c) 2 4 tt tt) (
-    ap₂ _∷_ (kept-is (each c) 5 0 tt ∙ sym (one-*ℤ _)) refl)))))
+    let s = c .before .before .before .before .before .before in
+    next-are 4 (s .before .before .pre) (s .before .sums .ensures) (s .left-quartic .ensures) tt tt
 
 pub left-quintic-spec : {M : Type 1} → statement M
 left-quintic-spec =
     tie.close
-    (tie.spec (λ c. search needs) (λ c. search needs) (λ c. search needs) (λ c. search needs) (λ c. search needs) (λ c. search needs)
-    (λ c. sum-fits (each c) 0 0 tt) (λ c. sum-fits (each c) 0 1 tt) (λ c. sum-fits (each c) 0 2 tt) (λ c. sum-fits (each c) 0 3 tt)
-    (λ c. sum-fits (each c) 0 4 tt) (λ c. sum-fits (each c) 1 0 tt) (λ c. sum-fits (each c) 1 1 tt) (λ c. sum-fits (each c) 1 2 tt)
-    (λ c. sum-fits (each c) 1 3 tt) (λ c. sum-fits (each c) 2 0 tt) (λ c. sum-fits (each c) 2 1 tt) (λ c. sum-fits (each c) 2 2 tt)
-    (λ c. sum-fits (each c) 3 0 tt) (λ c. sum-fits (each c) 3 1 tt) (λ c. times-fits (each c) 32 0 tt tt) (λ c. times-fits (each c) 16 1 tt tt)
-    (λ c. times-fits (each c) 8 2 tt tt) (λ c. times-fits (each c) 4 3 tt tt) (λ c. times-fits (each c) 2 4 tt tt) (λ c. sum-fits (each c) 4 0 tt)
-    returns)
+    (tie.spec (λ c κs. each-wider (lit≤ tt) (c .pre)) (λ c κs. rw (c .sums .ensures) (each-sum (c .before .pre))) (λ c. search needs)
+    (λ c. times-fits (c .before .before .before .pre) 32 0 tt tt) (λ c. search needs) (λ c. search needs) (λ c. search needs) (λ c. search needs) (λ c. search needs) returns)

@@ -12,13 +12,9 @@ onward-quartic-requires c κs = let p = c .before .pre in (p .2, each-wider (lit
 onward-low-requires : tie.Need-onward-low-requires
 onward-low-requires c κs = let p = c .before .pre in (p .0, omega arith, p .2, p .3)
 
-returns : tie.Need-returns
-returns c = rw (c .before .match .keys1) (c .onward-quartic .ensures)
-
-returns-2 : tie.Need-returns-2
-returns-2 c = rw (c .before .match .keys2) (c .onward-quintic .ensures)
-
 pub onward-values-spec : {M : Type 1} → statement M
 onward-values-spec =
     tie.close
-    (tie.spec onward-quartic-requires (λ c κs. search needs) onward-low-requires returns returns-2 (λ c. search needs))
+    (tie.spec onward-quartic-requires (λ c κs. search needs) onward-low-requires
+    (λ c. rw (c .before .match .keys1) (c .onward-quartic .ensures)) (λ c. rw (c .before .match .keys2) (c .onward-quintic .ensures))
+    (λ c. search needs))

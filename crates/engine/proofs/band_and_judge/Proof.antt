@@ -6,11 +6,11 @@ use Prim.Native.Nat.{ℕ, _+_, _*_, _≤_}
 use lib.ListN.{length}
 use lib.Seq.{length-take-le}
 use borrow.Author.Needs.{needs}
-use borrow.Author.Tests.{not-true, not-false}
 use mir.Facts.{toZ-ofZ}
 use Rattle.boxes.specs.Ranges.{inRange}
 use Rattle.setting.specs.Setting.{lists}
 use Rattle.setting.proofs.Pieces.{record-length-is}
+use Rattle.judge.proofs.Answers.{range-bad, range-fine}
 use Rattle.engine.proofs.Outcomes.{done-room, x-refused, y-refused, not-banded, banded-judged}
 use Rattle.engine.proofs.band_and_judge.Statement.{statement}
 use Rattle.engine.proofs.band_and_judge.Tie as tie
@@ -20,28 +20,26 @@ returns c =
     let t = c .before .before .before in
     let s = t .before .before in
     let a = s .args in
-    let out = rw (toZ-ofZ (s .fits .x)) at (sym (t .before .in-range .ensures) ∙ not-true (t .before .in-range .result) (t .if1 .taken)) in
+    let out = range-bad (s .fits .x) (t .before .in-range .ensures) (t .if1 .taken) in
     let r = rw (toZ-ofZ (s .fits .tolerance)) at (c .before .refusal-or .ensures) in
     x-refused (lists (a .m)) (a .tolerance) (a .outline .now) (a .records .now) (a .x) (a .y) out (r .0) (r .1)
 
 -- past the test of x
 x-fine : (c : tie.Else1) → inRange (c .before .before .args .x) ≡ true
-x-fine c = rw (toZ-ofZ (c .before .before .fits .x)) at (sym (c .before .in-range .ensures) ∙ not-false (c .before .in-range .result) (c .if1 .left))
+x-fine c = range-fine (c .before .before .fits .x) (c .before .in-range .ensures) (c .if1 .left)
 
 returns-2 : tie.Need-returns-2
 returns-2 c =
     let t = c .before .before .before in
     let s = t .before .before .before .before in
     let a = s .args in
-    let out = rw (toZ-ofZ (s .fits .y)) at (sym (t .before .in-range2 .ensures) ∙ not-true (t .before .in-range2 .result) (t .if2 .taken)) in
+    let out = range-bad (s .fits .y) (t .before .in-range2 .ensures) (t .if2 .taken) in
     let r = rw (toZ-ofZ (s .fits .tolerance)) at (c .before .refusal-or2 .ensures) in
     y-refused (lists (a .m)) (a .tolerance) (a .outline .now) (a .records .now) (a .x) (a .y) (x-fine (t .before .before)) out (r .0) (r .1)
 
 -- past the test of y
 y-fine : (c : tie.Else2) → inRange (c .before .before .before .before .args .y) ≡ true
-y-fine c =
-    let s = c .before .before .before .before in
-    rw (toZ-ofZ (s .fits .y)) at (sym (c .before .in-range2 .ensures) ∙ not-false (c .before .in-range2 .result) (c .if2 .left))
+y-fine c = range-fine (c .before .before .before .before .fits .y) (c .before .in-range2 .ensures) (c .if2 .left)
 
 -- the leaves have room in the lent list
 room : (c : tie.After-known-told2)

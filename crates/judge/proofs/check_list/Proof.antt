@@ -5,7 +5,7 @@ use native.Mathlib.Omega.{arith}
 use borrow.Author.Needs.{needs}
 use lib.ListN.{length}
 use Rattle.setting.specs.Setting.{lists, HasRows, recordLength}
-use Rattle.judge_list.proofs.Pieces.{length-is}
+use Rattle.setting.proofs.Pieces.{record-length-is}
 use Rattle.judge.specs.Inside.{checkedOf}
 use Rattle.judge.proofs.Answers.{pieces-none, pieces-many, pieces-bad, list-empty, list-cut, number-bad, list-fine}
 use Rattle.judge.proofs.check_list.Statement.{statement}
@@ -36,13 +36,13 @@ returns-4 c =
     let d = c .before .before in
     let a = d .before .before .args in
     sym (ap checkedOf (list-cut (lists (a .m)) (a .leaves .now) (has d)
-    (subst (λ n. length (a .leaves .now) % n ≡ 0 → ⊥) (length-is (a .m)) (c .if4 .taken))))
+    (subst (λ n. length (a .leaves .now) % n ≡ 0 → ⊥) (record-length-is (a .m)) (c .if4 .taken))))
 
 -- past check 9
 whole : (c : tie.Else4) → let a = c .before .before .before .before .args in length (a .leaves .now) % recordLength (lists (a .m)) ≡ 0
 whole c =
     let a = c .before .before .before .before .args in
-    subst (λ n. length (a .leaves .now) % n ≡ 0) (length-is (a .m)) (c .if4 .left)
+    subst (λ n. length (a .leaves .now) % n ≡ 0) (record-length-is (a .m)) (c .if4 .left)
 
 number-fault-requires : tie.Need-number-fault-requires
 number-fault-requires c κs = (has (c .before .before), whole c)

@@ -37,9 +37,7 @@ fine c =
 -- what the second answers
 pieces : (c : tie.After-takes-pieces)
     → let s = c .before .before .before .before .before .args in c .takes-pieces .result ≡ degreePieces (degreeAt (s .curve .now) 0) (s .m)
-pieces c =
-    let s = c .before .before .before .before .before .args in
-    c .takes-pieces .ensures ∙ ap (λ d. degreePieces d (s .m)) (c .before .degree-at .ensures)
+pieces c = c .takes-pieces .ensures ∙ ap (λ d. degreePieces d (c .before .before .before .before .before .args .m)) (c .before .degree-at .ensures)
 
 returns-3 : tie.Need-returns-3
 returns-3 c =
@@ -47,11 +45,6 @@ returns-3 c =
     let s = found .before .before .before .before .before .args in
     sym (ap faultOf (own-pieces (s .m) (s .curve .now) (s .at) (fine (found .before .before))
     (sym (pieces found) ∙ not-true (found .takes-pieces .result) (c .if3 .taken))))
-
--- past the second
-enough : (c : tie.Else3)
-    → let s = c .before .before .before .before .before .before .args in degreePieces (degreeAt (s .curve .now) 0) (s .m) ≡ true
-enough c = sym (pieces (c .before)) ∙ not-false (c .before .takes-pieces .result) (c .if3 .left)
 
 first-beyond-requires : tie.Need-first-beyond-requires
 first-beyond-requires c κs =
@@ -68,7 +61,8 @@ last-check : (c : tie.After-first-beyond)
 last-check c =
     let s = start c .args in
     let past = c .before .before in
-    own-last (s .m) (s .curve .now) (s .at) (fine (past .before .before .before)) (enough past)
+    own-last (s .m) (s .curve .now) (s .at) (fine (past .before .before .before))
+    (sym (pieces (past .before)) ∙ not-false (past .before .takes-pieces .result) (past .if3 .left))
     ∙ ap (lastOwn (s .at)) (sym (rw (c .before .next-at .ensures) at (c .first-beyond .ensures)))
 
 add-t17 : tie.Need-add-t17

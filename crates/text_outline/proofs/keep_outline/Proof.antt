@@ -20,7 +20,7 @@ pub keep-outline-spec : {M : Type 1} → statement M
 keep-outline-spec =
     tie.close
     (tie.spec Inv-loop μ-loop loop-holds (λ c κs. search needs) (λ c. search needs) (λ c. search needs)
-    (λ c. search keep-stops) (λ c. search needs) (λ c. search line-less) (λ c. search keep-past) (λ c. search needs)
-    (λ c κs. search needs) (λ c. search needs) (λ c. search keep-stops) (λ c κs. search needs) (λ c. search needs)
-    (λ c. search line-less) (λ c. search keep-past) (λ c. search needs) (λ c. search line-less) (λ c. search keep-past)
+    (λ c. search keep-stops) (λ c. search needs) (λ c κs. search needs) (λ c. search needs) (λ c. search keep-stops)
+    (λ c κs. search needs) (λ c. search needs) (λ c. search line-less) (λ c. search keep-past) (λ c. search needs)
+    (λ c. search needs) (λ c. search line-less) (λ c. search keep-past) (λ c. search line-less) (λ c. search keep-past)
     (λ c. search needs) (λ c. search keep-stops))

@@ -17,7 +17,6 @@ use prog.Memory.{Memory}
 use prog.Routine.{Routine}
 use prog.Wp.{Heap, Calls, Loops, WpFn, Tables}
 use ghost.Atoms.{Atoms, sem}
-use contract.Lifetimes.{Lfts}
 use contract.Monad.{Fun, fact}
 use contract.Running.{givenOf, tables, tablesOf}
 use types.Kit.{Given, ‵, raw, _⊛_, some, later, _$_, _∵_, !, qed, by, move, drop, use1, split, join, pick, fsplit, fjoin, suffices, frame, await}
@@ -26,7 +25,7 @@ use types.Part.{whole, sub, look-in, agg}
 use types.Run.{look, init, forget, stop, fld, from, load, of-opd, and-then, no-more, assigns, land, returns, enter, alloc1, alloc0, params1, pass1}
 use types.Run.{pass0, free1, free0}
 use sound.WpLaws.{FmC, fmOf, WpFn-mono}
-use denote.RattleType.{RattleType, owns}
+use denote.RattleType.{owns}
 use denote.Laws.{Is, shows}
 use denote.Plain.{uint-makes, uint-lawful}
 use denote.Builtin.{usize}
@@ -51,6 +50,7 @@ use Rattle.text_reader.proofs.LineReader as T
 use Rattle.text_reader.proofs.LineReader.Laws as T′
 use Rattle.text_forms.proofs.forms.Form as S
 use Rattle.text_forms.proofs.forms.Form.Laws as S′
+use Rattle.text_reader.proofs.Calls.{B}
 use Rattle.text_reader.proofs.place_after as step
 use Rattle.text_reader.proofs.place_after.Symbol as step-def
 use Rattle.text_reader.proofs.place_after.Symbol.{name as #text_reader·place-after}
@@ -59,10 +59,6 @@ use Rattle.text_reader.proofs.after.Key.{name as #text_reader·after}
 use Rattle.text_reader.proofs.after as after
 use Rattle.text_reader.proofs.after.Statement as stated
 use Rattle.text_reader.proofs.after.Code as code
-
--- the struct's type, over the signature's lifetimes
-abbrev B : Lfts 1 → RattleType
-B κs = T.the-row (namedLft 1 0 tt κs)
 
 abbrev stayed : Stays (after.ended .signature .params) (after.ended .kept)
 stayed = (stay-none B yes, (stay-none (λ _. S.the-row) yes, tt))

@@ -15,7 +15,6 @@ use prog.Memory.{Memory}
 use prog.Routine.{Routine}
 use prog.Wp.{Heap, Calls, Loops, WpFn, Tables}
 use ghost.Atoms.{Atoms, sem}
-use contract.Lifetimes.{Lfts}
 use contract.Monad.{Fun, fact}
 use contract.Running.{givenOf, tables, tablesOf}
 use types.Kit.{Given, ‵, raw, _⊛_, given, ⋆, some, later, _$_, _∵_, !, qed, by, move, drop, use1, use2, split, join, learn, pick, fsplit, fjoin}
@@ -24,7 +23,7 @@ use types.Part.{whole, sub, look-in}
 use types.Run.{look, init, forget, stop, fld, from, load, of-opd, and-then, no-more, assigns, land, returns, enter, alloc1, alloc0, params1, pass1}
 use types.Run.{pass0, free1, free0}
 use sound.WpLaws.{FmC, fmOf, WpFn-mono}
-use denote.RattleType.{RattleType, owns}
+use denote.RattleType.{owns}
 use denote.Laws.{Is, shows}
 use denote.Plain.{uint-makes}
 use denote.Builtin.{u8, usize}
@@ -52,6 +51,7 @@ use Rattle.text_reader.proofs.LineReader as T
 use Rattle.text_reader.proofs.LineReader.Laws as T′
 use Rattle.text_forms.proofs.forms.Form as S
 use Rattle.text_forms.proofs.forms.Form.Laws as S′
+use Rattle.text_reader.proofs.Calls.{B}
 use Rattle.text_forms.proofs.form_reading.form_at as step
 use Rattle.text_forms.proofs.form_reading.form_at.Symbol as step-def
 use Rattle.text_forms.proofs.form_reading.form_at.Symbol.{name as #form-reading·form-at}
@@ -60,10 +60,6 @@ use Rattle.text_reader.proofs.next.Key.{name as #text_reader·next}
 use Rattle.text_reader.proofs.next as next
 use Rattle.text_reader.proofs.next.Statement as stated
 use Rattle.text_reader.proofs.next.Code as code
-
--- the struct's type, over the signature's lifetimes
-abbrev B : Lfts 1 → RattleType
-B κs = T.the-row (namedLft 1 0 tt κs)
 
 abbrev stayed : Stays (next.ended .signature .params) (next.ended .kept)
 stayed = (stay-none B yes, tt)

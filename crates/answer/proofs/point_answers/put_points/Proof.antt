@@ -19,13 +19,10 @@ loop-holds c = putting-start _ _ _ _
 put-point-requires : tie.Need-put-point-requires Inv-loop μ-loop
 put-point-requires c κs = (search put-room, search needs)
 
-loop-again-3 : tie.Need-loop-again-3 Inv-loop μ-loop
-loop-again-3 c = search put-point-line
-
 pub put-points-spec : {M : Type 1} → statement M
 put-points-spec =
     tie.close
     (tie.spec Inv-loop μ-loop loop-holds (λ c κs. search needs) (λ c. search needs) (λ c. search needs)
-    (λ c. search put-stops) (λ c. search needs) (λ c. search line-less) (λ c. search put-past) (λ c. search needs)
-    (λ c. search line-less) (λ c. search put-past) (λ c. search needs) put-point-requires (λ c. search line-less)
-    loop-again-3 (λ c. search needs) (λ c. search put-stops))
+    (λ c. search put-stops) (λ c. search needs) (λ c. search needs) (λ c. search needs) put-point-requires
+    (λ c. search line-less) (λ c. search put-point-line) (λ c. search line-less) (λ c. search put-past)
+    (λ c. search line-less) (λ c. search put-past) (λ c. search needs) (λ c. search put-stops))

@@ -2,18 +2,13 @@
 use mathlib.Core.Path.{_≡_, refl, ap}
 use mathlib.Core.Bool.{Bool}
 use mathlib.Core.List.{List}
-use Prim.Native.Nat.{ℕ, zero, suc, _*_, _≤_, zero-le}
-use native.Mathlib.Omega.{arith}
+use Prim.Native.Nat.{ℕ}
 use borrow.Author.Needs.{needs}
-use mir.Syntax.{w64}
-use mir.Val.{toZ}
-use mir.Facts.{toZ-ofZ, toZ-pos}
-use lib.ListN.{replicate}
-use lib.IntN.{ℤ, pos, natAbs}
+use mir.Facts.{toZ-ofZ}
+use lib.IntN.{ℤ}
 use Rattle.setting.specs.Setting.{HasRows}
-use Rattle.integers.specs.Entry.{entry}
-use Rattle.curve_halves.specs.Sizes.{Each}
 use Rattle.bound_row_table.specs.Inside.{Copied}
+use Rattle.bound_row_table.proofs.Copying.{filled}
 use Rattle.bound_pieces.specs.declared.Pieces.{Pieces}
 use Rattle.bound_pieces.specs.Inside.{piecesBy, piecesOf, PiecesReady}
 use Rattle.band.proofs.outline_band.band_curves.Statement.{statement}
@@ -31,23 +26,6 @@ scale-is m b e = ap (λ (q : Pieces). q .sixths) e
 ready : (m : ℕ) (b : Bool) {p : Pieces} {rows : List ℤ} → HasRows m → p ≡ piecesOf m b → Copied m rows → PiecesReady p rows
 unfolding piecesOf piecesBy
 ready m b h e copied = rw e (record { has = h; is = refl; copied = copied })
-
--- a list filled with one number
-filled : {B : ℕ} (z : ℤ) → natAbs z ≤ B → (n : ℕ) → Each B (replicate n z)
-filled {B} z h n = record { under = each n }
-  where
-    each : (n j : ℕ) → natAbs (entry (replicate n z) j) ≤ B
-    each zero j = zero-le
-    each (suc n) zero = h
-    each (suc n) (suc j) = each n j
-
-put-rows-requires : tie.Need-put-rows-requires
-put-rows-requires c κs =
-    let m = c .before .before .args .m in
-    let h = c .before .before .pre .0 in
-    let e : toZ w64 m ≡ pos m = toZ-pos w64 (omega (arith, h .most)) in
-    let small : natAbs (toZ w64 m) ≤ 5000 * m = rw e (omega arith) in
-    (h, refl, filled (toZ w64 m) small 297)
 
 band-by-requires : tie.Need-band-by-requires
 band-by-requires c κs =
@@ -72,5 +50,5 @@ returns c =
 pub band-curves-spec : {M : Type 1} → statement M
 band-curves-spec =
     tie.close
-    (tie.spec (λ c. search needs) (λ c. search needs) put-rows-requires (λ c. search needs) (λ c κs. search needs) (λ c κs. search needs) (λ c. search needs) band-by-requires
+    (tie.spec (λ c. search needs) (λ c. search needs) (λ c κs. let h = c .before .before .pre .0 in (h, refl, filled h 297)) (λ c. search needs) (λ c κs. search needs) (λ c κs. search needs) (λ c. search needs) band-by-requires
     (λ c. search needs) returns)

@@ -1,47 +1,18 @@
 -- Four numbers compared, one after the other.
-use Prim.Native.Nat.{_+_}
-use native.Mathlib.Omega.{arith}
+use Prim.Native.Nat.{_≤_}
+use lib.ListN.{length}
 use borrow.Author.Needs.{needs}
-use mir.Syntax.{w32}
 use mir.Facts.{toZ-ofZ}
-use Rattle.integers.proofs.Ranges.{stored}
-use Rattle.band_comparing.proofs.ReachLaws.{number-less, reach-four}
+use Rattle.band_comparing.proofs.ReachLaws.{number-under, reach-four}
 use Rattle.band_comparing.proofs.reaching.reach_each.Statement.{statement}
 use Rattle.band_comparing.proofs.reaching.reach_each.Tie as tie
 
-reach-number-requires-2 : tie.Need-reach-number-requires-2
-reach-number-requires-2 c κs =
-    let a = c .before .args in
-    omega (arith, c .reach-number .ensures, number-less (a .given .now) (a .reach) (a .at) (stored w32 (a .a)), c .before .pre .0)
+-- no number leaves more than were given
+first : (c : tie.After-reach-number) → c .reach-number .result ≤ length (c .before .args .given .now)
+first c = number-under _ _ _ _ (c .reach-number .ensures) (c .before .pre .0)
 
-reach-number-requires-3 : tie.Need-reach-number-requires-3
-reach-number-requires-3 c κs =
-    let f = c .before in
-    let a = f .before .args in
-    omega (
-      arith,
-      c .reach-number2 .ensures,
-      number-less (a .given .now) (f .reach-number .result) (a .at + 1) (stored w32 (a .b)),
-      f .reach-number .ensures,
-      number-less (a .given .now) (a .reach) (a .at) (stored w32 (a .a)),
-      f .before .pre .0,
-    )
-
-reach-number-requires-4 : tie.Need-reach-number-requires-4
-reach-number-requires-4 c κs =
-    let g = c .before in
-    let f = g .before in
-    let a = f .before .args in
-    omega (
-      arith,
-      c .reach-number3 .ensures,
-      number-less (a .given .now) (g .reach-number2 .result) (a .at + 2) (stored w32 (a .c)),
-      g .reach-number2 .ensures,
-      number-less (a .given .now) (f .reach-number .result) (a .at + 1) (stored w32 (a .b)),
-      f .reach-number .ensures,
-      number-less (a .given .now) (a .reach) (a .at) (stored w32 (a .a)),
-      f .before .pre .0,
-    )
+second : (c : tie.After-reach-number2) → c .reach-number2 .result ≤ length (c .before .before .args .given .now)
+second c = number-under _ _ _ _ (c .reach-number2 .ensures) (first (c .before))
 
 returns : tie.Need-returns
 returns c =
@@ -58,5 +29,5 @@ returns c =
 pub reach-each-spec : {M : Type 1} → statement M
 reach-each-spec =
     tie.close
-    (tie.spec (λ c κs. search needs) (λ c. search needs) reach-number-requires-2 (λ c. search needs) reach-number-requires-3
-    (λ c. search needs) reach-number-requires-4 returns)
+    (tie.spec (λ c κs. search needs) (λ c. search needs) (λ c κs. first c) (λ c. search needs) (λ c κs. second c)
+    (λ c. search needs) (λ c κs. number-under _ _ _ _ (c .reach-number3 .ensures) (second (c .before))) returns)

@@ -8,10 +8,8 @@ use Rattle.band_comparing.proofs.trying.try_box.Tie as tie
 returns : tie.Need-returns
 unfolding boxFrom
 returns c =
-    let y = c .before in
-    let s = y .before .before .before .before in
-    sides-tried (y .before .before .before .low-at .ensures) (y .before .before .high-at .ensures) (y .before .low-at2 .ensures) (y .high-at2 .ensures)
-    (s .args .given .now) (s .args .reach) (s .args .at) (s .fits .square) (c .try-sides .ensures)
+    sides-tried (c .before .before .before .before .low-at .ensures) (c .before .before .before .high-at .ensures) (c .before .before .low-at2 .ensures)
+    (c .before .high-at2 .ensures) _ _ _ (c .before .before .before .before .before .fits .square) (c .try-sides .ensures)
 
 pub try-box-spec : {M : Type 1} → statement M
 try-box-spec =

@@ -13,10 +13,11 @@ use mir.Facts.{toZ-ofZ, toZ-pos}
 use Rattle.setting.specs.Setting.{lists, breakPoints}
 use Rattle.curve_nodes.specs.Nodes.{depth}
 use Rattle.bound_node.specs.Boxes.{meets}
-use Rattle.band_records.specs.Records.{boxesTo}
+use Rattle.band_records.specs.Records.{boxesTo, nodeNumbers}
 use Rattle.integers.proofs.Ranges.{stored}
-use Rattle.band_comparing.specs.Inside.{triedOf, Tryable}
-use Rattle.band_comparing.proofs.ReachLaws.{number-less}
+use Rattle.band_comparing.specs.declared.trying.Tried.{Tried}
+use Rattle.band_comparing.specs.Inside.{reachOf, triedOf, Tryable}
+use Rattle.band_comparing.proofs.ReachLaws.{number-under}
 use Rattle.band_comparing.proofs.TryLaws.{node-head}
 use Rattle.band_comparing.proofs.trying.try_node.Statement.{statement}
 use Rattle.band_comparing.proofs.trying.try_node.Tie as tie
@@ -28,28 +29,16 @@ number-is s = toZ-pos w32 (s .pre .1 .curve)
 node-is : (s : tie.Start) → toZ w32 (s .args .node) ≡ pos (s .args .node)
 node-is s = toZ-pos w32 (lt-trans (s .pre .1 .below) (lit< tt))
 
-reach-number-requires-2 : tie.Need-reach-number-requires-2
-reach-number-requires-2 c κs =
-    let a = c .before .args in
-    omega (arith, c .reach-number .ensures, number-less (a .given .now) (a .reach) (a .at) (toZ w32 (a .number)), c .before .pre .0 .there)
-
 -- they leave no more
+first : (c : tie.After-reach-number) → c .reach-number .result ≤ length (c .before .args .given .now)
+first c = number-under _ _ _ _ (c .reach-number .ensures) (c .before .pre .0 .there)
+
 less : (c : tie.After-reach-number2) → c .reach-number2 .result ≤ length (c .before .before .args .given .now)
-less c =
-    let f = c .before in
-    let a = f .before .args in
-    omega (
-      arith,
-      c .reach-number2 .ensures,
-      number-less (a .given .now) (f .reach-number .result) (a .at + 1) (toZ w32 (a .node)),
-      f .reach-number .ensures,
-      number-less (a .given .now) (a .reach) (a .at) (toZ w32 (a .number)),
-      f .before .pre .0 .there,
-    )
+less c = number-under _ _ _ _ (c .reach-number2 .ensures) (first (c .before))
 
 -- what the test of the boxes asks, at the depth that was computed
 tryable : (d : tie.After-depth) → let n = d .before in let a = n .before .before .args in
-    Tryable (a .given .now) (n .reach-number2 .result) (a .at + 2) (2 ^ 60) (a .m) (a .scale) (a .rows .now) (d .depth .result) (a .curve) (stored w64 (a .t))
+    Tryable (a .given .now) (n .reach-number2 .result) (a .at + 2) (2 ^ 60) (a .by .m) (a .by .scale) (a .rows .now) (d .depth .result) (a .curve) (stored w64 (a .t))
 tryable d =
     let n = d .before in
     let s = n .before .before in
@@ -64,33 +53,25 @@ tryable d =
       small = rw (toZ-ofZ (s .fits .t)) (p .small);
     }
 
-returns : tie.Need-returns
-returns c =
-    let d = c .before .before .before in
+-- the boxes after the two numbers, at the tolerance and the depth that are meant
+tried : {r : Tried} (d : tie.After-depth) → let n = d .before in let a = n .before .before .args in let σ = lists (a .by .m) in
+    r ≡ triedOf (meets σ (stored w64 (a .t)) (d .depth .result) (a .curve))
+    (reachOf (a .given .now) (n .reach-number2 .result) (a .at + 2) (boxesTo σ (breakPoints σ) (d .depth .result) (a .curve)))
+    → r ≡ triedOf (meets σ (a .t) (depth (a .node)) (a .curve))
+    (reachOf (a .given .now) (a .reach) (a .at) (nodeNumbers (a .number) (a .node) (boxesTo σ (breakPoints σ) (depth (a .node)) (a .curve))))
+tried d e =
     let n = d .before in
     let s = n .before .before in
     let a = s .args in
-    let σ = lists (a .m) in
-    let boxes = boxesTo σ (breakPoints σ) (depth (a .node)) (a .curve) in
-    (rw (toZ-ofZ (s .fits .t), d .depth .ensures) at (c .try-higher .ensures))
-    ∙ ap (triedOf (meets σ (a .t) (depth (a .node)) (a .curve))) (node-head (a .given .now) (a .reach) (a .at) (a .number) (a .node) boxes (number-is s)
-    (node-is s) (n .before .reach-number .ensures) (n .reach-number2 .ensures))
-
-returns-2 : tie.Need-returns-2
-returns-2 c =
-    let d = c .before .before .before in
-    let n = d .before in
-    let s = n .before .before in
-    let a = s .args in
-    let σ = lists (a .m) in
-    let boxes = boxesTo σ (breakPoints σ) (depth (a .node)) (a .curve) in
-    (rw (toZ-ofZ (s .fits .t), d .depth .ensures) at (c .try-low .ensures))
-    ∙ ap (triedOf (meets σ (a .t) (depth (a .node)) (a .curve))) (node-head (a .given .now) (a .reach) (a .at) (a .number) (a .node) boxes (number-is s)
-    (node-is s) (n .before .reach-number .ensures) (n .reach-number2 .ensures))
+    let σ = lists (a .by .m) in
+    (rw (toZ-ofZ (s .fits .t), d .depth .ensures) at e)
+    ∙ ap (triedOf (meets σ (a .t) (depth (a .node)) (a .curve))) (node-head (a .given .now) (a .reach) (a .at) (a .number) (a .node)
+    (boxesTo σ (breakPoints σ) (depth (a .node)) (a .curve)) (number-is s) (node-is s) (n .before .reach-number .ensures) (n .reach-number2 .ensures))
 
 pub try-node-spec : {M : Type 1} → statement M
 try-node-spec =
     tie.close
-    (tie.spec (λ c. search needs) (λ c κs. search needs) (λ c. search needs) (λ c. search needs) reach-number-requires-2
+    (tie.spec (λ c. search needs) (λ c κs. search needs) (λ c. search needs) (λ c. search needs) (λ c κs. first c)
     (λ c κs. search needs) (λ c. search needs) (λ c κs. (tryable (c .before .before), c .if1 .taken)) (λ c. search needs)
-    (λ c κs. (tryable (c .before .before), c .if1 .left)) returns returns-2)
+    (λ c κs. (tryable (c .before .before), c .if1 .left)) (λ c. tried (c .before .before .before) (c .try-higher .ensures))
+    (λ c. tried (c .before .before .before) (c .try-low .ensures)))

@@ -4,10 +4,7 @@ use Prim.Native.Nat.{suc, _+_, _-_, _≤_}
 use native.Mathlib.Omega.{arith}
 use lib.ListN.{length, set, take, drop}
 use lib.Seq.{length-sets}
-use mir.Facts.{toZ-ofZ}
-use Rattle.integers.specs.Entry.{entry}
-use Rattle.integers.proofs.Between.{element-fits}
-use Rattle.band_exchange.proofs.Moves.{movedFrom, back-start, back-done, back-read, back-step}
+use Rattle.band_exchange.proofs.Moves.{read-and-put, movedFrom, back-start, back-done, back-read, back-step}
 use Rattle.band_exchange.proofs.moving.move_back.Statement.{statement}
 use Rattle.band_exchange.proofs.moving.move_back.Tie as tie
 
@@ -26,33 +23,19 @@ kept l =
     let left = l .loop .left in
     ap length (l .loop .inv .0) ∙ length-sets (a .list .now) (a .to + left) (take (a .n - left) (drop (a .from + left) (a .list .now)))
 
-add-z : tie.Need-add-z Inv-loop μ-loop
-add-z c = omega (arith, kept (c .before))
-
-slice-copy-out-z : tie.Need-slice-copy-out-z Inv-loop μ-loop
-slice-copy-out-z c = omega (arith, kept (c .before))
-
-slice-set-from-z : tie.Need-slice-set-from-z Inv-loop μ-loop
-slice-set-from-z c = omega (arith, kept (c .before .before))
-
 loop-again : tie.Need-loop-again Inv-loop μ-loop
 loop-again c =
     let l = c .before .before in
     let a = l .before .args in
     let old = a .list .now in
-    let now = l .loop .list in
     let j = l .loop .left - 1 in
     let s : l .loop .left ≡ suc j = omega arith in (
-      ap (set now (a .to + j)) (toZ-ofZ (element-fits now (a .from + j) (c .z .given)))
-          ∙ ap (λ q. set q (a .to + j) (entry q (a .from + j))) (l .loop .inv .0 ∙ ap (movedFrom old (a .from) (a .to) (a .n)) s)
+      read-and-put (a .from + j) (a .to + j) (c .z .given) (l .loop .inv .0 ∙ ap (movedFrom old (a .from) (a .to) (a .n)) s)
           ∙ ap (set (movedFrom old (a .from) (a .to) (a .n) (suc j)) (a .to + j))
           (back-read old (a .from) (a .to) (a .n) j (omega arith) (l .before .pre .1))
           ∙ back-step old (a .from) (a .to) (a .n) j (omega arith) (omega arith),
       omega arith,
     )
-
-same-length : tie.Need-same-length Inv-loop μ-loop
-same-length c = kept (c .before)
 
 returns : tie.Need-returns Inv-loop μ-loop
 returns c =
@@ -63,7 +46,7 @@ returns c =
 
 pub move-back-spec : {M : Type 1} → statement M
 move-back-spec =
-    tie.close
-    (tie.spec Inv-loop μ-loop loop-holds (λ c. omega arith) add-z (λ c. omega (arith, kept (c .before))) slice-copy-out-z
-    (λ c. omega (arith, kept (c .before .before))) (λ c. omega (arith, kept (c .before .before))) slice-set-from-z (λ c. omega arith) loop-again
-    same-length returns)
+    tie.close (tie.spec Inv-loop μ-loop loop-holds (λ c. omega arith) (λ c. omega (arith, kept (c .before)))
+    (λ c. omega (arith, kept (c .before))) (λ c. omega (arith, kept (c .before))) (λ c. omega (arith, kept (c .before .before)))
+    (λ c. omega (arith, kept (c .before .before))) (λ c. omega (arith, kept (c .before .before))) (λ c. omega arith) loop-again
+    (λ c. kept (c .before)) returns)

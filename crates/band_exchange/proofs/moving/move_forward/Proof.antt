@@ -4,11 +4,8 @@ use Prim.Native.Nat.{_+_, _-_, _≤_}
 use native.Mathlib.Omega.{arith}
 use lib.ListN.{length, set, take, drop}
 use lib.Seq.{length-sets}
-use mir.Facts.{toZ-ofZ}
-use Rattle.integers.specs.Entry.{entry}
-use Rattle.integers.proofs.Between.{element-fits}
 use Rattle.band_exchange.specs.Inside.{movedTo}
-use Rattle.band_exchange.proofs.Moves.{forward-read, forward-step}
+use Rattle.band_exchange.proofs.Moves.{read-and-put, forward-read, forward-step}
 use Rattle.band_exchange.proofs.moving.move_forward.Statement.{statement}
 use Rattle.band_exchange.proofs.moving.move_forward.Tie as tie
 
@@ -26,31 +23,17 @@ kept l =
     let a = l .before .args in
     ap length (l .loop .inv .0) ∙ length-sets (a .list .now) (a .to) (take (l .loop .i) (drop (a .from) (a .list .now)))
 
-slice-copy-out-z : tie.Need-slice-copy-out-z Inv-loop μ-loop
-slice-copy-out-z c = omega (arith, kept (c .before))
-
-add-z-2 : tie.Need-add-z-2 Inv-loop μ-loop
-add-z-2 c = omega (arith, kept (c .before .before))
-
-slice-set-from-z : tie.Need-slice-set-from-z Inv-loop μ-loop
-slice-set-from-z c = omega (arith, kept (c .before .before))
-
 loop-again : tie.Need-loop-again Inv-loop μ-loop
 loop-again c =
     let l = c .before .before in
     let a = l .before .args in
     let old = a .list .now in
-    let now = l .loop .list in
     let i = l .loop .i in (
-      ap (set now (a .to + i)) (toZ-ofZ (element-fits now (a .from + i) (c .z .given)))
-          ∙ ap (λ q. set q (a .to + i) (entry q (a .from + i))) (l .loop .inv .0)
+      read-and-put (a .from + i) (a .to + i) (c .z .given) (l .loop .inv .0)
           ∙ ap (set (movedTo old (a .from) (a .to) i) (a .to + i)) (forward-read old (a .from) (a .to) i (omega arith) (l .before .pre .1))
           ∙ forward-step old (a .from) (a .to) i (omega arith),
       omega arith,
     )
-
-same-length : tie.Need-same-length Inv-loop μ-loop
-same-length c = kept (c .before)
 
 returns : tie.Need-returns Inv-loop μ-loop
 returns c =
@@ -61,6 +44,6 @@ returns c =
 
 pub move-forward-spec : {M : Type 1} → statement M
 move-forward-spec =
-    tie.close
-    (tie.spec Inv-loop μ-loop loop-holds (λ c. omega arith) (λ c. omega (arith, kept (c .before))) slice-copy-out-z add-z-2
-    (λ c. omega (arith, kept (c .before .before))) slice-set-from-z (λ c. omega arith) (λ c. omega arith) loop-again same-length returns)
+    tie.close (tie.spec Inv-loop μ-loop loop-holds (λ c. omega arith) (λ c. omega (arith, kept (c .before)))
+    (λ c. omega (arith, kept (c .before))) (λ c. omega (arith, kept (c .before .before))) (λ c. omega (arith, kept (c .before .before)))
+    (λ c. omega (arith, kept (c .before .before))) (λ c. omega arith) (λ c. omega arith) loop-again (λ c. kept (c .before)) returns)

@@ -15,27 +15,12 @@ Inv-loop c degree count most₀ k₀ most k = (k ≤ degree - 1) × (most ≡ la
 abbrev μ-loop : tie.MeasureT-loop
 μ-loop c degree count most₀ k₀ most k = degree - 1 - k
 
-sub-count : tie.Need-sub-count Inv-loop μ-loop
-sub-count c = search needs
-
-cast-count : tie.Need-cast-count Inv-loop μ-loop
-cast-count c = search needs
-
 loop-holds : tie.Need-loop-holds Inv-loop μ-loop
 unfolding largestOf
 loop-holds c = (omega arith, refl)
 
 size-at-requires : tie.Need-size-at-requires Inv-loop μ-loop
 size-at-requires c κs = (c .before .before .pre .0, omega arith)
-
-larger-requires : tie.Need-larger-requires Inv-loop μ-loop
-larger-requires c κs = search needs
-
-add-k : tie.Need-add-k Inv-loop μ-loop
-add-k c = search needs
-
-loop-less : tie.Need-loop-less Inv-loop μ-loop
-loop-less c = omega arith
 
 loop-again : tie.Need-loop-again Inv-loop μ-loop
 unfolding largestOf
@@ -49,4 +34,7 @@ returns c =
     l .inv .1 ∙ ap (λ (n : ℕ). largestOf n (λ i. natAbs (difference (c .before .before .args .c) i))) e
 
 pub bend-spec : {M : Type 1} → statement M
-bend-spec = tie.close (tie.spec Inv-loop μ-loop sub-count cast-count loop-holds size-at-requires larger-requires add-k loop-less loop-again returns)
+bend-spec =
+    tie.close
+    (tie.spec Inv-loop μ-loop (λ c. search needs) (λ c. search needs) loop-holds size-at-requires (λ c κs. search needs) (λ c. search needs)
+    (λ c. omega arith) loop-again returns)

@@ -23,20 +23,8 @@ loop-holds c = (refl, λ e. clash (cc), omega arith, omega arith)
 returns : tie.Need-returns Inv-loop μ-loop
 returns c = let l = c .before .loop in ends-below (l .p) (l .q) (l .turned) (omega arith) ∙ l .inv .0
 
-mul-if2 : tie.Need-mul-if2 Inv-loop μ-loop
-mul-if2 c = omega arith
-
 returns-2 : tie.Need-returns-2 Inv-loop μ-loop
 returns-2 c = let l = c .before .before .loop in ends-above (l .p) (l .q) (l .turned) (omega arith) (l .inv .1) ∙ l .inv .0
-
-mul-q : tie.Need-mul-q Inv-loop μ-loop
-mul-q c = omega arith
-
-sub-q : tie.Need-sub-q Inv-loop μ-loop
-sub-q c = omega arith
-
-loop-less : tie.Need-loop-less Inv-loop μ-loop
-loop-less c = omega arith
 
 loop-again : tie.Need-loop-again Inv-loop μ-loop
 loop-again c =
@@ -48,4 +36,6 @@ loop-again c =
     (steps p' q' (l .turned) ∙ ap₂ (asked (l .turned)) p-is q-is ∙ l .inv .0, λ e. omega arith, omega arith, omega arith)
 
 pub doubled-fits-spec : {M : Type 1} → statement M
-doubled-fits-spec = tie.close (tie.spec Inv-loop μ-loop loop-holds returns mul-if2 returns-2 mul-q sub-q loop-less loop-again)
+doubled-fits-spec =
+    tie.close
+    (tie.spec Inv-loop μ-loop loop-holds returns (λ c. omega arith) returns-2 (λ c. omega arith) (λ c. omega arith) (λ c. omega arith) loop-again)

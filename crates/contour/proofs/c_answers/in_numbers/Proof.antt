@@ -1,5 +1,5 @@
 -- The numbers of an answer.
-use mathlib.Core.Path.{sym, _∙_, ap, ap₂}
+use mathlib.Core.Path.{sym, ap}
 use borrow.Author.Needs.{needs}
 use Rattle.contour.specs.Numbers.{bandAnswerOf}
 use Rattle.contour.proofs.c_answers.in_numbers.Statement.{statement}
@@ -9,9 +9,7 @@ returns : tie.Need-returns
 returns c = ap bandAnswerOf (sym (c .before .banded .given .1))
 
 returns-2 : tie.Need-returns-2
-returns-2 c =
-    ap₂ (λ n s. record { refusal = n; spot = s; curves = 0; leaves = 0; nodes = 0 }) (c .before .number .ensures) (c .spot .ensures)
-    ∙ ap bandAnswerOf (sym (c .before .before .before .banded2 .given .1))
+returns-2 c = rw (c .before .number .ensures, c .spot .ensures) (ap bandAnswerOf (sym (c .before .before .before .banded2 .given .1)))
 
 pub in-numbers-spec : {M : Type 1} → statement M
 in-numbers-spec =

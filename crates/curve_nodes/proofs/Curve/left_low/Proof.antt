@@ -4,9 +4,6 @@ use Rattle.curve_nodes.specs.Halves.{leftHalf}
 use Rattle.curve_nodes.proofs.Curve.left_low.Statement.{statement}
 use Rattle.curve_nodes.proofs.Curve.left_low.Tie as tie
 
-returns : tie.Need-returns
-unfolding leftHalf
-returns c = simp (c .before .left-low .ensures, c .left-low2 .ensures)
-
 pub left-low-spec : {M : Type 1} → statement M
-left-low-spec = tie.close (tie.spec (λ c κs. search needs) (λ c κs. search needs) returns)
+unfolding leftHalf
+left-low-spec = tie.close (tie.spec (λ c κs. search needs) (λ c κs. search needs) (λ c. simp (c .before .left-low .ensures, c .left-low2 .ensures)))

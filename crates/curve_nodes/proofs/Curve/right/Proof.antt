@@ -4,9 +4,6 @@ use Rattle.curve_nodes.specs.Halves.{rightHalf}
 use Rattle.curve_nodes.proofs.Curve.right.Statement.{statement}
 use Rattle.curve_nodes.proofs.Curve.right.Tie as tie
 
-returns : tie.Need-returns
-unfolding rightHalf
-returns c = simp (c .before .right-values .ensures, c .right-values2 .ensures)
-
 pub right-spec : {M : Type 1} → statement M
-right-spec = tie.close (tie.spec (λ c κs. search needs) (λ c κs. search needs) returns)
+unfolding rightHalf
+right-spec = tie.close (tie.spec (λ c κs. search needs) (λ c κs. search needs) (λ c. simp (c .before .right-values .ensures, c .right-values2 .ensures)))

@@ -5,9 +5,7 @@ use borrow.Author.Needs.{needs}
 use lib.Signed.{leZ, ltZ}
 use mir.Syntax.{w32}
 use mir.Val.{toZ}
-use mir.Facts.{toZ-ofZ}
-use Rattle.integers.proofs.Ranges.{stored}
-use Rattle.judge.proofs.Passing.{Passing, pass-none, pass-done, turned, Reading, reading}
+use Rattle.judge.proofs.Passing.{Passing, pass-none, turned, Reading, reading, all-read}
 use Rattle.judge.proofs.beyond.above_all.Statement.{statement}
 use Rattle.judge.proofs.beyond.above_all.Tie as tie
 
@@ -17,15 +15,15 @@ Inv-loop leaves m at z i₀ i = Passing (λ x. ltZ x (toZ w32 z)) leaves at (suc
 abbrev μ-loop : tie.MeasureT-loop
 μ-loop leaves m at z i₀ i = suc m - i
 
-turn : (c : tie.After-high Inv-loop μ-loop) → let l = c .before .before in let a = l .before .args in let z = stored w32 (a .z) in
-    Reading (λ x. ltZ x z) (leZ z) (a .leaves .now) (a .at) (suc (a .m)) (l .loop .i)
+turn : (c : tie.After-high Inv-loop μ-loop)
+    → let l = c .before .before in let a = l .before .args in Reading (λ y x. ltZ x y) leZ (a .z) (a .leaves .now) (a .at) (suc (a .m)) (l .loop .i)
 turn c =
-    let z = stored w32 (c .before .before .before .args .z) in
-    reading (λ x. ltZ x z) (leZ z) (turned z) (c .before .before .loop .inv) (c .before .loop-test .taken) (c .high .given)
+    let l = c .before .before in
+    reading (λ y x. ltZ x y) (l .before .fits .z) leZ turned (l .loop .inv) (c .before .loop-test .taken) (c .high .given)
 
 pub above-all-spec : {M : Type 1} → statement M
 above-all-spec =
-    tie.close (tie.spec Inv-loop μ-loop (λ c. pass-none _ _ _ _) (λ c. search needs) (λ c. search needs) (λ c. search needs) (λ c. search needs)
-    (λ c. rw (toZ-ofZ (c .before .before .before .before .fits .z)) at (turn (c .before) .fails (c .if1 .taken)))
-    (λ c. search needs) (λ c. omega arith) (λ c. turn (c .before) .passes (c .if1 .left))
-    (λ c. rw (toZ-ofZ (c .before .before .fits .z)) at (pass-done _ _ _ (c .before .loop .inv) (c .loop-test .left))))
+    tie.close
+    (tie.spec Inv-loop μ-loop (λ c. pass-none _ _ _ _) (λ c. search needs) (λ c. search needs) (λ c. search needs) (λ c. search needs)
+    (λ c. turn (c .before) .fails (c .if1 .taken)) (λ c. search needs) (λ c. omega arith) (λ c. turn (c .before) .passes (c .if1 .left))
+    (λ c. all-read (λ y x. ltZ x y) (c .before .before .fits .z) (c .before .loop .inv) (c .loop-test .left)))

@@ -10,7 +10,7 @@ use mir.Val.{toZ}
 use mir.Facts.{toZ-ofZ}
 use Rattle.setting.specs.Setting.{lists, recordLength}
 use Rattle.boxes.proofs.Records.{record-left}
-use Rattle.judge_list.proofs.Pieces.{length-is}
+use Rattle.setting.proofs.Pieces.{record-length-is}
 use Rattle.judge.specs.Inside.{ApartTo}
 use Rattle.judge.proofs.Apart.{apart-here, apart-more}
 use Rattle.judge.proofs.beyond.near_from.Statement.{statement}
@@ -38,7 +38,7 @@ loop-again : tie.Need-loop-again Inv-loop μ-loop
 loop-again c =
     let l = c .before .before .before in
     let e = sym (c .before .record-apart .ensures) ∙ not-false (c .before .record-apart .result) (c .if1 .left) in
-    rw (length-is (l .before .args .m)) (apart-more (l .loop .inv) e)
+    rw (record-length-is (l .before .args .m)) (apart-more (l .loop .inv) e)
 
 pub near-from-spec : {M : Type 1} → statement M
 near-from-spec =

@@ -10,7 +10,7 @@ use Rattle.integers.proofs.Ranges.{stored}
 use Rattle.setting.specs.Setting.{lists, recordLength}
 use Rattle.boxes.proofs.Records.{record-next}
 use Rattle.boxes.specs.Ranges.{placeOr}
-use Rattle.judge_list.proofs.Pieces.{length-is}
+use Rattle.setting.proofs.Pieces.{record-length-is}
 use Rattle.judge.specs.Judging.{FirstHolder}
 use Rattle.judge.specs.Inside.{RecordAt, holderAt, Searched}
 use Rattle.judge.proofs.Passing.{wide-fits, widened}
@@ -68,13 +68,13 @@ returns c =
     let f = found-on (l .loop .inv) (c .before .first-cover .result) (omega arith) (covered (c .before)) (c .if1 .taken) in
     held-found (c .before .first-cover .result) refl (c .if1 .taken)
     (subst (λ n. FirstHolder (lists (a .m)) (a .leaves .now) (a .x) (a .y) (l .loop .at / n) (c .before .first-cover .result))
-    (sym (length-is (a .m))) (rw (toZ-ofZ (s .fits .x), toZ-ofZ (s .fits .y)) at f))
+    (sym (record-length-is (a .m))) (rw (toZ-ofZ (s .fits .x), toZ-ofZ (s .fits .y)) at f))
 
 next-near-requires-2 : tie.Need-next-near-requires-2 Inv-loop μ-loop
 next-near-requires-2 c κs =
     let l = c .before .before .before in
     let s = l .before .before in
-    (s .pre .0, s .pre .3, rw (length-is (s .args .m)) (record-next (recordLength (lists (s .args .m))) (l .loop .at) (l .loop .inv .begins)))
+    (s .pre .0, s .pre .3, rw (record-length-is (s .args .m)) (record-next (recordLength (lists (s .args .m))) (l .loop .at) (l .loop .inv .begins)))
 
 loop-less : tie.Need-loop-less Inv-loop μ-loop
 loop-less c =
@@ -87,7 +87,7 @@ loop-again c =
     let l = c .before .before .before .before in
     let m = l .before .before .args .m in
     let more = searched-more (l .loop .inv) (rw (covered (c .before .before)) at (c .before .if1 .left)) in
-    searched-over more (rw (length-is m) at (c .next-near2 .ensures))
+    searched-over more (rw (record-length-is m) at (c .next-near2 .ensures))
 
 returns-2 : tie.Need-returns-2 Inv-loop μ-loop
 returns-2 c =

@@ -11,7 +11,7 @@ outside-requires c κs = search needs
 
 returns : tie.Need-returns
 returns c =
-    let s = c .before .before .before .before .before .before in
+    let s = c .before .before .before .before in
     let e = rw (kept (s .args .sides .«low_first») (s .pre .low-first), kept (s .args .sides .«low_second») (s .pre .low-second)) at
     (sym (c .before .outside .ensures) ∙ c .if1 .taken) in
     rw e
@@ -23,7 +23,7 @@ returns-2 : tie.Need-returns-2
 returns-2 c =
     let s = c .before .before .before .before .before .before .before in
     let e = rw (kept (s .args .sides .«low_first») (s .pre .low-first), kept (s .args .sides .«low_second») (s .pre .low-second)) at
-    (sym (c .before .before .outside .ensures) ∙ c .before .if1 .left) in
+    (sym (c .before .before .before .before .outside .ensures) ∙ c .before .before .before .if1 .left) in
     rw e (rw (kept (s .args .sides .«high_first») (s .pre .high-first), kept (s .args .sides .«high_second») (s .pre .high-second)) at
     (c .outside2 .ensures))
 

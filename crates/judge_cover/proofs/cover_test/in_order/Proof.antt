@@ -5,14 +5,11 @@ use Rattle.judge_cover.proofs.Sizes.{sizes}
 use Rattle.judge_cover.proofs.cover_test.in_order.Statement.{statement}
 use Rattle.judge_cover.proofs.cover_test.in_order.Tie as tie
 
-mul-result : tie.Need-mul-result
-mul-result c = fits! (search (sizes, c .before .before .before .before .pre .0, c .before .before .before .before .pre .1) depth 40) tt
-
-mul-result-2 : tie.Need-mul-result-2
-mul-result-2 c = fits! (search (sizes, c .before .before .before .before .pre .0, c .before .before .before .before .pre .1) depth 40) tt
-
 returns : tie.Need-returns
-returns c = sym (flag! refl (search (sizes, c .before .before .before .before .pre .0, c .before .before .before .before .pre .1) depth 40) tt)
+returns c = let p = c .before .before .before .before .before .before .before .before .pre in sym (flag! refl (search (sizes, p .0, p .1) depth 40) tt)
 
 pub in-order-spec : {M : Type 1} → statement M
-in-order-spec = tie.close (tie.spec mul-result mul-result-2 returns)
+in-order-spec =
+    tie.close
+    (tie.spec (λ c. let p = c .before .before .before .before .pre in fits! (search (sizes, p .0, p .1) depth 40) tt)
+    (λ c. let p = c .before .before .before .before .before .before .before .before .pre in fits! (search (sizes, p .0, p .1) depth 40) tt) returns)

@@ -6,6 +6,7 @@ use borrow.Author.Needs.{needs}
 use lib.ListN.{length}
 use lib.Seq.{sets, length-sets}
 use Rattle.boxes.specs.Ranges.{numbersOf}
+use Rattle.judge_runs.proofs.Runs.{room-left}
 use Rattle.judge_runs.proofs.Groups.{GroupsSoFar, grouped-none, group-left, grouped-more, grouped-all}
 use Rattle.judge_runs.proofs.boxing.box_groups.Statement.{statement}
 use Rattle.judge_runs.proofs.boxing.box_groups.Tie as tie
@@ -22,8 +23,7 @@ loop-holds c = (search needs, grouped-none (c .args .runs .now) (c .args .count)
 -- there is room for one more box
 room : (c : tie.In-loop Inv-loop μ-loop) → 4 * c .before .loop .number + 4 ≤ length (c .before .loop .groups)
 room c =
-    let l = c .before in
-    omega (arith, group-left (l .before .pre .0) (l .loop .inv .1) (c .loop-test .taken), l .loop .inv .0, l .before .pre .2)
+    let l = c .before in room-left (group-left (l .before .pre .0) (l .loop .inv .1) (c .loop-test .taken)) (l .loop .inv .0) (l .before .pre .2)
 
 sub-round-boxes : tie.Need-sub-round-boxes Inv-loop μ-loop
 sub-round-boxes c = let h = c .run-end .ensures .onward (c .before .loop-test .taken) (omega arith) in search needs

@@ -7,7 +7,7 @@ use lib.ListN.{length}
 use lib.Seq.{length-sets}
 use Rattle.setting.specs.Setting.{lists}
 use Rattle.boxes.specs.Ranges.{numbersOf}
-use Rattle.judge_runs.proofs.Runs.{RunsSoFar, boxed-none, one-left, next-whole, boxed-more, boxed-all}
+use Rattle.judge_runs.proofs.Runs.{room-left, RunsSoFar, boxed-none, one-left, next-whole, boxed-more, boxed-all}
 use Rattle.judge_runs.proofs.boxing.box_runs.Statement.{statement}
 use Rattle.judge_runs.proofs.boxing.box_runs.Tie as tie
 
@@ -23,8 +23,7 @@ loop-holds c = (search needs, boxed-none (lists (c .args .m)) (c .args .leaves .
 -- there is room for one more box
 room : (c : tie.In-loop Inv-loop μ-loop) → 4 * c .before .loop .count + 4 ≤ length (c .before .loop .boxes)
 room c =
-    let l = c .before in
-    omega (arith, one-left (l .before .pre .1) (l .loop .inv .1) (c .loop-test .taken), l .loop .inv .0, l .before .pre .2)
+    let l = c .before in room-left (one-left (l .before .pre .1) (l .loop .inv .1) (c .loop-test .taken)) (l .loop .inv .0) (l .before .pre .2)
 
 round-run-requires : tie.Need-round-run-requires Inv-loop μ-loop
 round-run-requires c κs =

@@ -8,7 +8,7 @@ use borrow.Author.Needs.{needs}
 use lib.ListN.{length}
 use Rattle.setting.specs.Setting.{lists, recordLength}
 use Rattle.boxes.proofs.Records.{record-left, record-next}
-use Rattle.judge_list.proofs.Pieces.{length-is}
+use Rattle.setting.proofs.Pieces.{record-length-is}
 use Rattle.judge_runs.specs.Inside.{Around}
 use Rattle.judge_runs.proofs.Boxes.{around-none, around-more, around-less}
 use Rattle.judge_runs.proofs.boxing.round_run.Statement.{statement}
@@ -36,7 +36,7 @@ loop-again c =
     let l = c .before .before in
     let m = l .before .before .args .m in
     let L = recordLength (lists m) in
-    rw (length-is m) (
+    rw (record-length-is m) (
       record-next L (l .loop .at) (l .loop .inv .0),
       rw (c .round-boxes .ensures, add-one m) (around-more (l .loop .inv .1) (l .loop .inv .0)),
     )

@@ -36,9 +36,7 @@ fine c =
 -- what the second answers
 pieces : (c : tie.After-takes-pieces)
     → let s = c .before .before .before .before .before .args in c .takes-pieces .result ≡ degreePieces (degreeAt (s .ns .now) (s .at)) (s .m)
-pieces c =
-    let s = c .before .before .before .before .before .args in
-    c .takes-pieces .ensures ∙ ap (λ d. degreePieces d (s .m)) (c .before .degree-at .ensures)
+pieces c = c .takes-pieces .ensures ∙ ap (λ d. degreePieces d (c .before .before .before .before .before .args .m)) (c .before .degree-at .ensures)
 
 returns-3 : tie.Need-returns-3
 returns-3 c =

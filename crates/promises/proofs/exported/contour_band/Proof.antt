@@ -4,14 +4,8 @@ use mir.Facts.{toZ-ofZ}
 use Rattle.promises.proofs.exported.contour_band.Statement.{statement}
 use Rattle.promises.proofs.exported.contour_band.Tie as tie
 
-contour-band-requires : tie.Need-contour-band-requires
-contour-band-requires c κs = search needs
-
-same-length : tie.Need-same-length
-same-length c = search needs
-
 returns : tie.Need-returns
 returns c = let s = c .before .before .before in rw (toZ-ofZ (s .fits .tolerance)) at (c .before .contour-band .ensures)
 
 pub contour-band-spec : {M : Type 1} → statement M
-contour-band-spec = tie.close (tie.spec contour-band-requires same-length returns)
+contour-band-spec = tie.close (tie.spec (λ c κs. search needs) (λ c. search needs) returns)

@@ -4,14 +4,8 @@ use mir.Facts.{toZ-ofZ}
 use Rattle.promises.proofs.operations.foretell.Statement.{statement}
 use Rattle.promises.proofs.operations.foretell.Tie as tie
 
-foretell-requires : tie.Need-foretell-requires
-foretell-requires c κs = search needs
-
-same-length : tie.Need-same-length
-same-length c = search needs
-
 returns : tie.Need-returns
 returns c = let s = c .before .before .before in rw (toZ-ofZ (s .fits .tolerance)) at (c .before .foretell .ensures)
 
 pub foretell-spec : {M : Type 1} → statement M
-foretell-spec = tie.close (tie.spec foretell-requires same-length returns)
+foretell-spec = tie.close (tie.spec (λ c κs. search needs) (λ c. search needs) returns)

@@ -4,11 +4,8 @@ use mir.Facts.{toZ-ofZ}
 use Rattle.promises.proofs.operations.judge.Statement.{statement}
 use Rattle.promises.proofs.operations.judge.Tie as tie
 
-judge-requires : tie.Need-judge-requires
-judge-requires c κs = search needs
-
 returns : tie.Need-returns
 returns c = let s = c .before in rw (toZ-ofZ (s .fits .x), toZ-ofZ (s .fits .y)) at (c .judge .ensures)
 
 pub judge-spec : {M : Type 1} → statement M
-judge-spec = tie.close (tie.spec judge-requires returns)
+judge-spec = tie.close (tie.spec (λ c κs. search needs) returns)

@@ -4,14 +4,8 @@ use mir.Facts.{toZ-ofZ}
 use Rattle.promises.proofs.operations.station_band.Statement.{statement}
 use Rattle.promises.proofs.operations.station_band.Tie as tie
 
-station-band-requires : tie.Need-station-band-requires
-station-band-requires c κs = search needs
-
-same-length : tie.Need-same-length
-same-length c = search needs
-
 returns : tie.Need-returns
 returns c = let s = c .before .before .before in rw (toZ-ofZ (s .fits .tolerance)) at (c .before .station-band .ensures)
 
 pub station-band-spec : {M : Type 1} → statement M
-station-band-spec = tie.close (tie.spec station-band-requires same-length returns)
+station-band-spec = tie.close (tie.spec (λ c κs. search needs) (λ c. search needs) returns)

@@ -5,20 +5,11 @@ use Rattle.text_forms.proofs.Lines.{point-no-pair, point-line, point-no
 use Rattle.text_forms.proofs.form_reading.point_form_at.Statement.{statement}
 use Rattle.text_forms.proofs.form_reading.point_form_at.Tie as tie
 
-returns : tie.Need-returns
-returns c = search point-no-pair
-
-add-t12 : tie.Need-add-t12
-add-t12 c = search closing-fits
-
 returns-2 : tie.Need-returns-2
 returns-2 c = search point-line
-
-returns-3 : tie.Need-returns-3
-returns-3 c = search point-not-closed
 
 pub point-form-at-spec : {M : Type 1} → statement M
 point-form-at-spec =
     tie.close
-    (tie.spec (λ c κs. search needs) (λ c. search needs) (λ c. search needs) returns (λ c. search needs)
-    (λ c κs. search needs) add-t12 returns-2 returns-3)
+    (tie.spec (λ c κs. search needs) (λ c. search needs) (λ c. search needs) (λ c. search point-no-pair) (λ c. search needs)
+    (λ c κs. search needs) (λ c. search closing-fits) returns-2 (λ c. search point-not-closed))

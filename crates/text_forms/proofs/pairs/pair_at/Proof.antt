@@ -4,20 +4,9 @@ use Rattle.text_forms.proofs.PairLaws.{pair-not-opened, pair-no-first, 
 use Rattle.text_forms.proofs.pairs.pair_at.Statement.{statement}
 use Rattle.text_forms.proofs.pairs.pair_at.Tie as tie
 
-returns : tie.Need-returns
-returns c = search pair-not-opened
-
-returns-2 : tie.Need-returns-2
-returns-2 c = search pair-no-first
-
-returns-3 : tie.Need-returns-3
-returns-3 c = search pair-no-second
-
-returns-4 : tie.Need-returns-4
-returns-4 c = search pair-both
-
 pub pair-at-spec : {M : Type 1} → statement M
 pair-at-spec =
     tie.close
-    (tie.spec (λ c κs. search needs) returns (λ c. search needs) (λ c κs. search needs) (λ c. search needs)
-    (λ c. search needs) returns-2 (λ c κs. search needs) (λ c. search needs) (λ c. search needs) returns-3 returns-4)
+    (tie.spec (λ c κs. search needs) (λ c. search pair-not-opened) (λ c. search needs) (λ c κs. search needs) (λ c. search needs)
+    (λ c. search needs) (λ c. search pair-no-first) (λ c κs. search needs) (λ c. search needs) (λ c. search needs)
+    (λ c. search pair-no-second) (λ c. search pair-both))

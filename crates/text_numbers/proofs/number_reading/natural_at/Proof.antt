@@ -7,16 +7,10 @@ use Rattle.text_numbers.proofs.number_reading.natural_at.Tie as tie
 returns : tie.Need-returns
 returns c = search natural-low
 
-returns-2 : tie.Need-returns-2
-returns-2 c = search natural-high
-
 returns-3 : tie.Need-returns-3
 returns-3 c = search natural-found
-
-returns-4 : tie.Need-returns-4
-returns-4 c = search natural-too-large
 
 pub natural-at-spec : {M : Type 1} → statement M
 natural-at-spec =
     tie.close
-    (tie.spec (λ c κs. search needs) returns returns-2 (λ c κs. search needs) returns-3 returns-4)
+    (tie.spec (λ c κs. search needs) returns (λ c. search natural-high) (λ c κs. search needs) returns-3 (λ c. search natural-too-large))

@@ -12,17 +12,11 @@ Inv-loop ns k out₀ from at₀ i₀ out at i = PutSoFar 50 (boxesBytes ns k) 4 
 abbrev μ-loop : tie.MeasureT-loop
 μ-loop ns k out₀ from at₀ i₀ out at i = 4 - i
 
-loop-holds : tie.Need-loop-holds Inv-loop μ-loop
-loop-holds c = boxes-start _ _ _ _
-
 loop-again : tie.Need-loop-again Inv-loop μ-loop
 loop-again c = search boxes-more
-
-returns : tie.Need-returns Inv-loop μ-loop
-returns c = search boxes-all
 
 pub put-boxes-spec : {M : Type 1} → statement M
 put-boxes-spec =
     tie.close
-    (tie.spec Inv-loop μ-loop loop-holds (λ c. search needs) (λ c. search needs) (λ c κs. search needs)
-    (λ c. search needs) (λ c. search needs) loop-again (λ c. search needs) returns)
+    (tie.spec Inv-loop μ-loop (λ c. boxes-start _ _ _ _) (λ c. search needs) (λ c. search needs) (λ c κs. search needs)
+    (λ c. search needs) (λ c. search needs) loop-again (λ c. search needs) (λ c. search boxes-all))

@@ -4,11 +4,8 @@ use Rattle.write_leaves.proofs.Boxes.{four-put}
 use Rattle.write_leaves.proofs.box_bytes.put_four.Statement.{statement}
 use Rattle.write_leaves.proofs.box_bytes.put_four.Tie as tie
 
-returns : tie.Need-returns
-returns c = search four-put
-
 pub put-four-spec : {M : Type 1} → statement M
 put-four-spec =
     tie.close
-    (tie.spec (λ c κs. search needs) (λ c. search needs) (λ c κs. search needs) (λ c. search needs)
-    (λ c κs. search needs) (λ c. search needs) (λ c κs. search needs) (λ c. search needs) returns)
+    (tie.spec (λ c. search needs) (λ c. search needs) (λ c κs. search needs) (λ c. search needs) (λ c κs. search needs) (λ c. search needs)
+    (λ c κs. search needs) (λ c. search needs) (λ c κs. search needs) (λ c. search needs) (λ c. search four-put))

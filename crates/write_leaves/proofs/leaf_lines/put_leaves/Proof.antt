@@ -13,17 +13,11 @@ Inv-loop records n out₀ from at₀ k₀ out at k = PutSoFar 231 (leafLines rec
 abbrev μ-loop : tie.MeasureT-loop
 μ-loop records n out₀ from at₀ k₀ out at k = n - k
 
-loop-holds : tie.Need-loop-holds Inv-loop μ-loop
-loop-holds c = leaves-start _ _ _ _
-
 loop-again : tie.Need-loop-again Inv-loop μ-loop
 loop-again c = search leaves-more
-
-returns : tie.Need-returns Inv-loop μ-loop
-returns c = search leaves-all
 
 pub put-leaves-spec : {M : Type 1} → statement M
 put-leaves-spec =
     tie.close
-    (tie.spec Inv-loop μ-loop loop-holds (λ c. search needs) (λ c κs. search needs) (λ c. search needs)
-    (λ c. search needs) loop-again (λ c. search needs) returns)
+    (tie.spec Inv-loop μ-loop (λ c. leaves-start _ _ _ _) (λ c. search needs) (λ c κs. search needs) (λ c. search needs)
+    (λ c. search needs) loop-again (λ c. search needs) (λ c. search leaves-all))
