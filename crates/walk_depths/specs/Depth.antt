@@ -8,7 +8,7 @@ use Rattle.integers.specs.First.{firstBad}
 use Rattle.curve_nodes.specs.declared.Curve.{Curve}
 use Rattle.walk_depths.specs.Premise.{Flat, isFlat}
 
--- the least j from 0 to the greatest depth at which the premise holds: the first place that is bad for its opposite
+-- the least j from 0 to the greatest depth at which the premise holds, found as the first at which its opposite fails
 unfoldable pub depthOf : Setting → ℤ → Curve → Option ℕ
 depthOf σ T c = firstBad (λ j. not (isFlat σ T c j)) (deepest (c .degree) + 1) 0
 
