@@ -1,5 +1,7 @@
 // The answer to a text: its bytes in, the bytes of its answer out. `band_answers` checks and bands the text,
 // `point_answers` writes the lines of its points.
+#![tactic(auto)]
+
 ghost use Rattle.std.specs.Prelude.{◌≡◌, ◌≤◌};
 ghost use lib.{ListN.{length, replicate}, IntN.{pos}};
 ghost use Rattle.write_numbers.specs.Appends.{PutWithin};

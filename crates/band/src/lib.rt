@@ -1,4 +1,6 @@
 // Banding: the leaves of an outline at a tolerance, as records.
+#![tactic(auto)]
+
 ghost use Rattle.std.specs.Prelude.{◌≡◌, ◌≤◌, length};
 ghost use Rattle.setting.specs.Setting.{lists, station, limited, pieces_fine};
 ghost use Rattle.outline.specs.Inside.{checked_of};

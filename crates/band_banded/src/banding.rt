@@ -2,7 +2,7 @@
 use refusals::Refusal;
 
 // What banding answers: the report, or the first fault.
-#[derive(Drop)]
+#[derive(Clone, Copy)]
 pub enum Banded {
     Done {
         curves: usize,

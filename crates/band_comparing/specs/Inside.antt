@@ -1,6 +1,7 @@
 -- For contracts inside the engine alone, no part of a public promise: how far numbers that are given agree with the
 -- records of an outline's curves, and what the pass that compares them finds.
-use Rattle.std.specs.Prelude.{◌≡◌, Bool, true, false, ◌&&◌, ◌||◌, List, [], ◌∷◌, ℕ, suc, ◌+◌, ◌*◌, ◌^◌, ◌≤◌, ◌<◌, min, leb, length, take, ℤ}
+use Rattle.std.specs.Prelude.{◌≡◌, Bool, true, false, ◌&&◌, ◌||◌, List, [], ◌∷◌, ℕ, suc, ◌+◌, ◌*◌, ◌^◌, ◌≤◌}
+use Rattle.std.specs.Prelude.{◌<◌, min, leb, length, take, ℤ}
 use Rattle.std.proofs.Math.Option.{none, some}
 use Rattle.setting.specs.Setting.{Setting, HasRows, record_length, degree_pieces, deepest, greatest_node}
 use Rattle.integers.specs.Entry.{entry}
@@ -93,7 +94,8 @@ seen_of σ T c k given reach at =
     elim (first_failing (node_meets σ T c) (ends_of σ T c)) [
       | some n ↦ WideNode n
       | none ↦
-          Upto (at + record_length σ * length (ends_of σ T c)) (reach_of given reach at (records_of σ k c (ends_of σ T c)))
+          Upto (at + record_length σ * length (ends_of σ T c))
+          (reach_of given reach at (records_of σ k c (ends_of σ T c)))
     ]
 
 -- ---- all n curves of an outline: where the degree of curve i stands in the outline, and where its records begin

@@ -1,5 +1,7 @@
 // One pass over the curves of an outline that finds check 7 and compares the records of their leaves with numbers that
 // are given, without a list of its own.
+#![tactic(auto)]
+
 ghost use Rattle.std.specs.Prelude.{◌≡◌, ◌≤◌, ◌<◌, ◌^◌, length};
 ghost use Rattle.setting.specs.Setting.{lists, deepest};
 ghost use Rattle.bound_coordinate.specs.Inside.{Small};
@@ -18,7 +20,7 @@ pub mod trying;
 
 // What the walk of a curve finds: the first node at the last depth that is too wide, or where the curve's records end
 // and how far the numbers given agree.
-#[derive(Drop)]
+#[derive(Clone, Copy)]
 pub enum Seen {
     WideNode(u32),
     Upto { place: usize, reach: usize },
@@ -75,7 +77,7 @@ fn see_curve(
 }
 
 // Where a curve stands: the index of its degree in the outline, and that of its records.
-#[derive(Drop)]
+#[derive(Clone, Copy)]
 pub struct Stand {
     pub at: usize,
     pub place: usize,
@@ -90,7 +92,7 @@ fn later(on: bool, here: Stand, before: Stand) -> Stand
 
 // What the pass finds: check 7, or else where one curve and the one after it stand, where all records end, and how far
 // the numbers given agree with them.
-#[derive(Drop)]
+#[derive(Clone, Copy)]
 pub enum Compared {
     Stopped(Refusal),
     Through {

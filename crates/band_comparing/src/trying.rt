@@ -18,14 +18,14 @@ use bound_tolerance::is_longer;
 use curve_nodes::Curve;
 
 // Too wide, or how far the numbers given agree.
-#[derive(Drop)]
+#[derive(Clone, Copy)]
 pub enum Tried {
     Wide,
     Narrow(usize),
 }
 
 // What goes with the number of pieces: that number m, and 5040 over m.
-#[derive(Drop)]
+#[derive(Clone, Copy)]
 pub struct Scaling {
     pub m: usize,
     pub scale: usize,

@@ -1,6 +1,7 @@
 -- For contracts inside the engine alone, no part of a public promise: numbers moved in a list, records renumbered, and
 -- where the records of one curve stand among those of an outline.
-use Rattle.std.specs.Prelude.{◌≡◌, false, List, ◌∷◌, ◌++◌, ℕ, zero, suc, ◌+◌, ◌*◌, ◌≤◌, ◌<◌, length, take, drop, set, ℤ, pos}
+use Rattle.std.specs.Prelude.{◌≡◌, false, List, ◌∷◌, ◌++◌, ℕ, zero, suc, ◌+◌, ◌*◌, ◌≤◌, ◌<◌, length, take}
+use Rattle.std.specs.Prelude.{drop, set, ℤ, pos}
 use Rattle.std.proofs.lemmas.List.Edits.{sets}
 use Rattle.setting.specs.Setting.{Setting, record_length}
 use Rattle.curve_nodes.specs.declared.Curve.{Curve}

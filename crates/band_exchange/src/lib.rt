@@ -1,4 +1,6 @@
 // Exchanging one curve of an outline whose records are there.
+#![tactic(auto)]
+
 ghost use Rattle.std.specs.Prelude.{◌≡◌, ◌&&◌, ◌^◌};
 ghost use lib.{Dec.{eqb}, ListN.{length}};
 ghost use Rattle.setting.specs.Setting.{lists, HasRows};

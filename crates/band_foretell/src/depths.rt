@@ -48,7 +48,7 @@ fn put(depths: &mut [i32], k: usize, depth: Depth)
 }
 
 // The leaves and the nodes of the curves that have a depth, added up, and whether all have one.
-#[derive(Drop)]
+#[derive(Clone, Copy)]
 pub struct Sums {
     pub leaves: usize,
     pub nodes: usize,

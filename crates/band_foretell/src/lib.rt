@@ -1,5 +1,7 @@
 // Foretelling the leaves of an outline: for each curve the least depth that meets the premise of the depth claim, and
 // the leaves and nodes that banding cannot pass, without halving.
+#![tactic(auto)]
+
 ghost use Rattle.std.specs.Prelude.{◌≡◌, length};
 ghost use Rattle.setting.specs.Setting.{lists};
 ghost use Rattle.band_foretold.specs.Foretelling.{foretold, depths_written};

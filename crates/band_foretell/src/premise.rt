@@ -3,7 +3,7 @@ ghost use Rattle.std.specs.Prelude.{◌≡◌, ◌<◌, ◌^◌, ◌≤◌, pos}
 ghost use Rattle.band_foretell.specs.Inside.{doubled_fits, least_depth, depth_found};
 
 // The depth of a curve, where it has one.
-#[derive(Drop)]
+#[derive(Clone, Copy)]
 pub enum Depth {
     Least(u32),
     Nowhere,

@@ -1,5 +1,6 @@
 -- What foretelling answers in a setting, and what it leaves in the caller's list (request 09).
-use Rattle.std.specs.Prelude.{Bool, true, false, cond, List, [], ◌∷◌, ◌++◌, ℕ, ◌+◌, ◌-◌, ◌^◌, ltb, length, drop, ℤ, pos, negsuc}
+use Rattle.std.specs.Prelude.{Bool, true, false, cond, List, [], ◌∷◌, ◌++◌, ℕ, ◌+◌, ◌-◌, ◌^◌, ltb, length}
+use Rattle.std.specs.Prelude.{drop, ℤ, pos, negsuc}
 use Rattle.std.proofs.Math.Option.{Option, none, some}
 use Rattle.setting.specs.Setting.{Setting, pieces_fine}
 use Rattle.refusals.specs.declared.Refusal.TheVariants.{Tolerance, TooFewRecords, Pieces}

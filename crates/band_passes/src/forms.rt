@@ -7,7 +7,7 @@ use outline_binary64::reading;
 use outline_reading::outline_curves::next_at;
 
 // An outline of Bézier curves, in integers or in binary64, or the points of a B-spline.
-#[derive(Drop)]
+#[derive(Clone, Copy)]
 pub enum Form {
     Outline,
     Binary64,

@@ -2,7 +2,7 @@
 use refusals::Refusal;
 
 // How many leaves there are in all, or the refusal of check 7.
-#[derive(Drop)]
+#[derive(Clone, Copy)]
 pub enum Counted {
     Total(usize),
     Stopped(Refusal),

@@ -1,4 +1,6 @@
 // Leaf records: what they are, and one written to a list.
+#![tactic(auto)]
+
 ghost use Rattle.std.specs.Prelude.{◌≡◌, false, [], ◌∷◌, suc, ◌+◌, ◌*◌, ◌≤◌, ◌<◌, ◌^◌};
 ghost use lib.{ListN.{length}, Seq.{sets}, IntN.{pos}};
 ghost use Rattle.setting.specs.Setting.{break_points, record_length, greatest_node};
@@ -98,7 +100,8 @@ pub fn put_record(
         × (curve.degree ≤ 3) }
     ensures { records.new
         ≡ sets records.old at
-        (node_numbers number node (boxes_to (setting_of pieces) (break_points (setting_of pieces)) (depth node) curve)) }
+        (node_numbers number node
+        (boxes_to (setting_of pieces) (break_points (setting_of pieces)) (depth node) curve)) }
 {
     put_numbers(records, at, number, node);
     let depth = curve_nodes::depth(node);
@@ -121,7 +124,8 @@ pub fn put_record_higher(
         × (3 < curve.degree) × (pieces.sixths ≡ false) }
     ensures { records.new
         ≡ sets records.old at
-        (node_numbers number node (boxes_to (setting_of pieces) (break_points (setting_of pieces)) (depth node) curve)) }
+        (node_numbers number node
+        (boxes_to (setting_of pieces) (break_points (setting_of pieces)) (depth node) curve)) }
 {
     put_numbers(records, at, number, node);
     let depth = curve_nodes::depth(node);

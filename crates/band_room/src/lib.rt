@@ -1,4 +1,6 @@
 // Whether the leaves of a list's curves surely have room, without a walk.
+#![tactic(auto)]
+
 ghost use Rattle.std.specs.Prelude.{◌≡◌, true, ◌≤◌, ◌<◌, ◌*◌, ◌^◌};
 ghost use Rattle.setting.specs.Setting.{HasRows};
 ghost use Rattle.curve_nodes.specs.{Bounds.{Sized}, Differences.{largest}};

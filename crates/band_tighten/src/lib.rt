@@ -1,4 +1,6 @@
 // The tightest band that fits, computed: the least tolerance at which an outline has no more leaves than are taken.
+#![tactic(auto)]
+
 ghost use Rattle.std.specs.Prelude.{◌≡◌};
 ghost use Rattle.setting.specs.Setting.{lists};
 ghost use Rattle.band_tightest.specs.Tightest.{tightest};

@@ -2,7 +2,7 @@
 use refusals::Refusal;
 
 // The least tolerance that fits, or that none of the span does, or the first fault of m or of the outline.
-#[derive(Drop)]
+#[derive(Clone, Copy)]
 pub enum Tightest {
     Least(u32),
     Nothing,

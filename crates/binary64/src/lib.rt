@@ -1,5 +1,7 @@
 // One number in binary64: whether it is a whole number, that number where it is small, and quotients of whole numbers
 // by a power of two, which are exact.
+#![tactic(auto)]
+
 ghost use Rattle.std.specs.Prelude.{◌≡◌, true};
 ghost use Rattle.binary64.specs.{Exact.{Exactly}, Read.{whole_of}, Inside.{near_of, near_number}};
 

@@ -2,7 +2,7 @@
 
 // The degree, 10000 times the chord's start times m and its rise, the second differences, and where each begins to read
 // its rows. The start is raised by 2^28 times the divisor, so that no number that is divided is negative.
-#[derive(Drop)]
+#[derive(Clone, Copy)]
 pub struct HigherTerms {
     pub degree: u32,
     pub start: i64,

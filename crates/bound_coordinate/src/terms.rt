@@ -7,7 +7,7 @@ ghost use Rattle.bound_row_table.specs.Inside.{row_place};
 ghost use Rattle.bound_coordinate.specs.{Inside.{Boundable, Computed}, Terms.{chosen, terms_of}};
 
 // 10000 times the chord's start times m and its rise, the second differences, and where each begins to read its rows.
-#[derive(Drop)]
+#[derive(Clone, Copy)]
 pub struct Terms {
     pub start: i64,
     pub step: i64,

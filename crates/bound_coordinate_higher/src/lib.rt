@@ -1,4 +1,6 @@
 // One coordinate of degree 4 or 5: what its bounds at all break points need, and its low and high at a break point.
+#![tactic(auto)]
+
 ghost use Rattle.std.specs.Prelude.{◌≡◌, ◌<◌, ◌≤◌, ◌*◌, ◌^◌, length};
 ghost use Rattle.integers.specs.Entry.{entry};
 ghost use Rattle.curve_halves.specs.Sizes.{Each};

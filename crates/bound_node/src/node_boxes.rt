@@ -1,7 +1,7 @@
 // A box of a node, in whole sixteenths.
 
 // A box at a break point, in sixteenths of a stage unit, as it is computed; in a record its numbers have 32 bits.
-#[derive(Drop)]
+#[derive(Clone, Copy)]
 pub struct WideBox {
     pub x_low: i64,
     pub x_high: i64,

@@ -1,5 +1,6 @@
 -- Only the contracts of functions inside cite what stands here; nothing of it is part of a public promise.
-use Rattle.std.specs.Prelude.{◌≡◌, Bool, true, cond, List, [], ◌∷◌, ℕ, zero, suc, ◌+◌, ◌-◌, ◌*◌, ◌/◌, ◌^◌, ◌≤◌, eqb, ltb, ℤ, nat_abs, ◌+ℤ◌, ◌-ℤ◌}
+use Rattle.std.specs.Prelude.{◌≡◌, Bool, true, cond, List, [], ◌∷◌, ℕ, zero, suc, ◌+◌, ◌-◌, ◌*◌, ◌/◌, ◌^◌}
+use Rattle.std.specs.Prelude.{◌≤◌, eqb, ltb, ℤ, nat_abs, ◌+ℤ◌, ◌-ℤ◌}
 use Rattle.setting.specs.Setting.{Setting, HasRows, lists_of}
 use Rattle.integers.specs.Entry.{entry}
 use Rattle.integers.specs.Squares.{squared}

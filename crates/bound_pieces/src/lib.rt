@@ -1,4 +1,6 @@
 // What the test of a node takes from the number of pieces alone.
+#![tactic(auto)]
+
 ghost use Rattle.std.specs.Prelude.{◌≡◌, true, cond, ◌≤◌, ◌<◌, ◌-◌, ◌+◌, ◌*◌, max};
 ghost use Rattle.setting.specs.Setting.{HasRows, degree_pieces};
 ghost use Rattle.bound_row_table.specs.Inside.{row_place, Copied};
@@ -7,7 +9,7 @@ ghost use Rattle.bound_pieces.specs.Inside.{times, gap_at, gaps_of, pieces_by, p
 // The number of pieces; whether control values are sixths; the divisor, m times the scale of control values, and 5040
 // over it; the largest gap of degree 2, the corner of degree 3, and by how much its second gap is less at the break
 // point that has its first, each times 6 over the scale of control values; and the gaps of degrees 4 and 5.
-#[derive(Drop)]
+#[derive(Clone, Copy)]
 pub struct Pieces {
     pub m: usize,
     pub sixths: bool,
@@ -23,7 +25,7 @@ pub struct Pieces {
 
 // The gaps of degree 4 or 5: G; the largest sum of the first and the last at a break point; and the first and the
 // second at break point 0.
-#[derive(Drop)]
+#[derive(Clone, Copy)]
 pub struct Gaps {
     pub whole: u64,
     pub outer: u64,

@@ -1,6 +1,7 @@
 -- For contracts inside the engine alone, no part of a public promise: the rows of m pieces, copied out of the table as
 -- the code reads them, and numbers put into a list.
-use Rattle.std.specs.Prelude.{◌≡◌, true, cond, List, ℕ, ◌+◌, ◌*◌, ◌-◌, ◌/◌, ◌%◌, ◌≤◌, ◌<◌, eqb, ltb, length, ℤ, pos, nat_abs, ◌*ℤ◌}
+use Rattle.std.specs.Prelude.{◌≡◌, true, cond, List, ℕ, ◌+◌, ◌*◌, ◌-◌, ◌/◌, ◌%◌, ◌≤◌, ◌<◌, eqb, ltb, length}
+use Rattle.std.specs.Prelude.{ℤ, pos, nat_abs, ◌*ℤ◌}
 use Rattle.setting.specs.Setting.{most_degree, degree_pieces}
 use Rattle.integers.specs.Entry.{entry}
 use Rattle.curve_halves.specs.Sizes.{Each}

@@ -1,6 +1,8 @@
 // The enclosure rows as the code has them: the constant table, and the rows of m pieces copied out of it into a list,
 // m times as large and three numbers a break point. What the rows are, their rule, and the polynomials that they bound
 // stand in `bound_rows`.
+#![tactic(auto)]
+
 ghost use Rattle.std.specs.Prelude.{◌≡◌, ◌+◌, ◌*◌, ◌≤◌};
 ghost use lib.{ListN.{length}, IntN.{pos}};
 ghost use Rattle.setting.specs.Setting.{HasRows};

@@ -1,4 +1,6 @@
 // The test that a node of degree 1 to 3 meets the tolerance.
+#![tactic(auto)]
+
 ghost use Rattle.std.specs.Prelude.{◌≡◌, ◌≤◌, ◌^◌};
 ghost use lib.{IntN.{◌+ℤ◌}, Signed.{lt_z}};
 ghost use Rattle.integers.specs.Squares.{squared};
@@ -6,7 +8,8 @@ ghost use Rattle.setting.specs.Setting.{HasRows};
 ghost use Rattle.curve_nodes.specs.Bounds.{Sized};
 ghost use Rattle.bound_coordinate.specs.{Inside.{Small, Boundable}, Terms.{ComputableAt}};
 ghost use Rattle.bound_node.specs.Boxes.{meets};
-ghost use Rattle.bound_pieces.specs.Inside.{pieces_of, setting_of, exact_of, sums_of, point_sum, PiecesReady, across_by};
+ghost use Rattle.bound_pieces.specs.Inside.{pieces_of, setting_of, exact_of, sums_of, point_sum, PiecesReady};
+ghost use Rattle.bound_pieces.specs.Inside.{across_by};
 ghost use Rattle.bound_tolerance.specs.Verdicts.{VerdictRight};
 
 use crate::spread::size;
@@ -106,7 +109,7 @@ fn sum_there(pieces: Pieces, c: [i64; 6], sums: [u64; 2], last: bool) -> u64
 }
 
 // What the gaps tell of a node.
-#[derive(Drop)]
+#[derive(Clone, Copy)]
 pub enum Tested {
     Narrow,
     Wide,

@@ -1,4 +1,6 @@
 // The test that a node of degree 4 or 5 meets the tolerance: what the gaps tell, and the boxes.
+#![tactic(auto)]
+
 ghost use Rattle.std.specs.Prelude.{◌≡◌, false, not, ◌≤◌, ◌<◌, ◌-◌, ◌*◌, ◌^◌};
 ghost use lib.{IntN.{pos}, Signed.{lt_z}};
 ghost use Rattle.setting.specs.Setting.{HasRows};

@@ -1,10 +1,12 @@
 // Boxes in whole sixteenths, as callers hand them over, and the range of their numbers and of a point's.
+#![tactic(auto)]
+
 ghost use Rattle.std.specs.Prelude.{◌≡◌};
-ghost use Rattle.boxes.specs.{Ranges.{inRange, low_fine, box_fault, place_or}, Inside.{side_fine, box_of}};
+ghost use Rattle.boxes.specs.{Ranges.{in_range, low_fine, box_fault, place_or}, Inside.{side_fine, box_of}};
 
 // A box: what lies from the lows to the highs, edges included.
 #[repr(C)]
-#[derive(Drop)]
+#[derive(Clone, Copy)]
 pub struct Box {
     pub x_low: i32,
     pub x_high: i32,

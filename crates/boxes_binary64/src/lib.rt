@@ -1,4 +1,6 @@
 // Boxes handed out in binary64, in stage units: their four numbers, and the drawing office's short form.
+#![tactic(auto)]
+
 ghost use Rattle.std.specs.Prelude.{◌≡◌};
 ghost use Rattle.std.proofs.Math.Option.{none};
 ghost use Rattle.boxes.specs.Ranges.{box_fault};
@@ -10,7 +12,7 @@ use refusals::Refusal;
 
 // A box in stage units.
 #[repr(C)]
-#[derive(Drop)]
+#[derive(Clone, Copy)]
 pub struct StageBox {
     pub x_low: f64,
     pub x_high: f64,
@@ -19,7 +21,7 @@ pub struct StageBox {
 }
 
 // The short form, in stage units: a single point, or the middle of a box with half of its width and of its height.
-#[derive(Drop)]
+#[derive(Clone, Copy)]
 pub enum Short {
     Point(f64, f64),
     Middle {
@@ -31,14 +33,14 @@ pub enum Short {
 }
 
 // What handing out a box answers: the box in stage units, or the first fault.
-#[derive(Drop)]
+#[derive(Clone, Copy)]
 pub enum UnitsAnswer {
     Units(StageBox),
     Refused(Refusal),
 }
 
 // What the short form of a box is answered with: the form, or the first fault.
-#[derive(Drop)]
+#[derive(Clone, Copy)]
 pub enum ShortAnswer {
     Form(Short),
     Refused(Refusal),

@@ -17,7 +17,7 @@ use quote_price::quoting::Quoted;
 
 // What banding answers, in numbers: a refusal's number and spot, or 0 and 0 and the report.
 #[repr(C)]
-#[derive(Drop)]
+#[derive(Clone, Copy)]
 pub struct Answer {
     pub refusal: u32,
     pub spot: u64,
@@ -55,7 +55,7 @@ pub fn in_numbers(banded: Banded) -> Answer
 // What foretelling answers, in numbers: a refusal's number and spot, or 0 and 0 and the most leaves and nodes, 0 and 0
 // where a curve has no depth.
 #[repr(C)]
-#[derive(Drop)]
+#[derive(Clone, Copy)]
 pub struct ForetoldAnswer {
     pub refusal: u32,
     pub spot: u64,
@@ -86,7 +86,7 @@ pub fn foretold_in_numbers(foretold: Foretold) -> ForetoldAnswer
 // The answer for the tightest band, in numbers: a refusal's number and spot, or 0 and 0 and the least tolerance that
 // fits, 0 where none does.
 #[repr(C)]
-#[derive(Drop)]
+#[derive(Clone, Copy)]
 pub struct TightestAnswer {
     pub refusal: u32,
     pub spot: u64,
@@ -119,7 +119,7 @@ pub fn tightest_in_numbers(tightest: Tightest) -> TightestAnswer
 // What judging answers, in numbers: a refusal's number and spot, or 0 and 0 and whether the point is on, with the
 // record and the cover that hold it.
 #[repr(C)]
-#[derive(Drop)]
+#[derive(Clone, Copy)]
 pub struct JudgingAnswer {
     pub refusal: u32,
     pub spot: u64,
@@ -160,7 +160,7 @@ pub fn judgement_in_numbers(judgement: Judgement) -> JudgingAnswer
 // What banding and judging together answer, in numbers: a refusal's number and spot, or 0 and 0, banding's report and
 // the judgement.
 #[repr(C)]
-#[derive(Drop)]
+#[derive(Clone, Copy)]
 pub struct OutcomeAnswer {
     pub refusal: u32,
     pub spot: u64,
@@ -210,7 +210,7 @@ pub fn outcome_in_numbers(outcome: Outcome) -> OutcomeAnswer
 
 // What drawing answers, in numbers: a refusal's number and spot, or 0 and 0 and the count of vertices.
 #[repr(C)]
-#[derive(Drop)]
+#[derive(Clone, Copy)]
 pub struct Drawing {
     pub refusal: u32,
     pub spot: u64,
@@ -237,7 +237,7 @@ pub fn drawing_in_numbers(drawn: Drawn) -> Drawing
 
 // What judging a list of points answers, in numbers: a refusal's number and spot, or 0 and 0 and the count of points.
 #[repr(C)]
-#[derive(Drop)]
+#[derive(Clone, Copy)]
 pub struct PointsAnswer {
     pub refusal: u32,
     pub spot: u64,
@@ -264,7 +264,7 @@ pub fn points_in_numbers(answered: PointsJudged) -> PointsAnswer
 
 // What a quote answers, in numbers: a refusal's number and spot, or 0 and 0 and the total in cents.
 #[repr(C)]
-#[derive(Drop)]
+#[derive(Clone, Copy)]
 pub struct QuoteAnswer {
     pub refusal: u32,
     pub spot: u64,
@@ -291,7 +291,7 @@ pub fn quote_in_numbers(quoted: Quoted) -> QuoteAnswer
 
 // A box handed out, in numbers: a refusal's number and spot and zeros, or 0 and 0 and the box in stage units.
 #[repr(C)]
-#[derive(Drop)]
+#[derive(Clone, Copy)]
 pub struct BoxUnits {
     pub refusal: u32,
     pub spot: u64,
@@ -328,7 +328,7 @@ pub fn units_in_numbers(handed: UnitsAnswer) -> BoxUnits
 // The short form of a box, in numbers: a refusal's number and spot, kind 0 and zeros, or 0 and 0 and the form, which is
 // of kind 1, a point, whose half width and half height are 0, or of kind 2, a middle.
 #[repr(C)]
-#[derive(Drop)]
+#[derive(Clone, Copy)]
 pub struct BoxShort {
     pub refusal: u32,
     pub spot: u64,

@@ -1,4 +1,7 @@
-// The C interface: what a program in another language calls. include/contour_band.h says the same for C.
+// The C interface, in Rattle: `contour_c` exports each function of this file under its name to programs in other
+// languages. include/contour_band.h says the same for C.
+#![tactic(auto)]
+
 ghost use Rattle.std.specs.Prelude.{◌≡◌, length};
 ghost use Rattle.setting.specs.Setting.{lists, station};
 ghost use Rattle.band_banded.specs.Banding.{banded, written, banded_spline, written_spline, banded_binary64};
@@ -28,13 +31,7 @@ pub mod c_answers;
 
 // Puts a band of m pieces a leaf round an outline at a tolerance in sixteenths, and writes the leaves' records to the
 // front of the list.
-#[unsafe(no_mangle)]
-pub extern "C" fn contour_band(
-    outline: &[i32],
-    tolerance: i32,
-    m: u32,
-    records: &mut [i32],
-) -> Answer
+pub fn contour_band(outline: &[i32], tolerance: i32, m: u32, records: &mut [i32]) -> Answer
     ensures value { result ≡ band_answer_of (banded (lists m) tolerance outline.now
         (length records.old)) }
     ensures records_after { records.new ≡ written (lists m) tolerance outline.now records.old }
@@ -44,13 +41,7 @@ pub extern "C" fn contour_band(
 }
 
 // Puts a band round an outline as `contour_band` does, for the bench station, which takes 64 curves and 128 leaves.
-#[unsafe(no_mangle)]
-pub extern "C" fn contour_station_band(
-    outline: &[i32],
-    tolerance: i32,
-    m: u32,
-    records: &mut [i32],
-) -> Answer
+pub fn contour_station_band(outline: &[i32], tolerance: i32, m: u32, records: &mut [i32]) -> Answer
     ensures value { result ≡ band_answer_of (banded (station m) tolerance outline.now
         (length records.old)) }
     ensures records_after { records.new ≡ written (station m) tolerance outline.now
@@ -61,13 +52,7 @@ pub extern "C" fn contour_station_band(
 }
 
 // Puts a band round a uniform cubic B-spline, given by its points: x and y of each.
-#[unsafe(no_mangle)]
-pub extern "C" fn contour_spline_band(
-    points: &[i32],
-    tolerance: i32,
-    m: u32,
-    records: &mut [i32],
-) -> Answer
+pub fn contour_spline_band(points: &[i32], tolerance: i32, m: u32, records: &mut [i32]) -> Answer
     ensures value { result ≡ band_answer_of (banded_spline m tolerance points.now
         (length records.old)) }
     ensures records_after { records.new ≡ written_spline m tolerance points.now records.old }
@@ -77,13 +62,7 @@ pub extern "C" fn contour_spline_band(
 }
 
 // Puts a band round an outline in binary64: degrees and coordinates are f64.
-#[unsafe(no_mangle)]
-pub extern "C" fn contour_binary64_band(
-    outline: &[f64],
-    tolerance: i32,
-    m: u32,
-    records: &mut [i32],
-) -> Answer
+pub fn contour_binary64_band(outline: &[f64], tolerance: i32, m: u32, records: &mut [i32]) -> Answer
     ensures value { result ≡ band_answer_of (banded_binary64 m tolerance outline.now
         (length records.old)) }
     ensures records_after { records.new ≡ written_binary64 m tolerance outline.now records.old }
@@ -94,8 +73,7 @@ pub extern "C" fn contour_binary64_band(
 
 // Foretells the leaves of an outline at a tolerance in sixteenths, with m pieces a leaf, and writes the depths of its
 // curves to the front of the list.
-#[unsafe(no_mangle)]
-pub extern "C" fn contour_foretell(
+pub fn contour_foretell(
     outline: &[i32],
     tolerance: i32,
     m: u32,
@@ -111,8 +89,7 @@ pub extern "C" fn contour_foretell(
 }
 
 // The least tolerance, in sixteenths, at which an outline has a band of at most so many leaves, with m pieces a leaf.
-#[unsafe(no_mangle)]
-pub extern "C" fn contour_tightest(outline: &[i32], m: u32, leaves: usize) -> TightestAnswer
+pub fn contour_tightest(outline: &[i32], m: u32, leaves: usize) -> TightestAnswer
     ensures { result ≡ tightest_answer_of (tightest (lists m) outline.now leaves) }
 {
     let tightest = band_tighten::tightest_band(outline, m, leaves);
@@ -121,8 +98,7 @@ pub extern "C" fn contour_tightest(outline: &[i32], m: u32, leaves: usize) -> Ti
 
 // Exchanges one curve of an outline whose records stand at the front of the list, `given` numbers of them, for another:
 // its degree and six points, of which those past the degree are not read.
-#[unsafe(no_mangle)]
-pub extern "C" fn contour_exchange(
+pub fn contour_exchange(
     outline: &[i32],
     tolerance: i32,
     m: u32,
@@ -141,8 +117,7 @@ pub extern "C" fn contour_exchange(
 }
 
 // Judges the point (x, y), in sixteenths, against a list of leaf records of m pieces.
-#[unsafe(no_mangle)]
-pub extern "C" fn contour_judge(leaves: &[i32], m: u32, x: i32, y: i32) -> JudgingAnswer
+pub fn contour_judge(leaves: &[i32], m: u32, x: i32, y: i32) -> JudgingAnswer
     ensures { JudgedInNumbers (lists m) leaves.now x y result }
 {
     let judgement = judge::judge(leaves, m, x, y);
@@ -151,8 +126,7 @@ pub extern "C" fn contour_judge(leaves: &[i32], m: u32, x: i32, y: i32) -> Judgi
 
 // Judges points, x and y of each in sixteenths, against a list of leaf records of m pieces, and writes three numbers
 // for each to the front of the list.
-#[unsafe(no_mangle)]
-pub extern "C" fn contour_judge_points(
+pub fn contour_judge_points(
     leaves: &[i32],
     m: u32,
     points: &[i32],
@@ -168,8 +142,7 @@ pub extern "C" fn contour_judge_points(
 }
 
 // Quotes a list of leaf records of m pieces, in cents.
-#[unsafe(no_mangle)]
-pub extern "C" fn contour_quote(leaves: &[i32], m: u32) -> QuoteAnswer
+pub fn contour_quote(leaves: &[i32], m: u32) -> QuoteAnswer
     ensures { result ≡ quote_answer_of (quoted (lists m) leaves.now) }
 {
     let quoted = quote::quote(leaves, m);
@@ -178,8 +151,7 @@ pub extern "C" fn contour_quote(leaves: &[i32], m: u32) -> QuoteAnswer
 
 // Bands an outline with m pieces a leaf, and judges the point (x, y) against exactly the records written. A refusal
 // alters nothing.
-#[unsafe(no_mangle)]
-pub extern "C" fn contour_band_and_judge(
+pub fn contour_band_and_judge(
     outline: &[i32],
     tolerance: i32,
     m: u32,
@@ -196,8 +168,7 @@ pub extern "C" fn contour_band_and_judge(
 }
 
 // Draws the convex hull of two boxes, and writes x and y of its vertices to the front of the list.
-#[unsafe(no_mangle)]
-pub extern "C" fn contour_draw(first: Box, second: Box, vertices: &mut [i32]) -> Drawing
+pub fn contour_draw(first: Box, second: Box, vertices: &mut [i32]) -> Drawing
     ensures value { result ≡ drawing_of (drawn first second (length vertices.old)) }
     ensures vertices_after { vertices.new ≡ drawn_into first second vertices.old }
 {
@@ -206,8 +177,7 @@ pub extern "C" fn contour_draw(first: Box, second: Box, vertices: &mut [i32]) ->
 }
 
 // Hands a box out in binary64, in stage units.
-#[unsafe(no_mangle)]
-pub extern "C" fn contour_box_units(b: Box) -> BoxUnits
+pub fn contour_box_units(b: Box) -> BoxUnits
     ensures { UnitsInNumbers b result }
 {
     let handed = boxes_binary64::hand_out(b);
@@ -215,8 +185,7 @@ pub extern "C" fn contour_box_units(b: Box) -> BoxUnits
 }
 
 // The short form of a box in binary64: a point, or the middle with half of the width and of the height.
-#[unsafe(no_mangle)]
-pub extern "C" fn contour_box_short(b: Box) -> BoxShort
+pub fn contour_box_short(b: Box) -> BoxShort
     ensures { ShortInNumbers b result }
 {
     let shortened = boxes_binary64::shorten(b);
@@ -224,8 +193,7 @@ pub extern "C" fn contour_box_short(b: Box) -> BoxShort
 }
 
 // The version of this interface, as a number: 10000 × its first, 100 × its second and its third part.
-#[unsafe(no_mangle)]
-pub extern "C" fn contour_version() -> u32
+pub fn contour_version() -> u32
     ensures { result ≡ version }
 {
     100

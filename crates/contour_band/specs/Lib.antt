@@ -1,2 +1,3 @@
--- What a reader must believe of the program's counts. Which bytes the system moves no contract can say.
+-- What a reader must believe of the program's counts and of the bytes that it moves.
 pub mod Steps
+pub mod Bytes

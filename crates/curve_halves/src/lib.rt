@@ -1,4 +1,6 @@
 // One coordinate of a curve of degree 1 to 5, halved.
+#![tactic(auto)]
+
 ghost use Rattle.std.specs.Prelude.{◌≡◌, ◌^◌, ◌≤◌};
 ghost use Rattle.setting.specs.Setting.{most_degree};
 ghost use Rattle.curve_halves.specs.{Halves.{left, right, reversed, padded}, Sizes.{Each}};

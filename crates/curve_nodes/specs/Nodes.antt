@@ -8,7 +8,8 @@ use Rattle.curve_nodes.specs.Halves.{left_half, right_half}
 -- its half: b is 0 for the left half, 2n, and 1 for the right, 2n + 1. At most `fuel` steps; `descend` gives enough.
 unfoldable pub descend_in : {A : Type 0} → ℕ → A → (ℕ → A → A) → ℕ → A
 descend_in zero top half n = top
-descend_in (suc fuel) top half n = elim (ltb n 2) [ true ↦ top | false ↦ half (n % 2) (descend_in fuel top half (n / 2)) ]
+descend_in (suc fuel) top half n =
+    elim (ltb n 2) [ true ↦ top | false ↦ half (n % 2) (descend_in fuel top half (n / 2)) ]
 
 unfoldable pub descend : {A : Type 0} → A → (ℕ → A → A) → ℕ → A
 descend top half n = descend_in n top half n

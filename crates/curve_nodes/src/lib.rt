@@ -1,4 +1,5 @@
 // Bézier curves of degree 1 to 5 over scaled whole numbers, halved and carried on, and the nodes of repeated halving.
+#![tactic(auto)]
 
 ghost use Rattle.std.specs.Prelude.{◌≡◌, suc, ◌^◌, ◌≤◌, ◌<◌};
 ghost use Rattle.setting.specs.Setting.{deepest};
@@ -10,7 +11,7 @@ use curve_onward::onward_values;
 
 // A curve (document 01): its degree and six control values a coordinate, those past the degree being zero. At depth k
 // of halving the values are the exact ones times 2^(degree * k).
-#[derive(Drop)]
+#[derive(Clone, Copy)]
 pub struct Curve {
     pub degree: u32,
     pub x: [i64; 6],

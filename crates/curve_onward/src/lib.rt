@@ -1,4 +1,6 @@
 // One coordinate of a curve carried on past its end, over a stretch of parameters 2^k times as long, by its degree.
+#![tactic(auto)]
+
 ghost use Rattle.std.specs.Prelude.{◌≡◌, ◌^◌, ◌≤◌};
 ghost use Rattle.setting.specs.Setting.{most_degree};
 ghost use Rattle.curve_halves.specs.{Halves.{padded}, Sizes.{Each}};

@@ -2,7 +2,7 @@
 use refusals::Refusal;
 
 // What drawing answers: how many vertices were written, or the first fault.
-#[derive(Drop)]
+#[derive(Clone, Copy)]
 pub enum Drawn {
     Vertices(usize),
     Refused(Refusal),

@@ -1,4 +1,6 @@
 // Drawing a cover: the vertices of the convex hull of two boxes.
+#![tactic(auto)]
+
 ghost use Rattle.std.specs.Prelude.{◌≡◌, length};
 ghost use Rattle.boxes.specs.Ranges.{place_or};
 ghost use Rattle.draw.specs.Drawing.{two_boxes_fault, drawn, drawn_into};

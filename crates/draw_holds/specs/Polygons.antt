@@ -35,7 +35,8 @@ drawn_polygon a b lent = points_said (drawn a b (length lent)) (drawn_into a b l
 
 -- the drawn polygon of cover i of record k of the leaf list ns
 abbrev pub cover_polygon : Setting → (ns lent : List ℤ) → (k i : ℕ) → List Point
-cover_polygon σ ns lent k i = drawn_polygon (box_at_index ns (box_index σ k i)) (box_at_index ns (box_index σ k (suc i))) lent
+cover_polygon σ ns lent k i =
+    drawn_polygon (box_at_index ns (box_index σ k i)) (box_at_index ns (box_index σ k (suc i))) lent
 
 -- some drawn polygon of some record holds the point
 pub record InSomePolygon (σ : Setting) (ns lent : List ℤ) (p : Point) : Type 0 where

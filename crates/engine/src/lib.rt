@@ -1,4 +1,6 @@
 // Banding and judging together. Demand 3 as one theorem stands in the crate `demand_3`.
+#![tactic(auto)]
+
 ghost use Rattle.std.specs.Prelude.{◌≡◌, length};
 ghost use Rattle.setting.specs.Setting.{lists};
 ghost use Rattle.band_banded.specs.Banding.{banded};
@@ -10,7 +12,7 @@ use refusals::Refusal;
 
 // What banding an outline and judging a point answers: the first refusal, the point's after those of banding; or
 // banding's report and the judgement.
-#[derive(Drop)]
+#[derive(Clone, Copy)]
 pub enum Outcome {
     Refused(Refusal),
     Judged {

@@ -1,5 +1,7 @@
 // Division of 64-bit numbers rounded down and up. The rest of this crate is `specs/` and `proofs/`: integer reasoning
 // for the proofs of every crate.
+#![tactic(auto)]
+
 ghost use Rattle.std.specs.Prelude.{◌≡◌};
 ghost use lib.{IntN.{pos}, Signed.{◌<ℤ◌}};
 ghost use Rattle.integers.specs.Rounding.{floor, ceiling};

@@ -1,5 +1,7 @@
 // Worked uses of crate `integers`, checked with the rest: each function needs one kind of answer, and its proof file
 // gives it in a line.
+#![tactic(auto)]
+
 ghost use Rattle.std.specs.Prelude.{◌≡◌, ◌<◌, ◌^◌, ◌*◌};
 ghost use lib.{IntN.{pos, neg_ℤ, ◌+ℤ◌, ◌-ℤ◌, ◌*ℤ◌}, Signed.{quot_z, rem_z, shr_z, mag}};
 ghost use Rattle.integers_uses.specs.Uses.{SmallWeights, Distance};

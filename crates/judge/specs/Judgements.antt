@@ -18,7 +18,8 @@ cover_held σ ns x y k i = held (box_at_index ns (box_index σ k i)) (box_at_ind
 -- of all covers number j is cover j % covers of record j / covers; the first that holds the point
 unfoldable pub first_held : Setting → List ℤ → (x y : ℤ) → Option ℕ
 first_held σ ns x y =
-    first_bad (λ j. not (cover_held σ ns x y (j / covers σ) (j % covers σ))) (covers σ * (length ns / record_length σ)) 0
+    first_bad (λ j. not (cover_held σ ns x y (j / covers σ) (j % covers σ)))
+    (covers σ * (length ns / record_length σ)) 0
 
 abbrev pub named : Setting → Option ℕ → Judgement
 named σ (some j) = On (j / covers σ) (j % covers σ)

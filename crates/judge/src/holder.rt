@@ -29,7 +29,7 @@ fn first_cover(leaves: &[i32], m: usize, at: usize, x: i64, y: i64) -> usize
 }
 
 // A record and a cover of it that hold a point; where none was found the cover is m.
-#[derive(Drop)]
+#[derive(Clone, Copy)]
 pub struct Holder {
     pub leaf: usize,
     pub cover: usize,

@@ -1,4 +1,6 @@
 // Judging: whether a point lies on the band that a leaf list describes.
+#![tactic(auto)]
+
 ghost use Rattle.std.specs.Prelude.{◌≡◌};
 ghost use Rattle.setting.specs.Setting.{lists, HasRows};
 ghost use Rattle.judge.specs.{Judging.{list_fault, Passed, Judged}, Inside.{checked_of}};

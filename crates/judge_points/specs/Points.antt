@@ -1,6 +1,7 @@
 -- Judging a list of points: what it answers, and what it leaves in the caller's list, which is what judging says of
 -- each point.
-use Rattle.std.specs.Prelude.{true, false, List, [], ◌∷◌, ◌++◌, ℕ, zero, suc, ◌+◌, ◌*◌, ◌/◌, ◌%◌, eqb, ltb, length, drop, ℤ, pos}
+use Rattle.std.specs.Prelude.{true, false, List, [], ◌∷◌, ◌++◌, ℕ, zero, suc, ◌+◌, ◌*◌, ◌/◌, ◌%◌, eqb, ltb}
+use Rattle.std.specs.Prelude.{length, drop, ℤ, pos}
 use Rattle.std.proofs.Math.Option.{Option, none, some}
 use Rattle.integers.specs.Entry.{entry}
 use Rattle.setting.specs.Setting.{Setting}

@@ -11,14 +11,14 @@ use judge_runs::searching::find_groups;
 use refusals::Refusal;
 
 // What judging a list of points answers: how many points there are; or the first fault.
-#[derive(Drop)]
+#[derive(Clone, Copy)]
 pub enum PointsJudged {
     Points(usize),
     Refused(Refusal),
 }
 
 // The three numbers that answer a point.
-#[derive(Drop)]
+#[derive(Clone, Copy)]
 pub struct Three {
     pub first: i64,
     pub second: i64,

@@ -1,4 +1,6 @@
 // Judging a list of points: the leaf list is checked once, and boxes round runs of its records turn most of them away.
+#![tactic(auto)]
+
 ghost use Rattle.std.specs.Prelude.{◌≡◌, length};
 ghost use Rattle.setting.specs.Setting.{lists};
 ghost use Rattle.judge_points.specs.Points.{points_judged, judged_into};

@@ -12,7 +12,7 @@ use boxes::Box;
 use judge_list::leaf_faults::box_in;
 
 // How a leaf list is cut: how many numbers a run has, and how many runs and groups of runs there are.
-#[derive(Drop)]
+#[derive(Clone, Copy)]
 pub struct Cut {
     pub run: usize,
     pub runs: usize,

@@ -2,14 +2,14 @@
 use refusals::Refusal;
 
 // An index, where there is one.
-#[derive(Drop)]
+#[derive(Clone, Copy)]
 pub enum Found {
     At(usize),
     Nowhere,
 }
 
 // A refusal, where there is one.
-#[derive(Drop)]
+#[derive(Clone, Copy)]
 pub enum Fault {
     Is(Refusal),
     NoFault,

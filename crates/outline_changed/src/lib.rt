@@ -1,5 +1,7 @@
 // An outline in which one curve is exchanged, and its checks: those of the new curve, and 17 of the curve after it. All
 // others passed in the outline as it was.
+#![tactic(auto)]
+
 ghost use Rattle.std.specs.Prelude.{◌≡◌, true, ◌+◌, ◌≤◌, ◌<◌, ◌^◌, length};
 ghost use Rattle.integers.specs.Entry.{entry};
 ghost use Rattle.outline.specs.{Curves.{degree_fine}, Inside.{fault_of}};

@@ -1,4 +1,6 @@
 // Checks 1 to 6, 17 and 20 of a tolerance and an outline, in their order.
+#![tactic(auto)]
+
 ghost use Rattle.std.specs.Prelude.{◌≡◌};
 ghost use Rattle.outline.specs.{Checks.{tolerance_fine, outlined}, Inside.{checked_of}};
 

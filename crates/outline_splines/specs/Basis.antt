@@ -20,4 +20,5 @@ point_at ns which j = entry ns (2 * j + which)
 -- that coordinate of the spline on its curve k, which points k to k + 3 make, times 6 (p + r)³
 abbrev pub spline_sum : List ℤ → (which k : ℕ) → (p r : ℤ) → ℤ
 spline_sum ns which k p r =
-    basis_sum p r (point_at ns which k) (point_at ns which (k + 1)) (point_at ns which (k + 2)) (point_at ns which (k + 3))
+    basis_sum p r (point_at ns which k) (point_at ns which (k + 1)) (point_at ns which (k + 2))
+    (point_at ns which (k + 3))

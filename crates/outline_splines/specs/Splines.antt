@@ -1,7 +1,8 @@
 -- Uniform cubic B-splines (document 02, request 13): a list of n points, x and y of each, gives n − 3 curves. The four
 -- neighbours b0 to b3 from a point on make one with control points (b0 + 4 b1 + b2) / 6, (2 b1 + b2) / 3,
 -- (b1 + 2 b2) / 3 and (b1 + 4 b2 + b3) / 6. Its control values are kept as sixths, which are whole.
-use Rattle.std.specs.Prelude.{Bool, true, false, ◌&&◌, List, [], ◌∷◌, ℕ, zero, suc, ◌+◌, ◌-◌, ◌/◌, ◌%◌, eqb, leb, length, ℤ, pos, neg_ℤ, ◌+ℤ◌, ◌*ℤ◌}
+use Rattle.std.specs.Prelude.{Bool, true, false, ◌&&◌, List, [], ◌∷◌, ℕ, zero, suc, ◌+◌, ◌-◌, ◌/◌, ◌%◌, eqb}
+use Rattle.std.specs.Prelude.{leb, length, ℤ, pos, neg_ℤ, ◌+ℤ◌, ◌*ℤ◌}
 use Rattle.std.proofs.Math.Option.{Option, none, some}
 use Rattle.integers.specs.Entry.{entry}
 use Rattle.integers.specs.Between.{between}

@@ -1,4 +1,6 @@
 // B-splines: the curve of four neighbouring points, and checks 24 and 25 of a list of points.
+#![tactic(auto)]
+
 ghost use Rattle.std.specs.Prelude.{◌≡◌, ◌+◌, ◌≤◌, ◌<◌, length};
 ghost use Rattle.outline.specs.Inside.{found_of, checked_of};
 ghost use Rattle.outline_splines.specs.Splines.{spline_values, spline_at, first_far, splined};

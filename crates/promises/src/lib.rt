@@ -3,6 +3,8 @@
 // contract alone. So an operation that came to ask something of those who call, or to promise less, is refused here.
 // `station` is one more, who reads the list that the bench station leaves. Nothing calls these functions, and no
 // program links them.
+#![tactic(auto)]
+
 pub mod exported;
 pub mod operations;
 pub mod station;

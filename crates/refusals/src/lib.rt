@@ -1,8 +1,10 @@
 // Every refusal of the engine, with what its spot is made of. A request adds a case and leaves these as they are.
+#![tactic(auto)]
+
 ghost use Rattle.std.specs.Prelude.{◌≡◌};
 ghost use Rattle.refusals.specs.Refusals.{number_of, spot_of, node_spot};
 
-#[derive(Drop)]
+#[derive(Clone, Copy)]
 pub enum Refusal {
     // 1: the tolerance is outside its range.
     Tolerance,

@@ -47,7 +47,8 @@ module _ (s : List ℕ) (T : ℤ) (outline : List ℤ) (a b c : ℕ) where
     -- none
     pub names_first : point_fault x y ≡ none → (k i : ℕ) → FirstHolder standard (text_leaves T outline b) x y k i
         → line ≡ on_line k i
-    pub off_exactly : point_fault x y ≡ none → (line ≡ off_line) ↔ Verdict standard none (text_leaves T outline b) x y Off
+    pub off_exactly : point_fault x y ≡ none →
+        (line ≡ off_line) ↔ Verdict standard none (text_leaves T outline b) x y Off
     -- where its line says on, there are one curve and one rational parameter at which that curve is within T
     pub every_on_near : SaysOn line → Somewhere standard T cs x y
 
@@ -56,7 +57,8 @@ module _ (s : List ℕ) (T : ℤ) (outline : List ℤ) (a b c : ℕ) where
     pub all : List Curve
     pub are : outlined texts.most texts.pieces outline ≡ curves all
     -- the answer is the lines of the band, then one line for each point, in order
-    pub all_lines : answer_of s ≡ band_lines a b c (text_records T outline) ++ point_answers (text_leaves T outline b) points
+    pub all_lines : answer_of s ≡
+        band_lines a b c (text_records T outline) ++ point_answers (text_leaves T outline b) points
     pub each_point : (before : List (ℤ × ℤ)) (x y : ℤ) (after : List (ℤ × ℤ)) → points ≡ before ++ (x, y) ∷ after
         → PointAnswered all before x y after
     -- every leaf of a curve with largest second difference M has depth at most j, for every j that meets the premise

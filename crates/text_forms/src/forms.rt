@@ -1,7 +1,7 @@
 // The forms of a line: a tolerance, a curve, a point. The code stands in `curve_forms` and `form_reading`.
 
 // A line that has a form: its numbers and the place after it, which is where the next line starts.
-#[derive(Drop)]
+#[derive(Clone, Copy)]
 pub enum Form {
     Tolerance(i32, usize),
     Curve(Points, usize),
@@ -10,7 +10,7 @@ pub enum Form {
 }
 
 // The points of a curve, degree + 1 of them; the rest is 0.
-#[derive(Drop)]
+#[derive(Clone, Copy)]
 pub struct Points {
     pub degree: i32,
     pub x0: i32,

@@ -5,7 +5,7 @@ ghost use Rattle.text_forms.specs.Pairs.{word_at, number_then, pair_at, spaced_p
 use text_numbers::numerals::Number;
 
 // Two numbers in parentheses, and the place after them, where they stand.
-#[derive(Drop)]
+#[derive(Clone, Copy)]
 pub enum Pair {
     IsPair(i32, i32, usize),
     NoPair,

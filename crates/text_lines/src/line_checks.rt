@@ -9,7 +9,7 @@ use text_forms::forms::Form;
 
 // How far the checks have come: whether there is a line to check, whether a point came before it, its number, and what
 // was found so far.
-#[derive(Drop)]
+#[derive(Clone, Copy)]
 pub struct Checks {
     pub going: bool,
     pub late: bool,

@@ -1,6 +1,7 @@
 -- Decimal numbers in a text (document 01, "Text program"): without leading zeros or −0, the minus being byte 45, within
 -- 32 bits signed. A text is the list of its bytes, and a place is an index, from 0.
-use Rattle.std.specs.Prelude.{Bool, ◌&&◌, cond, List, [], ◌∷◌, ℕ, suc, ◌+◌, ◌-◌, ◌*◌, leb, eqb, get_or, drop, pos, neg_ℤ}
+use Rattle.std.specs.Prelude.{Bool, ◌&&◌, cond, List, [], ◌∷◌, ℕ, suc, ◌+◌, ◌-◌, ◌*◌, leb, eqb, get_or, drop}
+use Rattle.std.specs.Prelude.{pos, neg_ℤ}
 use Rattle.text_numbers.specs.declared.numerals.Number.{Number}
 use Rattle.text_numbers.specs.declared.numerals.Number.TheVariants.{IsNumber, NoNumber}
 use Rattle.text_numbers.specs.declared.numerals.Natural.{Natural}

@@ -3,7 +3,7 @@ ghost use Rattle.std.specs.Prelude.{◌≡◌, ◌≤◌, ◌*◌, ◌-◌, leng
 ghost use Rattle.text_numbers.specs.{Numerals.{byte}, Inside.{DigitRun}};
 
 // The value of a run of digits, and the place after it.
-#[derive(Drop)]
+#[derive(Clone, Copy)]
 pub struct Run {
     pub value: u64,
     pub next: usize,

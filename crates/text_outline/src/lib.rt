@@ -1,4 +1,6 @@
 // The outline that a text gives: the numbers of its curves, put into a list one after the other.
+#![tactic(auto)]
+
 ghost use Rattle.std.specs.Prelude.{[], ◌∷◌, ◌+◌, ◌≤◌, ◌<◌, length};
 ghost use Rattle.write_numbers.specs.Appends.{Appended};
 ghost use Rattle.text_lines.specs.{Lines.{lines_of}, Meaning.{numbers_of_curve}};

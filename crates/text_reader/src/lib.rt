@@ -1,13 +1,15 @@
 // The line reader: the text that it was lent, and how far it has read. The functions over it are thin, since each is
 // proved by a walk of its code; the reading itself is `text_forms::form_reading::form_at`. Other crates call
 // `line_from`, whose parameters are plain.
+#![tactic(auto)]
+
 ghost use Rattle.std.specs.Prelude.{◌≡◌};
 ghost use Rattle.text_forms.specs.Forms.{form_at};
 ghost use Rattle.text_reader.specs.Reading.{place_after};
 
 use text_forms::forms::Form;
 
-#[derive(Drop)]
+#[derive(Clone, Copy)]
 pub struct LineReader<'a> {
     pub text: &'a [u8],
     pub read: usize,

@@ -42,4 +42,7 @@ pub record AfterOf (p r : Part) : Type 0 where
 -- the first node at the last depth that does not meet T, or else how many leaves the curve has
 unfoldable pub walked_of : Setting → ℤ → Curve → Walked
 walked_of σ T c =
-    elim (first_failing (node_meets σ T c) (ends_of σ T c)) [ some n ↦ WideNode n | none ↦ Leaves (length (ends_of σ T c)) ]
+    elim (first_failing (node_meets σ T c) (ends_of σ T c)) [
+      | some n ↦ WideNode n
+      | none ↦ Leaves (length (ends_of σ T c))
+    ]

@@ -1,4 +1,6 @@
 // The walk of a curve in parameter order, from its root on: where it stands, its steps, and a curve walked.
+#![tactic(auto)]
+
 ghost use Rattle.std.specs.Prelude.{◌≡◌, false, ◌≤◌, ◌<◌, ◌^◌};
 ghost use Rattle.setting.specs.Setting.{deepest};
 ghost use Rattle.curve_nodes.specs.Bounds.{Sized};
@@ -10,7 +12,7 @@ use bound_tolerance::Tested;
 use curve_nodes::Curve;
 
 // Where a walk stands: a node, with the node's own curve. Every step follows from it alone, so no walk keeps a stack.
-#[derive(Drop)]
+#[derive(Clone, Copy)]
 pub struct Part {
     pub node: u32,
     pub curve: Curve,
@@ -76,7 +78,7 @@ impl Part {
 
 // What the walk of a curve finds: how many leaves it has, or the first node at the last depth that does not meet the
 // tolerance.
-#[derive(Drop)]
+#[derive(Clone, Copy)]
 pub enum Walked {
     Leaves(usize),
     WideNode(u32),
