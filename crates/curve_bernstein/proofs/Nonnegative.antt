@@ -1,7 +1,7 @@
 -- A computed test that a polynomial is nowhere negative from 0 to 1: its Bernstein coefficients are not negative, or, with fuel left, those of both
 -- halves pass. It is right for every degree, whatever the fuel: fuel that runs out is a test that fails.
 --     hump : (p r : ℕ) → pos 0 ≤ℤ value (pos p) (pos r) 3 (pos 4 ∷ negsuc 0 ∷ negsuc 0 ∷ pos 4 ∷ [])
---     hump = nonnegative-sound 3 1 (pos 4 ∷ negsuc 0 ∷ negsuc 0 ∷ pos 4 ∷ []) tt
+--     hump = nonnegative_sound 3 1 (pos 4 ∷ negsuc 0 ∷ negsuc 0 ∷ pos 4 ∷ []) tt
 use mathlib.Core.Path.{◌≡◌, refl, sym, ◌∙◌, ap, ap₂}
 use mathlib.Core.Bool.{Bool, true, false, ◌&&◌}
 use mathlib.Core.Logic.{⊎_elim}
@@ -16,27 +16,13 @@ use Rattle.integers.proofs.Order.{NonNeg, natural, nonneg-≡, nonneg_cancel, po
 use Rattle.integers.proofs.Table.{and_left, and_right}
 use Rattle.curve_bernstein.specs.Value.{value}
 use Rattle.curve_bernstein.proofs.Recursion.{casteljau_nonneg, casteljau_times, value_is}
-use Rattle.curve_bernstein.proofs.Stretch.{stretch, stretch_is, half_part_value}
-
--- ---- the halves, times 2^n
-abbrev pub left : ℕ → List ℤ → List ℤ
-left n cs = stretch (pos 0) (pos 2) (pos 1) (pos 1) n cs
-
-abbrev pub right : ℕ → List ℤ → List ℤ
-right n cs = stretch (pos 1) (pos 1) (pos 2) (pos 0) n cs
+use Rattle.curve_bernstein.proofs.Stretch.{stretch_is, half_part_value}
+use Rattle.curve_bernstein.proofs.Test.{left, right, all_nonnegative}
+pub use Rattle.curve_bernstein.proofs.Test.{nonnegative}
 
 pub value_times : (k p r : ℤ) (n : ℕ) (cs : List ℤ) → value (k *ℤ p) (k *ℤ r) n cs ≡ pow k n *ℤ value p r n cs
 value_times k p r n cs =
     value_is (k *ℤ p) (k *ℤ r) n cs ∙ casteljau_times p r k n (entry cs) ∙ ap (λ z. pow k n *ℤ z) (sym (value_is p r n cs))
-
--- ---- the test
-abbrev pub all_nonnegative : List ℤ → Bool
-all_nonnegative [] = true
-all_nonnegative (c ∷ cs) = non_neg c && all_nonnegative cs
-
-abbrev pub nonnegative : (n fuel : ℕ) → List ℤ → Bool
-nonnegative n zero cs = all_nonnegative cs
-nonnegative n (suc fuel) cs = elim (all_nonnegative cs) [ true ↦ true | false ↦ nonnegative n fuel (left n cs) && nonnegative n fuel (right n cs) ]
 
 -- ---- it is right
 entry_nonnegative : (cs : List ℤ) → T (all_nonnegative cs) → (k : ℕ) → NonNeg (entry cs k)

@@ -46,6 +46,8 @@ casteljau p r (suc d) f = r *ℤ casteljau p r d f +ℤ p *ℤ casteljau p r d (
 
 choose_none : (d i : ℕ) → d < i → choose d i ≡ 0
 unfolding choose
+choose_none zero zero h = elim h [ ]
+choose_none (suc d) zero h = elim h [ ]
 choose_none zero (suc i) h = refl
 choose_none (suc d) (suc i) h = ap₂ ◌+◌ (choose_none d i (le_of_suc-le-suc h)) (choose_none d (suc i) (one_on (le_of_suc-le-suc h)))
 

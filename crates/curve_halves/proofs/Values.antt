@@ -2,12 +2,12 @@
 -- So a half's value is the whole's at weights twice as large in sum. What holds of the right half follows from the left one by the mirror law.
 use mathlib.Core.Path.{◌≡◌, refl, sym, ◌∙◌, ap, ap₂}
 use mathlib.Core.List.{List, [], ◌∷◌}
-use Prim.Native.Nat.{ℕ, zero, suc, ◌+◌, ◌*◌, ◌-◌, ◌^◌, ◌≤◌, ◌<◌, zero-le, suc-le-suc}
+use Prim.Native.Nat.{ℕ, zero, suc, ◌+◌, ◌*◌, ◌-◌, ◌^◌, ◌≤◌, ◌<◌, suc-le-suc}
 use native.Mathlib.Nat.{le_of_suc-le-suc, not-suc-le-zero, sub-zero, suc-sub-suc, zero-mul, suc-mul, pow-zero, pow-suc}
 use native.Mathlib.Omega.{arith}
 use lib.Pow.{pow-add}
 use lib.ListN.{length}
-use lib.IntN.{ℤ, pos, nat_abs, ◌+ℤ◌, ◌*ℤ◌, pow, one, +ℤ_comm}
+use lib.IntN.{ℤ, pos, nat_abs, ◌+ℤ◌, ◌*ℤ◌, pow, one}
 use Rattle.setting.specs.Setting.{most_degree, control_values}
 use Rattle.integers.specs.Entry.{entry}
 use Rattle.integers.proofs.RingLaws.{pow_natural}
@@ -17,33 +17,9 @@ use Rattle.curve_bernstein.proofs.Recursion.{casteljau, casteljau_ext, casteljau
 use Rattle.curve_bernstein.proofs.Stretch.{mix, part, part_reversed, half_part, half_part_value}
 use Rattle.curve_halves.specs.Halves.{listed, triangle, left, right, reversed, padded}
 use Rattle.curve_halves.specs.Sizes.{Each}
-
--- ---- lists from a sequence
-pub listed_entry : (n : ℕ) (f : ℕ → ℤ) (k : ℕ) → k < n → entry (listed n f) k ≡ f k
-listed_entry zero f k h = absurd (not-suc-le-zero h)
-listed_entry (suc n) f zero h = refl
-listed_entry (suc n) f (suc k) h = listed_entry n (λ j. f (suc j)) k (le_of_suc-le-suc h)
-
-pub listed_ext : (n : ℕ) (f g : ℕ → ℤ) → ((k : ℕ) → k < n → f k ≡ g k) → listed n f ≡ listed n g
-listed_ext zero f g h = refl
-listed_ext (suc n) f g h = ap₂ ◌∷◌ (h 0 (suc-le-suc zero-le)) (listed_ext n (λ k. f (suc k)) (λ k. g (suc k)) (λ k l. h (suc k) (suc-le-suc l)))
-
--- ---- the mirror law: the right half in reverse order is the left half of the control values in reverse order
-pub reversed_entry : (d : ℕ) (cs : List ℤ) (k m : ℕ) → k + m ≡ d → entry (reversed d cs) k ≡ entry cs m
-reversed_entry d cs k m e = listed_entry (suc d) (λ j. entry cs (d - j)) k (omega arith) ∙ ap (entry cs) (omega arith)
-
-triangle_reversed : (d : ℕ) (cs : List ℤ) (j i m : ℕ) → i + j + m ≡ d → triangle (reversed d cs) j i ≡ triangle cs j m
-unfolding triangle
-triangle_reversed d cs zero i m e = reversed_entry d cs i m (omega arith)
-triangle_reversed d cs (suc j) i m e =
-    ap₂ ◌+ℤ◌ (triangle_reversed d cs j i (suc m) (omega arith)) (triangle_reversed d cs j (suc i) m (omega arith))
-    ∙ +ℤ_comm (triangle cs j (suc m)) (triangle cs j m)
-
-pub mirror : (d : ℕ) (cs : List ℤ) → reversed d (right d cs) ≡ left d (reversed d cs)
-unfolding left right
-mirror d cs = listed_ext (suc d) (λ k. entry (right d cs) (d - k)) (λ k. pow (pos 2) (d - k) *ℤ triangle (reversed d cs) k 0) (λ k l.
-    listed_entry (suc d) (λ j. pow (pos 2) j *ℤ triangle cs (d - j) j) (d - k) (omega arith)
-    ∙ ap (λ x. pow (pos 2) (d - k) *ℤ x) (ap (λ j. triangle cs j (d - k)) (omega arith) ∙ sym (triangle_reversed d cs k 0 (d - k) (omega arith))))
+pub use Rattle.curve_halves.proofs.Lists.{listed_entry, listed_ext}
+use Rattle.curve_halves.proofs.Lists.{reversed_entry}
+use Rattle.curve_halves.proofs.Mirror.{mirror}
 
 reversed_twice : (d : ℕ) (f : ℕ → ℤ) → reversed d (reversed d (listed (suc d) f)) ≡ listed (suc d) f
 reversed_twice d f = let fs = listed (suc d) f in

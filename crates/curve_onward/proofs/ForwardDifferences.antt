@@ -33,8 +33,8 @@ accumulated_under {B} z f a h (suc i) = le_trans (abs_add (accumulated z f i) (f
 pub onward_under : {B : ℕ} (d k : ℕ) (f : ℕ → ℤ) → ((j : ℕ) → nat_abs (f j) ≤ B) → (i : ℕ) → nat_abs (onward_at d k f i) ≤ 3 ^ i * B
 unfolding onward_at
 onward_under {B} zero k f h i = le_trans (h 0) (rw one-mul at (mul-le-mul_right B (one-le-pow i 3 (omega arith))))
-onward_under (suc n) k f h i = accumulated_under (shr_z (f (suc n)) (2 ^ (suc n * k))) (onward_at n k (forward_difference f))
-    (le_trans (abs_shift (f (suc n)) (2 ^ (suc n * k))) (h (suc n))) (onward_under n k (forward_difference f) (forward_difference_under f h)) i
+onward_under {B = B} (suc n) k f h i = accumulated_under (shr_z (f (suc n)) (2 ^ (suc n * k))) (onward_at n k (forward_difference f))
+    (le_trans (abs_shift (f (suc n)) (2 ^ (suc n * k))) (h (suc n))) (onward_under {B = 2 * B} n k (forward_difference f) (forward_difference_under f h)) i
 
 pub each_forward_difference : {B : ℕ} {cs : List ℤ} → Each B cs → Each (2 * B) (padded (forward_differences cs))
 each_forward_difference {B} {cs} h = each_padded {cs = forward_differences cs}

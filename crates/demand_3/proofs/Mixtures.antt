@@ -19,10 +19,9 @@ use Rattle.integers.proofs.Order.{pos_lt, pow_nonneg, pow_positive, times_positi
 use Rattle.curve_bernstein.specs.Value.{value}
 use Rattle.curve_halves.proofs.Values.{denominator}
 use Rattle.curve_nodes.specs.declared.Curve.{Curve}
-use Rattle.curve_nodes.specs.Nodes.{depth, start}
+use Rattle.curve_nodes.specs.Nodes.{depth}
 use Rattle.curve_nodes.specs.Points.{scaled, sixteenths, offset, Within}
 use Rattle.curve_nodes.proofs.Coordinates.{node_values}
-use Rattle.curve_nodes.proofs.Spans.{remaining}
 use Rattle.curve_nodes.proofs.Parameters.{values_up, up_sum, p_at, r_at, same_sum, values_down}
 use Rattle.bound_rows.specs.Rows.{Row}
 use Rattle.bound_rows.specs.Table.{rows_of}
@@ -33,25 +32,13 @@ use Rattle.bound_enclosure.specs.Enclosed.{Encloses}
 use Rattle.bound_rows.proofs.Places.{Located, place_at}
 use Rattle.bound_enclosure.proofs.Enclosure.{enclosure, enclosure_between}
 use Rattle.judge_cover.specs.Covers.{Mixed}
+pub use Rattle.demand_3.proofs.Weights.{at_p, at_r, up_p, up_r}
 
 -- ---- a power of a product
 pow_times : (a b : ℤ) (d : ℕ) → pow (a *ℤ b) d ≡ pow a d *ℤ pow b d
 unfolding pow one
 pow_times a b zero = refl
 pow_times a b (suc d) = ap (λ x. x *ℤ (a *ℤ b)) (pow_times a b d) ∙ ring (a ∷ b ∷ pow a d ∷ pow b d ∷ []) (search sides depth 20) refl
-
--- ---- the parameter of the weights a and b on piece i of m: at a node, and at node 1 where the node is n
-abbrev pub at_p : ℕ → ℕ → ℕ → ℕ
-at_p i a b = a * i + b * suc i
-
-abbrev pub at_r : ℕ → ℕ → ℕ → ℕ → ℕ
-at_r m i a b = a * (m - i) + b * (m - suc i)
-
-abbrev pub up_p : ℕ → ℕ → ℕ → ℕ → ℕ → ℕ
-up_p m n i a b = start n * (at_p i a b + at_r m i a b) + at_p i a b
-
-abbrev pub up_r : ℕ → ℕ → ℕ → ℕ → ℕ → ℕ
-up_r m n i a b = remaining n * (at_p i a b + at_r m i a b) + at_r m i a b
 
 pub up_some : (m n i a b : ℕ) → i < m → 0 < a + b → 0 < up_p m n i a b + up_r m n i a b
 up_some m n i a b hi some =

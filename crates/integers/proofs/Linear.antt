@@ -2,7 +2,7 @@
 --     step : (a b c : ℤ) → a ≤ℤ b → b <ℤ c → (a +ℤ pos 1) ≤ℤ c
 --     step a b c h k =
 --         let ρ = a ∷ b ∷ c ∷ [] in
---         le-from-ℕ ρ (search sides depth 20) (omega (arith, le-to-ℕ ρ (search sides depth 20) h, lt-to-ℕ ρ (search sides depth 20) k))
+--         le_from_ℕ ρ (search sides depth 20) (omega (arith, le_to_ℕ ρ (search sides depth 20) h, lt_to_ℕ ρ (search sides depth 20) k))
 use mathlib.Core.Path.{◌≡◌, refl, sym, ◌∙◌, ap, ap₂}
 use mathlib.Core.List.{List, [], ◌∷◌}
 use Prim.Native.Nat.{ℕ, suc, ◌+◌, ◌*◌, ◌≤◌, ◌<◌}

@@ -1,8 +1,8 @@
 -- Straight-line code on signed numbers: each step fits its width, and the machine holds the formula's value, both by one computed test. A signed
--- local is its bits, so a need speaks of `stored w z`, which is `to_z w (of_z w z)`. `search machine` reads such a term as a formula, with a bound on
+-- local is its bits, so a goal speaks of `stored w z`, which is `to_z w (of_z w z)`. `search machine` reads such a term as a formula, with a bound on
 -- each part, from `Size x`, `SFits w x` or `Count n` of the numbers that the code starts from:
---     mul-result c = fits! (search (machine, c.fits.a, c.fits.b) depth 40) tt
---     returns c = is! (search (machine, c.fits.a, c.fits.b) depth 40) tt
+--     overflow_mul-result c = fits! (search (machine, c.ranges.a, c.ranges.b) depth 40) tt
+--     returns c = is! (search (machine, c.ranges.a, c.ranges.b) depth 40) tt
 -- `fits!` shows that a step fits, `is!` that what is held equals the formula, `by!` carries a fact of the formula over, `unsigned!` and
 -- `unsigned_is!` answer a cast to an unsigned type, and `flag!` reads what a comparison said. `equal` of Ranges.antt reads what a test of equality
 -- said.

@@ -2,7 +2,7 @@
 -- not negative are not negative (`◌+₀◌`, `◌×₀◌`); so an order whose difference is, by `ring`, a combination of known facts is proved by that
 -- combination, its certificate:
 --     weighted : {r p l h m k : ℤ} → NonNeg r → NonNeg p → l ≤ℤ h → m ≤ℤ k → (r *ℤ l +ℤ p *ℤ m) ≤ℤ (r *ℤ h +ℤ p *ℤ k)
---     weighted {r} {p} {l} {h} {m} {k} hr hp u v = le-by (r ∷ p ∷ l ∷ h ∷ m ∷ k ∷ []) (hr ×₀ gap u +₀ hp ×₀ gap v) (search sides depth 40) refl
+--     weighted {r} {p} {l} {h} {m} {k} hr hp u v = le_by (r ∷ p ∷ l ∷ h ∷ m ∷ k ∷ []) (hr ×₀ gap u +₀ hp ×₀ gap v) (search sides depth 40) refl
 -- `le_by` proves ≤, `lt_by` <, and `clash_by` a contradiction (the combination comes to −1).
 use mathlib.Core.Path.{◌≡◌, refl, sym, ◌∙◌, ap, subst}
 use mathlib.Core.Logic.{◌⊎◌, inl, inr, ⊎_elim}

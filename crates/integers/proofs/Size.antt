@@ -1,5 +1,5 @@
 -- How large a number can get, computed from its text by `search`.
---     fits-size (search sizes depth 20) tt : SFits w64 (r *ℤ a +ℤ p *ℤ b)
+--     fits_size (search sizes depth 20) tt : SFits w64 (r *ℤ a +ℤ p *ℤ b)
 -- with `Size p` and so on among the hypotheses. `size_of` makes one of `mag p < 2 ^ 30`.
 use mathlib.Core.Path.{◌≡◌, refl}
 use mathlib.Core.Bool.{true}

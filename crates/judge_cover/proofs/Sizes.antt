@@ -57,10 +57,10 @@ pub ruleset sizes =
 
 -- ---- a small number is what the machine keeps of it
 pub kept : (z : ℤ) → nat_abs z ≤ 2 ^ 30 → stored w64 z ≡ z
-kept z h = to_z-of_z (fits_size (record { bound = 2 ^ 30; under = h }) tt)
+kept z h = to_z-of_z {w = w64} (fits_size (record { bound = 2 ^ 30; under = h }) tt)
 
 kept_in : (z : ℤ) → nat_abs z ≤ farthest → stored w32 z ≡ z
-kept_in z h = to_z-of_z (fits_size (record { bound = farthest; under = h }) tt)
+kept_in z h = to_z-of_z {w = w32} (fits_size (record { bound = farthest; under = h }) tt)
 
 -- ---- what is picked or cut is small
 pick_small : {p q : Weights} → SmallWeights p → SmallWeights q → (b : Bool) → SmallWeights (elim b [ true ↦ p | false ↦ q ])

@@ -1,3 +1,2 @@
--- Laws of reading on, and of calls of `new` and of `next`.
+-- Laws of reading on.
 mod Reading
-pub mod Calls

@@ -101,7 +101,7 @@ begins (next c cs) = c
 
 behind : {s w t u : ℕ} (xs : List ℕ) (n : ℕ) (ys : List ℕ) → EndToEnd s w (xs ++ n ∷ ys) t u → EndToEnd (start n + 1) (2 ^ depth n) ys t u
 behind [] n ys (next c cs) = cs
-behind (x ∷ xs) n ys (next c cs) = behind xs n ys cs
+behind {s = s} {w = w} {t = t} {u = u} (x ∷ xs) n ys (next c cs) = behind {s = start x + 1} xs n ys cs
 
 -- s / w is at most b / y where it is a / x and even (a + 1) / x is at most b / y
 at_most : (s w a x b y : ℕ) → 0 < x → s * x ≡ a * w → (a + 1) * y ≤ b * x → s * y ≤ b * w
@@ -110,7 +110,7 @@ at_most s w a x b y h e l = le_of_mul-le-mul_right (omega (arith, ap (λ z. z * 
 -- they begin no later than each of them does
 ahead : {s w t u : ℕ} (xs : List ℕ) (n : ℕ) (ys : List ℕ) → EndToEnd s w (xs ++ n ∷ ys) t u → s * 2 ^ depth n ≤ start n * w
 ahead [] n ys c = le_of_eq (begins c)
-ahead {s} {w} (x ∷ xs) n ys (next c cs) = at_most s w (start x) (2 ^ depth x) (start n) (2 ^ depth n) (pow_pos (depth x)) c (ahead xs n ys cs)
+ahead {s} {w} (x ∷ xs) n ys (next c cs) = at_most s w (start x) (2 ^ depth x) (start n) (2 ^ depth n) (pow_pos (depth x)) c (ahead {s = start x + 1} xs n ys cs)
 
 module _ (test : ℕ → Bool) (k : ℕ) where
   pub first_begins : (n : ℕ) (ns : List ℕ) → ends test k 1 ≡ n ∷ ns → start n ≡ 0

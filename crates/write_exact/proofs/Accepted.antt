@@ -26,7 +26,8 @@ use Rattle.write_exact.specs.Texts.{In32, PointsIn32, TwoToFour, CurvesIn32, Leg
 use Rattle.write_exact.specs.Texts.{points_text, text_of, outline_of, IsText}
 use Rattle.write_exact.proofs.Written.{form_written}
 use Rattle.write_exact.proofs.Legal.{LegalRead, form_legal}
-use Rattle.write_exact.proofs.Texts.{Keeps, keeps_two, keeps_three, keeps_four, text_read}
+use Rattle.write_exact.proofs.Keeps.{Keeps, keeps_two, keeps_three, keeps_four}
+use Rattle.write_exact.proofs.Texts.{text_read}
 
 -- ---- the points of a curve that was read
 record Drawn (p : Points) : Type 0 where

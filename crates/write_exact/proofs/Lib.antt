@@ -5,5 +5,6 @@ pub mod Read
 pub mod Spelling
 pub mod Lines
 pub mod Legal
+mod Keeps
 pub mod Texts
 pub mod Accepted

@@ -2,24 +2,24 @@
 -- points. So every text that is a tolerance, curves and points in this order, and not too long, is accepted.
 use mathlib.Core.Path.{◌≡◌, refl, sym, ap, ap₂, ◌∙◌, subst}
 use mathlib.Core.Bool.{Bool, true, false}
-use mathlib.Core.List.{List, [], ◌∷◌, ◌++◌, append_assoc, append-nil}
+use mathlib.Core.List.{List, [], ◌∷◌, ◌++◌, append_assoc}
 use mathlib.Core.Option.{none}
 use Prim.Native.Nat.{ℕ, ◌+◌, ◌-◌, ◌≤◌, ◌<◌}
 use native.Mathlib.Omega.{arith}
 use borrow.Author.Tests.{le-ltb}
 use lib.ListN.{length, drop, length-drop}
 use lib.Seq.{drop-drop, drop-append_seam}
-use lib.IntN.{ℤ, pos}
+use lib.IntN.{ℤ}
 use Rattle.text_forms.specs.declared.forms.Points.{Points}
 use Rattle.text_forms.specs.declared.forms.Form.TheVariants.{Tolerance, Curve, Point}
-use Rattle.text_forms.specs.Forms.{curve_word, closing, points}
 use Rattle.text_lines.specs.Lines.{gather}
-use Rattle.text_lines.specs.Meaning.{numbers_of_curve, curve_numbers, point_of, fault_from, means, fault_or, meaning_of, most_bytes, meaning}
+use Rattle.text_lines.specs.Meaning.{curve_numbers, point_of, fault_from, means, fault_or, meaning_of, most_bytes, meaning}
 use Rattle.text_lines.proofs.Lines.{lines_left, lines_over, lines_start, line_tolerance, line_curve, line_point}
-use Rattle.write_exact.specs.Written.{Written, tolerance_line, point_line, curve_line}
-use Rattle.write_exact.specs.Texts.{In32, PointsIn32, TwoToFour, CurvesIn32, Legal, tolerance, two, three, four, point, pairs_bytes, curves_text}
-use Rattle.write_exact.specs.Texts.{points_text, text_of, point_numbers, outline_of}
+use Rattle.write_exact.specs.Written.{Written, tolerance_line, point_line}
+use Rattle.write_exact.specs.Texts.{In32, PointsIn32, TwoToFour, CurvesIn32, Legal, tolerance, two, three, four, point, curves_text}
+use Rattle.write_exact.specs.Texts.{points_text, text_of, outline_of}
 use Rattle.write_exact.proofs.Lines.{form_read}
+use Rattle.write_exact.proofs.Keeps.{curve_bytes, Keeps, keeps_two, keeps_three, keeps_four}
 
 -- ---- a line that stands at place i of a text, and the bytes after it
 module _ (s : List ℕ) (i : ℕ) (line rest : List ℕ) (e : drop i s ≡ line ++ rest) where
@@ -58,23 +58,6 @@ points_rest (p ∷ ps) s i late n h e =
     }
 
 -- ---- a curve of two to four points, as a line keeps it
-pub record Keeps (p : Points) (c : List (ℤ × ℤ)) : Type 0 where
-  pub line : curve_line p ≡ curve_word ++ pairs_bytes c ++ closing
-  pub numbers : numbers_of_curve p ≡ pos (length c - 1) ∷ point_numbers c
-
-module _ (a b : ℤ × ℤ) where
-  pub keeps_two : Keeps (points (pos 1) a.0 a.1 b.0 b.1 (pos 0) (pos 0) (pos 0) (pos 0)) (a ∷ b ∷ [])
-  unfolding curve_line pairs_bytes numbers_of_curve point_numbers
-  keeps_two = record { line = simp (append_assoc, append-nil); numbers = refl }
-
-  pub keeps_three : (c : ℤ × ℤ) → Keeps (points (pos 2) a.0 a.1 b.0 b.1 c.0 c.1 (pos 0) (pos 0)) (a ∷ b ∷ c ∷ [])
-  unfolding curve_line pairs_bytes numbers_of_curve point_numbers
-  keeps_three c = record { line = simp (append_assoc, append-nil); numbers = refl }
-
-  pub keeps_four : (c d : ℤ × ℤ) → Keeps (points (pos 3) a.0 a.1 b.0 b.1 c.0 c.1 d.0 d.1) (a ∷ b ∷ c ∷ d ∷ [])
-  unfolding curve_line pairs_bytes numbers_of_curve point_numbers
-  keeps_four c d = record { line = simp (append_assoc, append-nil); numbers = refl }
-
 record Kept (c : List (ℤ × ℤ)) : Type 0 where
   kept : Points
   legal : (j : ℕ) → Legal (Curve kept j)
@@ -96,7 +79,7 @@ curves_rest [] ps s i n h k e = points_rest ps s i false n k e
 curves_rest (c ∷ cs) ps s i n h k e =
     let m = kept_curve c h.0 in
     let p = m.kept in
-    let l = curve_word ++ pairs_bytes c ++ closing in
+    let l = curve_bytes c in
     let j = i + length l in
     let f = e ∙ append_assoc l (curves_text cs) (points_text ps) in
     let there = line_there s i l (curves_text cs ++ points_text ps) f in

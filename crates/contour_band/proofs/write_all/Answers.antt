@@ -1,0 +1,8 @@
+-- `write_all`: after a step the writer has still a front of the bytes.
+use Rattle.std.proofs.Common.{rules}
+use Rattle.contour_band.proofs.Steps.{writes_more}
+use Rattle.contour_band.proofs.write_all.Goals as goal
+
+pub loop-turns-preserved-in-Moved : goal.loop-turns-preserved-in-Moved
+loop-turns-preserved-in-Moved g c =
+    (search rules, writes_more _ _ _ _ _ _ c.loop-turns.invariant.1 c.in-Moved.ensures.bytes)

@@ -1,0 +1,8 @@
+-- What banding of the bench station promises to C, from its contract alone.
+use mir.Facts.{to_z-of_z}
+use Rattle.promises.proofs.exported.contour_station_band.Goals as goal
+
+pub returns : goal.returns
+returns c =
+    let both = rw (to_z-of_z c.ranges.tolerance) at c.contour_station_band.ensures in
+    record { value = both.value; records_after = both.records_after }
