@@ -16,7 +16,7 @@ fn main() {
     println!("cargo:rerun-if-changed={}", archive.display());
     if !archive.is_file() {
         eprintln!("The proved engine is not built: there is no {}.", archive.display());
-        eprintln!("Make it at the root of the repository by:  rt staticlib contour");
+        eprintln!("Make it at the root of the repository by:  bash tools/archive");
         eprintln!("Or name the folder that has libcontour.a in {FOLDER}.");
         exit(1);
     }

@@ -58,7 +58,7 @@
 //!
 //! # Link it
 //!
-//! The crate links the engine's archive, which `rt staticlib contour` at the root of the repository makes. A crate of
+//! The crate links the engine's archive, which `bash tools/archive` at the root of the repository makes. A crate of
 //! your own names it by its path, `contour-band = { path = ".../rust/contour-band" }`. To link another archive, name the
 //! folder of its `libcontour.a` in `CONTOUR_BAND_LIB_DIR`, by a whole path or from where cargo is called.
 

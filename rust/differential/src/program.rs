@@ -42,7 +42,7 @@ pub fn path() -> PathBuf {
     assert!(
         path.is_file(),
         "The text program is not built: there is no {}.\nMake it at the root of the repository by:  \
-         rt check contour_band\nOr name the program in {NAMED}.",
+         bash tools/program\nOr name the program in {NAMED}.",
         path.display()
     );
     path

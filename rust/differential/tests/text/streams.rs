@@ -7,12 +7,11 @@ use differential::random::Random;
 use differential::text::Comparison;
 use differential::texts::{text, LISTING};
 use std::fs::{self, File};
-use std::os::unix::process::ExitStatusExt;
 use std::path::PathBuf;
 use std::process::{Command, Stdio};
 
-/// The signal that ends a program which prints to a pipe that nobody reads.
-const BROKEN_PIPE: i32 = 13;
+/// The exit status where the answer is not whole.
+const NOT_WHOLE: Option<i32> = Some(1);
 
 /// What it says where it cannot read, before the system's words for why.
 const UNREAD: &str =
@@ -35,12 +34,11 @@ fn long() -> Vec<u8> {
     fs::read(root.join("examples/text/leaves_910_fit.in")).expect("the example is there")
 }
 
-/// Ended by itself or by the broken pipe, in time and without a word.
-fn ends_quietly(run: &Run) {
+/// Ended by itself, in time, without a word, with this exit status.
+fn ends_quietly(run: &Run, status: Option<i32>) {
     let quiet = !run.hung && run.complaints.is_empty();
-    let ended = run.status.success() || run.status.signal() == Some(BROKEN_PIPE);
     assert!(
-        quiet && ended,
+        quiet && run.status.code() == status,
         "ended with {}, hung: {}, standard error: {}",
         run.status,
         run.hung,
@@ -48,11 +46,11 @@ fn ends_quietly(run: &Run) {
     );
 }
 
-/// Ended by itself, in time, after one line on standard error.
+/// Ended by itself, in time, after one line on standard error, with the exit status that the answer is not whole.
 fn says(run: &Run, what: &str, why: &str) {
     let line = format!("{what}{why}\n");
     assert_eq!(run.complaints.escape_ascii().to_string(), line.escape_default().to_string());
-    assert!(!run.hung && run.status.success(), "ended with {}, hung: {}", run.status, run.hung);
+    assert!(!run.hung && run.status.code() == NOT_WHOLE, "ended with {}, hung: {}", run.status, run.hung);
 }
 
 #[test]
@@ -115,7 +113,8 @@ fn an_answer_may_go_where_no_write_waits() {
 
 #[test]
 fn what_cannot_be_read_is_said_and_not_answered() {
-    for (input, why) in [("</", "Is a directory"), ("<&-", "Bad file descriptor")] {
+    for (input, why) in [("</", "Is a directory (os error 21)"), ("<&-", "Bad file descriptor (os error 9)")]
+    {
         let run = run_command(shell(&format!("exec \"$0\" {input}")).stdout(Stdio::piped()), b"");
         says(&run, UNREAD, why);
         assert!(run.printed.is_empty(), "{input}: {}", run.printed.escape_ascii());
@@ -135,26 +134,28 @@ fn a_small_stack_is_enough() {
 #[test]
 fn it_ends_quietly_where_nobody_reads_the_answer() {
     for text in [LISTING, b"", &long()] {
-        ends_quietly(&run_unread(&mut Command::new(path()), text));
+        ends_quietly(&run_unread(&mut Command::new(path()), text), NOT_WHOLE);
+        // Where a broken pipe would not end a program either.
+        ends_quietly(&run_unread(&mut shell("trap '' PIPE; exec \"$0\""), text), NOT_WHOLE);
     }
 }
 
 #[test]
 fn what_cannot_be_written_is_said() {
     for text in [LISTING, b"", &long()] {
-        // Where the broken pipe does not end it.
-        says(&run_unread(&mut shell("trap '' PIPE; exec \"$0\""), text), UNWRITTEN, "Broken pipe");
         let run = run_command(shell("exec \"$0\" >&-").stdout(Stdio::null()), text);
-        says(&run, UNWRITTEN, "Bad file descriptor");
+        says(&run, UNWRITTEN, "Bad file descriptor (os error 9)");
         let full = File::options().write(true).open("/dev/full").expect("a full device");
-        says(&run_command(Command::new(path()).stdout(full), text), UNWRITTEN, "No space left on device");
+        let run = run_command(Command::new(path()).stdout(full), text);
+        says(&run, UNWRITTEN, "No space left on device (os error 28)");
     }
 }
 
 #[test]
 fn a_reader_may_stop_after_some_lines() {
     let run = run_command(shell("\"$0\" | head -n 3").stdout(Stdio::piped()), &long());
-    ends_quietly(&run);
+    // The status is that of head.
+    ends_quietly(&run, Some(0));
     let answer = plain::text::answer(&long());
     let three: Vec<u8> = answer.split_inclusive(|&byte| byte == b'\n').take(3).flatten().copied().collect();
     assert_eq!(run.printed, three);
