@@ -2,7 +2,7 @@
  * judgements and a summary, as the command `contour inspect OUTLINE POINTS` does. Build and run it at the root of the
  * repository by
  *
- *     rt staticlib contour
+ *     bash tools/archive
  *     cc -std=c99 -Iinclude examples/inspect.c target/staticlib/libcontour.a -o target/inspect
  *     target/inspect examples/outline.txt examples/points.txt
  *

@@ -9,7 +9,7 @@
  *
  * At the root of the repository the library is made, and a program is linked with it, by
  *
- *     rt staticlib contour
+ *     bash tools/archive
  *     cc -std=c99 -Iinclude program.c target/staticlib/libcontour.a -o program
  *
  * or, where it is installed (bash install PREFIX), by
