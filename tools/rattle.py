@@ -43,7 +43,11 @@ def programs(text):
 
 def function_at(file, text, line):
     """The function that stands at this line of a source, as its folder in proofs/ names it."""
-    lines = text.split("\n")[:line]
+    lines = text.split("\n")
+    # (an item begins at its attributes)
+    while line < len(lines) and re.match(r" *#\[", lines[line - 1]):
+        line += 1
+    lines = lines[:line]
     module = "" if file in ("src/lib.rt", "src/main.rt") else file[len("src/") : -len(".rt")] + "/"
     for k in range(len(lines) - 1, -1, -1):
         it = re.match(r"( *)(?:pub )?(?:unsafe )?(?:extern \"C\" )?fn (\w+)", lines[k])
