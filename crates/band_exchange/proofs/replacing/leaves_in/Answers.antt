@@ -21,7 +21,7 @@ overflow_cast-result c =
       arith,
       c.spot-spot.ensures,
       alone_node a.m a.t (curve_at a.curve.now 0) 1 c.in-Refused.refusal (refused (goal.at.overflow_cast-result c).In-Refused)
-      (sym c.number.ensures ∙ c.if-number-eq7.true),
+          (sym c.number.ensures ∙ c.if-number-eq7.true),
     )
 
 pub returns-then-number-eq7 : goal.returns-then-number-eq7
