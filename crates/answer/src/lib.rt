@@ -31,14 +31,15 @@ fn answer_in(text: &[u8], numbers: &mut [i32], records: &mut [i32], out: &mut [u
     requires { (577 ≤ length numbers.old) × (records.old ≡ replicate lent (pos 0)) × (243100 ≤ length out.old) }
     ensures { PutWithin out.old 0 243100 (answer_of text.now) out.new result }
 {
-    let band = band_text(text, numbers, records);
-    match band {
-        Banded::Refused(refusal) => write_lines::render::put_refused(out, 0, refusal),
-        Banded::Done {
-            curves,
-            leaves,
-            nodes,
-        } => {
+    match band_text(text, numbers, records) {
+        Err(refusal) => write_lines::render::put_refused(out, 0, refusal),
+        Ok(
+            Banded {
+                curves,
+                leaves,
+                nodes,
+            },
+        ) => {
             let at = put_band(curves, leaves, nodes, records, out);
             put_points(text, &records[..18 * leaves], out, at)
         }

@@ -6,7 +6,6 @@ ghost use Rattle.write_numbers.specs.Appends.{PutWithin};
 ghost use Rattle.text_lines.specs.Lines.{lines_of, gather};
 ghost use Rattle.text_answers.specs.{Points.{point_answer}, Inside.{LeavesFine, line_answer}};
 
-use judge::judging::Judgement;
 use text_forms::forms::Form;
 
 // The line of one point. The leaves passed their checks when they were written.
@@ -15,9 +14,9 @@ fn put_point(leaves: &[i32], x: i32, y: i32, out: &mut [u8], at: usize) -> usize
     ensures { PutWithin out.old at 52 (point_answer leaves.now x y) out.new result }
 {
     match judge::judge_point(leaves, 3, x, y) {
-        Judgement::On { leaf, cover } => write_lines::render::put_on(out, at, leaf, cover),
-        Judgement::Off => write_lines::render::put_off(out, at),
-        Judgement::Refused(refusal) => write_lines::render::put_refused(out, at, refusal),
+        Ok(Some(holder)) => write_lines::render::put_on(out, at, holder.leaf, holder.cover),
+        Ok(None) => write_lines::render::put_off(out, at),
+        Err(refusal) => write_lines::render::put_refused(out, at, refusal),
     }
 }
 
@@ -28,15 +27,10 @@ pub fn put_points(text: &[u8], leaves: &[i32], out: &mut [u8], from: usize) -> u
         (gather (line_answer leaves.now) (lines_of text.now)) out.new result }
 {
     let mut at = from;
-    let mut i: usize = 0;
-    while i < text.len() {
-        match text_reader::line_from(text, i) {
-            Form::NoForm => {
-                return at;
-            }
-            Form::Tolerance(_, next) | Form::Curve(_, next) => {
-                i = next;
-            }
+    let mut i = 0;
+    while let Some(form) = text_reader::line_from(text, i) {
+        match form {
+            Form::Tolerance(_, next) | Form::Curve(_, next) => i = next,
             Form::Point(x, y, next) => {
                 at = put_point(leaves, x, y, out, at);
                 i = next;

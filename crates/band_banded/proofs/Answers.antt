@@ -6,11 +6,9 @@ use mathlib.Core.Option.{Option, none, some}
 use Prim.Native.Nat.{ℕ, zero, suc, ◌+◌, ◌-◌, ◌*◌, ◌/◌, ◌^◌, ◌≤◌, ◌<◌}
 use native.Mathlib.Nat.{zero-add, mul-le-mul, le_refl, le_trans, le_of_eq, mul-div-le, mul-div_cancel_left}
 use native.Mathlib.Omega.{arith}
-use borrow.Author.Tests.{lt-ltb, le-ltb}
 use lib.ListN.{length, drop}
 use lib.Seq.{sets, sets-eq}
 use lib.IntN.{ℤ, nat_abs}
-use lib.Ieee.{Float}
 use Rattle.integers.specs.Entry.{entry}
 use Rattle.setting.specs.Setting.{Setting, lists_of, relimited, pieces_fine, record_length}
 use Rattle.setting.proofs.Pieces.{degree_takes}
@@ -25,22 +23,20 @@ use Rattle.outline_binary64.specs.Lists.{wholes, outlined_binary64}
 use Rattle.outline_binary64.proofs.Named.{whole_curves}
 use Rattle.outline_splines.specs.Splines.{spline_at, splines_from, spline_count, splined}
 use Rattle.outline_splines.proofs.Accepted.{spline_sized, spline_degree, accepted, splines_count, splines_most}
-use Rattle.outline.specs.declared.Checked.TheVariants.{Curves, Faulty}
 use Rattle.outline.specs.Checks.{Outlined, tolerance_fine, curves, outline_from, outlined}
 use Rattle.outline.specs.Inside.{checked_of}
 use Rattle.outline.proofs.Accepted.{checked_curves, checked_refused, outlined_from, accepted_most, accepted_head, accepted_within}
 use Rattle.band_banded.specs.declared.banding.Banded.{Banded}
-use Rattle.band_banded.specs.declared.banding.Banded.TheVariants.{Done, Refused}
-use Rattle.band_passes.specs.declared.passes.Counted.{Counted}
-use Rattle.band_passes.specs.declared.passes.Counted.TheVariants.{Total, Stopped}
-use Rattle.walk_curve.specs.Walked.{ends_of}
-use Rattle.band_records.specs.Records.{records_of, all_records}
-use Rattle.band_passes.specs.declared.forms.Form.{Form}
-use Rattle.band_passes.specs.declared.forms.Form.TheVariants.{Outline, Binary64, Spline}
-use Rattle.band_passes.specs.Leaves.{first_too_wide, leaves_of, nodes_of}
+use Rattle.std.specs.Prelude.{Result, Ok, Err}
+use Rattle.band_banded.specs.Banding.{done}
+use Rattle.band_records.specs.Records.{all_records}
+use Rattle.band_passes.specs.declared.forms.CurveList.{CurveList}
+use Rattle.band_passes.specs.declared.forms.CurveList.TheVariants as Given
+use Rattle.band_passes.specs.Forms.{Form, Outline, Binary64, Spline}
+use Rattle.band_passes.specs.Leaves.{first_too_wide, leaves_of}
 use Rattle.band_banded.specs.Banding.{band_curves, written_by, band_given, written_given}
 use Rattle.band_banded.specs.Inside.{given_of, setting_for}
-use Rattle.band_passes.specs.Inside.{numbers_of, read_at, next_of, curves_from, curves_in, AllWalkable, end, more, Readable, counted_of, Fillable}
+use Rattle.band_passes.specs.Inside.{form_of, numbers_of, read_at, next_of, curves_from, curves_in, AllWalkable, end, more, Readable, counted_of, Fillable}
 use Rattle.band_passes.proofs.Reading.{curves_count}
 use Rattle.band_passes.proofs.Counting.{nodes_of_curves, few_leaves}
 use Rattle.band_room.specs.Inside.{Fits}
@@ -48,14 +44,14 @@ use Rattle.band_passes.specs.FirstWide.{AllMeet}
 use Rattle.band_passes.proofs.Among.{all_records_length}
 use Rattle.band_passes.proofs.Wide.{none_wide}
 use Rattle.band_banded.proofs.Cases.{many_said, few_said, done_said}
-use Rattle.band_banded.proofs.ByPieces.{listed, all_records_same, counted_same, band_curves_same}
+use Rattle.band_banded.proofs.ByPieces.{counted, listed, all_records_same, counted_same, band_curves_same}
 
 -- ---- what the first pass says
-counted_leaves : (o : Option Refusal) (l m : ℕ) → Total m ≡ elim o [ some r ↦ Stopped r | none ↦ Total l ] → (o ≡ none) × (m ≡ l)
+counted_leaves : (o : Option Refusal) (l m : ℕ) → Ok m ≡ counted o l → (o ≡ none) × (m ≡ l)
 counted_leaves none l m e = (refl, cc)
 counted_leaves (some r) l m e = let z : ◌≡◌ {A = ℕ} 0 1 = cc in absurd (omega arith)
 
-counted_stopped : (o : Option Refusal) (l : ℕ) (r : Refusal) → Stopped r ≡ elim o [ some q ↦ Stopped q | none ↦ Total l ] → o ≡ some r
+counted_stopped : (o : Option Refusal) (l : ℕ) (r : Refusal) → Err r ≡ counted o l → o ≡ some r
 counted_stopped none l r e = let z : ◌≡◌ {A = ℕ} 0 1 = cc in absurd (omega arith)
 counted_stopped (some q) l r e = cc
 
@@ -69,18 +65,18 @@ numbers_few {m} few less = mul-le-mul {n₁ = 6 + 4 * m} {n₂ = 38} (omega (ari
 
 -- ---- 7, 19, 8 and the report; the first pass knows the pieces alone
 module _ (σ : Setting) (T : ℤ) (cs : List Curve) where
-  own_count : {c : Counted} → c ≡ counted_of (listed σ) T cs → c ≡ counted_of σ T cs
+  own_count : {c : Result ℕ Refusal} → c ≡ counted_of (listed σ) T cs → c ≡ counted_of σ T cs
   own_count e = e ∙ sym (counted_same σ (listed σ).most (listed σ).leaves T cs)
 
-  leaves_counted : {m : ℕ} → Total m ≡ counted_of (listed σ) T cs → (first_too_wide σ T 0 cs ≡ none) × (m ≡ leaves_of σ T cs)
+  leaves_counted : {m : ℕ} → Ok m ≡ counted_of (listed σ) T cs → (first_too_wide σ T 0 cs ≡ none) × (m ≡ leaves_of σ T cs)
   unfolding counted_of
   leaves_counted {m} e = counted_leaves (first_too_wide σ T 0 cs) (leaves_of σ T cs) m (own_count e)
 
-  pub answer_too_wide : {r : Refusal} (room : ℕ) → Stopped r ≡ counted_of (listed σ) T cs → Refused r ≡ band_curves σ T cs room
+  pub answer_too_wide : {r : Refusal} (room : ℕ) → Err r ≡ counted_of (listed σ) T cs → Err r ≡ band_curves σ T cs room
   unfolding counted_of band_curves
   answer_too_wide {r} room e = rw (counted_stopped (first_too_wide σ T 0 cs) (leaves_of σ T cs) r (own_count e))
 
-  module _ {m : ℕ} (e : Total m ≡ counted_of (listed σ) T cs) where
+  module _ {m : ℕ} (e : Ok m ≡ counted_of (listed σ) T cs) where
     pub answer_few : length cs ≤ 65536 → m ≤ 2 ^ 24
     answer_few h = omega (arith, (leaves_counted e).1, few_leaves σ T cs)
 
@@ -90,18 +86,18 @@ module _ (σ : Setting) (T : ℤ) (cs : List Curve) where
     met : AllMeet σ T cs
     met = (none_wide σ T 0 cs).0 (leaves_counted e).0
 
-    pub answer_too_many : (room : ℕ) → σ.leaves < m → Refused (TooManyLeaves m) ≡ band_curves σ T cs room
+    pub answer_too_many : (room : ℕ) → σ.leaves < m → Err (TooManyLeaves m) ≡ band_curves σ T cs room
     answer_too_many room h =
         let w = (leaves_counted e).1 in sym (many_said σ T cs room (record { meet = met; more = omega (arith, w); leaves = sym w }))
 
     module _ (taken : m ≤ σ.leaves) where
-      pub answer_too_few : {room : ℕ} → room < record_length σ * m → Refused (TooFewRecords m) ≡ band_curves σ T cs room
+      pub answer_too_few : {room : ℕ} → room < record_length σ * m → Err (TooFewRecords m) ≡ band_curves σ T cs room
       answer_too_few {room} h =
           let w = (leaves_counted e).1 in
           let short : room < record_length σ * leaves_of σ T cs = omega (arith, ap (λ n. record_length σ * n) w) in
           sym (few_said σ T cs room (record { meet = met; taken = omega (arith, w); short = short; leaves = sym w }))
 
-      answer_done : {room : ℕ} → record_length σ * m ≤ room → Done (length cs) m (2 * m - length cs) ≡ band_curves σ T cs room
+      answer_done : {room : ℕ} → record_length σ * m ≤ room → done (length cs) m (2 * m - length cs) ≡ band_curves σ T cs room
       answer_done {room} h =
           let w = (leaves_counted e).1 in
           sym (done_said σ T cs room (record {
@@ -124,35 +120,35 @@ module _ (σ : Setting) {f : Form} {ns : List ℤ} {n : ℕ} (r : Readable σ f 
   pub read_count : length (curves_in f ns n) ≡ n
   read_count = curves_count (read_at f ns) (next_of f ns) n 0
 
-  pub fillable : (T : ℤ) {m room : ℕ} → Total m ≡ counted_of (listed σ) T (curves_in f ns n) → record_length σ * m ≤ room → Fillable σ T f ns n room
+  pub fillable : (T : ℤ) {m room : ℕ} → Ok m ≡ counted_of (listed σ) T (curves_in f ns n) → record_length σ * m ≤ room → Fillable σ T f ns n room
   fillable T e h =
       let w = leaves_counted σ T (curves_in f ns n) e in
       record { readable = r; passing = w.0; enough = omega (arith, h, ap (λ n. record_length σ * n) w.1) }
 
-  pub report_done : (limit : ℕ) (T : ℤ) {m room : ℕ} → Total m ≡ counted_of (listed σ) T (curves_in f ns n) → m ≤ limit
-      → record_length σ * m ≤ room → Done n m (2 * m - n) ≡ band_curves (relimited σ n limit) T (curves_in f ns n) room
+  pub report_done : (limit : ℕ) (T : ℤ) {m room : ℕ} → Ok m ≡ counted_of (listed σ) T (curves_in f ns n) → m ≤ limit
+      → record_length σ * m ≤ room → done n m (2 * m - n) ≡ band_curves (relimited σ n limit) T (curves_in f ns n) room
   report_done limit T {m} {room} e taken h =
       let cs = curves_in f ns n in
       let τ = relimited σ n limit in
-      subst (λ k. Done k m (2 * m - k) ≡ band_curves τ T cs room) read_count (answer_done τ T cs e taken h)
+      subst (λ k. done k m (2 * m - k) ≡ band_curves τ T cs room) read_count (answer_done τ T cs e taken h)
 
 -- where no leaf is too wide, the first pass counts them all
-pub all_counted : (σ : Setting) (T : ℤ) (cs : List Curve) → first_too_wide σ T 0 cs ≡ none → Total (leaves_of σ T cs) ≡ counted_of σ T cs
+pub all_counted : (σ : Setting) (T : ℤ) (cs : List Curve) → first_too_wide σ T 0 cs ≡ none → Ok (leaves_of σ T cs) ≡ counted_of σ T cs
 unfolding counted_of
-all_counted σ T cs e = sym (ap (λ (o : Option Refusal). elim o [ some r ↦ Stopped r | none ↦ Total (leaves_of σ T cs) ]) e)
+all_counted σ T cs e = sym (ap (λ o. counted o (leaves_of σ T cs)) e)
 
-total_counted : (σ : Setting) (T : ℤ) (cs : List Curve) {n : ℕ} → Total n ≡ counted_of σ T cs → (first_too_wide σ T 0 cs ≡ none) × (n ≡ leaves_of σ T cs)
+total_counted : (σ : Setting) (T : ℤ) (cs : List Curve) {n : ℕ} → Ok n ≡ counted_of σ T cs → (first_too_wide σ T 0 cs ≡ none) × (n ≡ leaves_of σ T cs)
 unfolding counted_of
 total_counted σ T cs {n} e = counted_leaves (first_too_wide σ T 0 cs) (leaves_of σ T cs) n e
 
 -- the curves have so many leaves, none too wide, and all have their place: as the first pass counts, or as is sure without it
 pub record Placed (σ : Setting) (T : ℤ) (cs : List Curve) (most room : ℕ) : Type 0 where
-  pub is : Total (leaves_of σ T cs) ≡ counted_of σ T cs
+  pub is : Ok (leaves_of σ T cs) ≡ counted_of σ T cs
   pub taken : leaves_of σ T cs ≤ most
   pub enough : record_length σ * leaves_of σ T cs ≤ room
 
 module _ (σ : Setting) (T : ℤ) (cs : List Curve) {most room : ℕ} where
-  pub placed_counted : {n : ℕ} → Total n ≡ counted_of σ T cs → n ≤ most → record_length σ * n ≤ room → Placed σ T cs most room
+  pub placed_counted : {n : ℕ} → Ok n ≡ counted_of σ T cs → n ≤ most → record_length σ * n ≤ room → Placed σ T cs most room
   placed_counted e h l =
       let w = total_counted σ T cs e in
       record { is = all_counted σ T cs w.0; taken = omega (arith, h, w.1); enough = omega (arith, l, ap (λ n. record_length σ * n) w.1) }
@@ -223,26 +219,30 @@ wholes_read most leaves m ns {n} few cs e count =
     (record { all = w.0; few = omega (arith, few, accepted_most most m ns cs e, count) }, w.1)
 
 -- one law a form
-pub given_read : (f : Form) (most leaves m : ℕ) (ns : List ℤ) (xs : List Float) {n : ℕ} → most ≤ 65536 → Curves n ≡ checked_of (given_of f most m ns xs)
-    → Read (setting_for f most leaves m) f (numbers_of f ns xs) (given_of f most m ns xs) n
-given_read Outline most leaves m ns xs {n} few e =
+pub outline_read : (most leaves m : ℕ) (ns : List ℤ) {n : ℕ} → most ≤ 65536 → Ok n ≡ checked_of (outlined most m ns)
+    → Read (setting_for Outline most leaves m) Outline ns (outlined most m ns) n
+outline_read most leaves m ns {n} few e =
     let a = checked_curves (outlined most m ns) n (sym e) in
     let r = wholes_read most leaves m ns few a.cs a.is a.count in
     record { readable = record { all = outline_walkable r.0.all; few = r.0.few }; is = a.is ∙ ap curves r.1 }
-given_read Binary64 most leaves m ns xs {n} few e =
-    let a = checked_curves (outlined_binary64 most m xs) n (sym e) in
-    let r = wholes_read most leaves m (wholes xs) few a.cs (whole_curves most m xs a.cs a.is) a.count in
+
+pub given_read : (l : CurveList) (most leaves m : ℕ) {n : ℕ} → most ≤ 65536 → Ok n ≡ checked_of (given_of l most m)
+    → Read (setting_for (form_of l) most leaves m) (form_of l) (numbers_of l) (given_of l most m) n
+given_read (Given.Outline ns) most leaves m few e = outline_read most leaves m ns.now few e
+given_read (Given.Binary64 xs) most leaves m {n} few e =
+    let a = checked_curves (outlined_binary64 most m xs.now) n (sym e) in
+    let r = wholes_read most leaves m (wholes xs.now) few a.cs (whole_curves most m xs.now a.cs a.is) a.count in
     record { readable = r.0; is = a.is ∙ ap curves r.1 }
-given_read Spline most leaves m ns xs {n} few e =
-    let a = checked_curves (splined ns) n (sym e) in
-    let s = accepted ns a.cs a.is in
-    let count : n ≡ spline_count (length ns) = sym a.count ∙ splines_count s in
+given_read (Given.Spline ns) most leaves m {n} few e =
+    let a = checked_curves (splined ns.now) n (sym e) in
+    let s = accepted ns.now a.cs a.is in
+    let count : n ≡ spline_count (length ns.now) = sym a.count ∙ splines_count s in
     record {
       readable = record {
-        all = spline_walkable m ns s.small n 0 (omega (arith, count, s.fine.even, s.fine.least));
+        all = spline_walkable m ns.now s.small n 0 (omega (arith, count, s.fine.even, s.fine.least));
         few = omega (arith, splines_most s, a.count);
       };
-      is = a.is ∙ ap curves (s.is ∙ ap (λ k. splines_from k ns 0) (sym count) ∙ spline_curves ns n 0);
+      is = a.is ∙ ap curves (s.is ∙ ap (λ k. splines_from k ns.now 0) (sym count) ∙ spline_curves ns.now n 0);
     }
 
 -- ---- banding of what is given
@@ -254,26 +254,26 @@ module _ (σ : Setting) (o : Outlined) (T : ℤ) where
     unfolding band_given
     banded_read room rows h = rw (band_given, rows, h, r.is) (sym (band_curves_same σ n T (curves_in f ns n) room))
 
-    pub written_curves : (l : List ℤ) {l' : List ℤ} (b : Banded) → b ≡ band_given σ T o (length l)
+    pub written_curves : (l : List ℤ) {l' : List ℤ} (b : Result Banded Refusal) → b ≡ band_given σ T o (length l)
         → l' ≡ written_by b (all_records (listed σ) T 0 (curves_in f ns n)) l → l' ≡ written_given σ T o l
     unfolding written_given
     written_curves l b h g = g ∙ rw (h, r.is, all_records_same σ (listed σ).most (listed σ).leaves T 0 (curves_in f ns n))
 
-  pub banded_pieces : (room : ℕ) → pieces_fine σ.pieces ≡ false → Refused Pieces ≡ band_given σ T o room
+  pub banded_pieces : (room : ℕ) → pieces_fine σ.pieces ≡ false → Err Pieces ≡ band_given σ T o room
   unfolding band_given
   banded_pieces room f = rw (band_given, f)
 
-  pub banded_tolerance : (room : ℕ) → pieces_fine σ.pieces ≡ true → tolerance_fine T ≡ false → Refused Tolerance ≡ band_given σ T o room
+  pub banded_tolerance : (room : ℕ) → pieces_fine σ.pieces ≡ true → tolerance_fine T ≡ false → Err Tolerance ≡ band_given σ T o room
   unfolding band_given
   banded_tolerance room rows f = rw (band_given, rows, f)
 
   pub banded_faulty : {r : Refusal} (room : ℕ) → pieces_fine σ.pieces ≡ true → tolerance_fine T ≡ true
-      → Faulty r ≡ checked_of o → Refused r ≡ band_given σ T o room
+      → Err r ≡ checked_of o → Err r ≡ band_given σ T o room
   unfolding band_given
   banded_faulty {r} room rows f e = rw (band_given, rows, f, checked_refused o r (sym e))
 
 -- a refusal alters nothing
-pub written_refused : (σ : Setting) (o : Outlined) (T : ℤ) {r : Refusal} (l : List ℤ) → Refused r ≡ band_given σ T o (length l)
+pub written_refused : (σ : Setting) (o : Outlined) (T : ℤ) {r : Refusal} (l : List ℤ) → Err r ≡ band_given σ T o (length l)
     → l ≡ written_given σ T o l
 unfolding written_given
 written_refused σ o T l e = rw (sym e)

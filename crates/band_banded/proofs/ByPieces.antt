@@ -1,11 +1,12 @@
 -- What banding finds of curves goes by the pieces and the scale of a setting and its limit of leaves; a limit of curves changes nothing of it.
-use mathlib.Core.Path.{◌≡◌, refl, ◌∙◌, ap, ap₂}
+use mathlib.Core.Path.{◌≡◌, refl, ap, ap₂}
 use mathlib.Core.List.{List, [], ◌∷◌, ◌++◌}
 use mathlib.Core.Option.{Option, none, some}
 use Prim.Native.Nat.{ℕ, zero, suc, ◌+◌}
 use lib.ListN.{length}
 use lib.IntN.{ℤ}
 use Rattle.setting.specs.Setting.{Setting, relimited, lists_of, break_points, deepest}
+use Rattle.std.specs.Prelude.{Result, Ok, Err}
 use Rattle.refusals.specs.declared.Refusal.{Refusal}
 use Rattle.refusals.specs.declared.Refusal.TheVariants.{TooWide}
 use Rattle.curve_nodes.specs.declared.Curve.{Curve}
@@ -14,7 +15,6 @@ use Rattle.bound_node.specs.Boxes.{box_at, meets}
 use Rattle.walk_tree.specs.Tree.{met, first_failing}
 use Rattle.walk_curve.specs.Walked.{node_meets, ends_of}
 use Rattle.band_records.specs.Records.{box_numbers, boxes_to, node_numbers, record_of, records_of, all_records}
-use Rattle.band_passes.specs.declared.passes.Counted.TheVariants.{Total, Stopped}
 use Rattle.band_passes.specs.Leaves.{first_too_wide, leaves_of, nodes_of}
 use Rattle.band_passes.specs.Inside.{counted_of}
 use Rattle.band_banded.specs.Banding.{answer_for, band_curves}
@@ -22,6 +22,10 @@ use Rattle.band_banded.specs.Banding.{answer_for, band_curves}
 -- a caller who gives lists, with the same pieces and scale
 abbrev pub listed : Setting → Setting
 listed σ = lists_of σ.pieces σ.sixths
+
+-- what the first pass finds, from the first node that is too wide and the number of leaves
+abbrev pub counted : Option Refusal → ℕ → Result ℕ Refusal
+counted o l = elim o [ some r ↦ Err r | none ↦ Ok l ]
 
 -- any other setting of the same pieces and scale
 module _ (σ : Setting) (most leaves : ℕ) where
@@ -64,7 +68,7 @@ module _ (σ : Setting) (most leaves : ℕ) where
 
     pub counted_same : (cs : List Curve) → counted_of σ T cs ≡ counted_of other T cs
     unfolding counted_of
-    counted_same cs = ap₂ (λ o l. elim o [ some r ↦ Stopped r | none ↦ Total l ]) (wide_same 0 cs) (leaves_same cs)
+    counted_same cs = ap₂ counted (wide_same 0 cs) (leaves_same cs)
 
 -- the answer reads the limit of leaves and the pieces alone
 answer_same : (σ : Setting) (most room : ℕ) (o : Option Refusal) (n l k : ℕ)

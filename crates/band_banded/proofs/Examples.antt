@@ -6,23 +6,24 @@ use Prim.Native.Nat.{ℕ}
 use lib.ListN.{replicate}
 use lib.IntN.{ℤ, pos}
 use Rattle.setting.specs.Setting.{standard, lists, limited}
+use Rattle.refusals.specs.declared.Refusal.{Refusal}
 use Rattle.refusals.specs.Refusals.{number_of, spot_of}
 use Rattle.band_banded.specs.declared.banding.Banded.{Banded}
-use Rattle.band_banded.specs.declared.banding.Banded.TheVariants.{Done, Refused}
-use Rattle.band_banded.specs.Banding.{banded, written, banded_spline, written_spline}
+use Rattle.std.specs.Prelude.{Result, Ok, Err}
+use Rattle.band_banded.specs.Banding.{done, banded, written, banded_spline, written_spline}
 use Rattle.band_banded.proofs.Computing.{computing}
 
 -- in the standard setting
-abbrev answer : ℤ → List ℤ → ℕ → Banded
+abbrev answer : ℤ → List ℤ → ℕ → Result Banded Refusal
 answer T ns room = banded standard T ns room
 
 abbrev lent : ℤ → List ℤ → List ℤ → List ℤ
 lent T ns old = written standard T ns old
 
 -- number and spot of a refusal
-abbrev refusal : Banded → ℕ × ℕ
-refusal (Refused r) = (number_of r, spot_of r)
-refusal (Done a b c) = (0, 0)
+abbrev refusal : Result Banded Refusal → ℕ × ℕ
+refusal (Err r) = (number_of r, spot_of r)
+refusal (Ok b) = (0, 0)
 
 -- the numbers of a box
 abbrev box : (a b c d : ℕ) → List ℤ
@@ -77,7 +78,7 @@ pub wide_before_many : refusal (banded (limited 64 1 3) (pos 2) (pos 1 ∷ pos 0
 unfolding computing
 wide_before_many = refl
 
-pub as_many_as_taken : banded (limited 64 3 3) (pos 2) three_lines 54 ≡ Done 3 3 3
+pub as_many_as_taken : banded (limited 64 3 3) (pos 2) three_lines 54 ≡ done 3 3 3
 unfolding computing
 as_many_as_taken = refl
 

@@ -19,9 +19,9 @@ use Rattle.refusals.specs.Refusals.{number_of, spot_of}
 use Rattle.curve_nodes.specs.declared.Curve.{Curve}
 use Rattle.outline.specs.Curves.{next_at, curve_at}
 use Rattle.outline.specs.Faults.{fault_at}
-use Rattle.outline.proofs.Faultless.{Finding, no_degree, few_pieces, cut_short, beyond, gap, none_found, finding}
+use Rattle.outline.proofs.Faultless.{Finding, no_degree, few_pieces, cut_short, beyond, gap, finding}
 use Rattle.outline.specs.Checks.{Outlined, curves, faulty, tolerance_fine, with_curve, outline_from, outlined}
-use Rattle.band_banded.specs.declared.banding.Banded.TheVariants.{Refused}
+use Rattle.std.specs.Prelude.{Err}
 use Rattle.binary64.specs.Read.{whole_of}
 use Rattle.outline_binary64.specs.Lists.{wholes, outlined_binary64}
 use Rattle.outline_binary64.proofs.Named.{whole_fault}
@@ -132,7 +132,7 @@ module _ (σ : Setting) (T : ℤ) (o : Outlined) (room : ℕ) where
   banded_curves cs f = rw (f.pieces, f.tolerance, f.outline, band_given)
 
   pub faultless_or : ((r : Refusal) → o ≡ faulty r → Early r)
-      → ((cs : List Curve) × Clear σ T o cs) ⊎ ((r : Refusal) × (band_given σ T o room ≡ Refused r) × Early r)
+      → ((cs : List Curve) × Clear σ T o cs) ⊎ ((r : Refusal) × (band_given σ T o room ≡ Err r) × Early r)
   unfolding band_given
   faultless_or early = ⊎_elim
       (λ rows. ⊎_elim
@@ -143,6 +143,6 @@ module _ (σ : Setting) (T : ℤ) (o : Outlined) (room : ℕ) where
       (either (pieces_fine σ.pieces))
     where
       go : pieces_fine σ.pieces ≡ true → tolerance_fine T ≡ true → (p : Outlined) → o ≡ p
-          → ((cs : List Curve) × Clear σ T o cs) ⊎ ((r : Refusal) × (band_given σ T o room ≡ Refused r) × Early r)
+          → ((cs : List Curve) × Clear σ T o cs) ⊎ ((r : Refusal) × (band_given σ T o room ≡ Err r) × Early r)
       go rows fine (curves cs) e = inl (cs, record { pieces = rows; tolerance = fine; outline = e })
       go rows fine (faulty r) e = inr (r, rw (rows, fine, e, band_given), early r e)

@@ -1,6 +1,6 @@
 -- What every list that banding takes gives where its checks find no fault: some curves, not too many, of the size of an outline's, and of degrees that
 -- take so many pieces. One law for each form of a list; all theorems of banding rest on these alone.
-use mathlib.Core.Path.{◌≡◌, refl, ap, sym, subst}
+use mathlib.Core.Path.{◌≡◌}
 use mathlib.Core.Bool.{true}
 use mathlib.Core.List.{List, Memᴰ}
 use Prim.Native.Nat.{ℕ, ◌≤◌, ◌<◌}

@@ -16,8 +16,8 @@ use Rattle.band_passes.specs.Leaves.{leaves_of, nodes_of}
 use Rattle.band_passes.specs.FirstWide.{AllMeet}
 use Rattle.band_passes.proofs.Counting.{few_leaves}
 use Rattle.band_passes.proofs.Wide.{none_wide}
-use Rattle.band_banded.specs.declared.banding.Banded.TheVariants.{Done, Refused}
-use Rattle.band_banded.specs.Banding.{written_given, banded, written}
+use Rattle.std.specs.Prelude.{Err}
+use Rattle.band_banded.specs.Banding.{done, written_given, banded, written}
 use Rattle.band_banded.specs.Outcomes.{Faultless, Report}
 use Rattle.band_banded.specs.Station.{StationAgrees}
 use Rattle.band_banded.proofs.ByPieces.{listed, all_records_same, wide_same, leaves_same, nodes_same}
@@ -49,7 +49,7 @@ module _ (σ : Setting) (most leaves : ℕ) (T : ℤ) (ns : List ℤ) where
       }
 
   module _ {a b c : ℕ} (few : a ≤ most) (fewer : b ≤ leaves) where
-    pub done_again : (room : ℕ) → banded σ T ns room ≡ Done a b c → banded other T ns room ≡ Done a b c
+    pub done_again : (room : ℕ) → banded σ T ns room ≡ done a b c → banded other T ns room ≡ done a b c
     done_again room e =
         let h = (done_exactly σ T ns room a b c).0 e in
         let r = h.2 in
@@ -60,7 +60,7 @@ module _ (σ : Setting) (most leaves : ℕ) (T : ℤ) (ns : List ℤ) where
           rw (r.curves, r.nodes) at (report_again h.0 {l = b} r.meet r.leaves fewer enough),
         )
 
-    pub written_again : (old : List ℤ) → banded σ T ns (length old) ≡ Done a b c → written σ T ns old ≡ written other T ns old
+    pub written_again : (old : List ℤ) → banded σ T ns (length old) ≡ done a b c → written σ T ns old ≡ written other T ns old
     unfolding written_given
     written_again old e =
         let h = (done_exactly σ T ns (length old) a b c).0 e in
@@ -73,22 +73,22 @@ module _ (σ : Setting) (few : σ.most ≤ (listed σ).most) (T : ℤ) (ns : Lis
   faultless_listed {cs} f =
       faultless_again σ (listed σ).most (listed σ).leaves T ns f (omega (arith, few, accepted_most σ.most σ.pieces ns cs f.outline))
 
-  pub done_listed : (room : ℕ) {a b c : ℕ} → banded σ T ns room ≡ Done a b c → banded (listed σ) T ns room ≡ Done a b c
+  pub done_listed : (room : ℕ) {a b c : ℕ} → banded σ T ns room ≡ done a b c → banded (listed σ) T ns room ≡ done a b c
   done_listed room {a} {b} {c} e =
       let h = done_limits σ T ns room a b c e in
       done_again σ (listed σ).most (listed σ).leaves T ns (omega (arith, few, h.0)) (omega (arith, few, h.0, h.2)) room e
 
-  pub written_listed : (old : List ℤ) {a b c : ℕ} → banded σ T ns (length old) ≡ Done a b c → written σ T ns old ≡ written (listed σ) T ns old
+  pub written_listed : (old : List ℤ) {a b c : ℕ} → banded σ T ns (length old) ≡ done a b c → written σ T ns old ≡ written (listed σ) T ns old
   written_listed old {a} {b} {c} e =
       let h = done_limits σ T ns (length old) a b c e in
       written_again σ (listed σ).most (listed σ).leaves T ns (omega (arith, few, h.0)) (omega (arith, few, h.0, h.2)) old e
 
 -- ---- 19 is neither for lists nor for texts
 module _ (T : ℤ) (ns : List ℤ) (room l : ℕ) where
-  pub lists_never_many : (m : ℕ) → banded (lists m) T ns room ≡ Refused (TooManyLeaves l) → ⊥
+  pub lists_never_many : (m : ℕ) → banded (lists m) T ns room ≡ Err (TooManyLeaves l) → ⊥
   lists_never_many m = never_many (lists m) T ns room (lit≤ tt) l
 
-  pub texts_never_many : banded texts T ns room ≡ Refused (TooManyLeaves l) → ⊥
+  pub texts_never_many : banded texts T ns room ≡ Err (TooManyLeaves l) → ⊥
   texts_never_many = never_many texts T ns room (lit≤ tt) l
 
 -- ---- 19 of the station, and lists that have room for its leaves
@@ -96,8 +96,8 @@ module _ (m : ℕ) (T : ℤ) (ns : List ℤ) (room l : ℕ) where
   abbrev room_for : ℕ
   room_for = record_length (lists m) * l
 
-  many_listed : banded (station m) T ns room ≡ Refused (TooManyLeaves l)
-      → (a : ℕ) × (c : ℕ) × (banded (lists m) T ns room_for ≡ Done a l c) × (a ≤ 64) × (128 < l)
+  many_listed : banded (station m) T ns room ≡ Err (TooManyLeaves l)
+      → (a : ℕ) × (c : ℕ) × (banded (lists m) T ns room_for ≡ done a l c) × (a ≤ 64) × (128 < l)
   many_listed e =
       let h = (many_exactly (station m) T ns room l).0 e in
       let cs = h.0 in
@@ -111,7 +111,7 @@ module _ (m : ℕ) (T : ℤ) (ns : List ℤ) (room l : ℕ) where
         omega (arith, h.2.more, h.2.leaves),
       )
 
-  listed_many : (a c : ℕ) → banded (lists m) T ns room_for ≡ Done a l c → a ≤ 64 → 128 < l → banded (station m) T ns room ≡ Refused (TooManyLeaves l)
+  listed_many : (a c : ℕ) → banded (lists m) T ns room_for ≡ done a l c → a ≤ 64 → 128 < l → banded (station m) T ns room ≡ Err (TooManyLeaves l)
   listed_many a c e few more =
       let h = (done_exactly (lists m) T ns room_for a l c).0 e in
       let same = sym (leaves_same (lists m) 64 128 T h.0) ∙ h.2.leaves in

@@ -17,7 +17,8 @@ use Rattle.curve_nodes.specs.Bounds.{Sized}
 use Rattle.curve_nodes.specs.Nodes.{depth, start}
 use Rattle.outline.specs.Checks.{Outlined, outlined}
 use Rattle.band_banded.specs.declared.banding.Banded.{Banded}
-use Rattle.band_banded.specs.declared.banding.Banded.TheVariants.{Done, Refused}
+use Rattle.std.specs.Prelude.{Result, Err}
+use Rattle.band_banded.specs.Banding.{done}
 use Rattle.walk_tree.specs.Leaves.{Leaf, Spans, EndToEnd}
 use Rattle.walk_curve.specs.Walked.{node_meets, ends_of}
 use Rattle.band_records.specs.Records.{all_records}
@@ -43,51 +44,51 @@ use Rattle.band_banded.proofs.Cases.{wide_said, many_said, few_said, done_said, 
 -- ---- the answer of banding, behind the checks before the walk
 module _ (σ : Setting) (T : ℤ) {o : Outlined} (given : Given σ o) (room : ℕ) where
   -- an answer that is no refusal of these is the answer for the curves given
-  of_curves : {v : Banded} → ((r : Refusal) → Early r → Refused r ≡ v → ⊥) → band_given σ T o room ≡ v
+  of_curves : {v : Result Banded Refusal} → ((r : Refusal) → Early r → Err r ≡ v → ⊥) → band_given σ T o room ≡ v
       → (cs : List Curve) × Clear σ T o cs × (band_curves σ T cs room ≡ v)
   of_curves late e = ⊎_elim
       (λ f. (f.0, f.1, sym (banded_curves σ T o room f.0 f.1) ∙ e))
       (λ r. absurd (late r.0 r.2 (sym r.1 ∙ e)))
       (faultless_or σ T o room given.early)
 
-  refused_is : {q r : Refusal} → Refused q ≡ Refused r → number_of q ≡ number_of r
+  refused_is : {q r : Refusal} → ◌≡◌ {A = Result Banded Refusal} (Err q) (Err r) → number_of q ≡ number_of r
   refused_is e = cc
 
-  not_done : {q : Refusal} {a b c : ℕ} → Refused q ≡ Done a b c → ⊥
+  not_done : {q : Refusal} {a b c : ℕ} → Err q ≡ done a b c → ⊥
   not_done e = let z : ◌≡◌ {A = ℕ} 0 1 = cc in omega arith
 
-  pub wide_given : (k n : ℕ) → (band_given σ T o room ≡ Refused (TooWide k n)) ↔ ((cs : List Curve) × Clear σ T o cs × FirstWide σ T 0 cs k n)
+  pub wide_given : (k n : ℕ) → (band_given σ T o room ≡ Err (TooWide k n)) ↔ ((cs : List Curve) × Clear σ T o cs × FirstWide σ T 0 cs k n)
   wide_given k n = (
     λ e. let h = of_curves (λ q l f. l.not_wide (refused_is f)) e in (h.0, h.1, said_wide σ T h.0 room k n h.2),
     λ h. banded_curves σ T o room h.0 h.1 ∙ wide_said σ T h.0 room h.2,
   )
 
-  pub many_given : (l : ℕ) → (band_given σ T o room ≡ Refused (TooManyLeaves l)) ↔ ((cs : List Curve) × Clear σ T o cs × Many σ T cs l)
+  pub many_given : (l : ℕ) → (band_given σ T o room ≡ Err (TooManyLeaves l)) ↔ ((cs : List Curve) × Clear σ T o cs × Many σ T cs l)
   many_given l = (
     λ e. let h = of_curves (λ q m f. m.not_many (refused_is f)) e in (h.0, h.1, said_many σ T h.0 room l h.2),
     λ h. banded_curves σ T o room h.0 h.1 ∙ many_said σ T h.0 room h.2,
   )
 
   -- where a curve's 256 leaves are always taken, there are never too many
-  pub never_many_given : 256 * σ.most ≤ σ.leaves → (l : ℕ) → band_given σ T o room ≡ Refused (TooManyLeaves l) → ⊥
+  pub never_many_given : 256 * σ.most ≤ σ.leaves → (l : ℕ) → band_given σ T o room ≡ Err (TooManyLeaves l) → ⊥
   never_many_given all l e =
       let h = (many_given l).0 e in
       omega (arith, h.2.more, few_leaves σ T h.0, (given.taken h.0 h.1.outline).most)
 
-  pub few_given : (l : ℕ) → (band_given σ T o room ≡ Refused (TooFewRecords l)) ↔ ((cs : List Curve) × Clear σ T o cs × Few σ T cs room l)
+  pub few_given : (l : ℕ) → (band_given σ T o room ≡ Err (TooFewRecords l)) ↔ ((cs : List Curve) × Clear σ T o cs × Few σ T cs room l)
   few_given l = (
     λ e. let h = of_curves (λ q m f. m.not_few (refused_is f)) e in (h.0, h.1, said_few σ T h.0 room l h.2),
     λ h. banded_curves σ T o room h.0 h.1 ∙ few_said σ T h.0 room h.2,
   )
 
-  pub done_given : (a b c : ℕ) → (band_given σ T o room ≡ Done a b c) ↔ ((cs : List Curve) × Clear σ T o cs × Report σ T cs room a b c)
+  pub done_given : (a b c : ℕ) → (band_given σ T o room ≡ done a b c) ↔ ((cs : List Curve) × Clear σ T o cs × Report σ T cs room a b c)
   done_given a b c = (
     λ e. let h = of_curves (λ q l f. not_done f) e in (h.0, h.1, said_done σ T h.0 room a b c h.2),
     λ h. banded_curves σ T o room h.0 h.1 ∙ done_said σ T h.0 room h.2,
   )
 
   -- no more curves and leaves than the setting takes, and no more leaves than 256 a curve
-  pub limits_given : (a b c : ℕ) → band_given σ T o room ≡ Done a b c → (a ≤ σ.most) × (b ≤ σ.leaves) × (b ≤ 256 * a)
+  pub limits_given : (a b c : ℕ) → band_given σ T o room ≡ done a b c → (a ≤ σ.most) × (b ≤ σ.leaves) × (b ≤ 256 * a)
   limits_given a b c e =
       let h = (done_given a b c).0 e in
       let r = h.2 in (
@@ -97,7 +98,7 @@ module _ (σ : Setting) (T : ℤ) {o : Outlined} (given : Given σ o) (room : �
       )
 
   -- nodes = 2 × leaves − curves
-  pub nodes_given : (a b c : ℕ) → band_given σ T o room ≡ Done a b c → c + a ≡ 2 * b
+  pub nodes_given : (a b c : ℕ) → band_given σ T o room ≡ done a b c → c + a ≡ 2 * b
   nodes_given a b c e =
       let h = (done_given a b c).0 e in
       let r = h.2 in
@@ -108,7 +109,7 @@ pub faultless_rows : {σ : Setting} {T : ℤ} {o : Outlined} {cs : List Curve} �
 faultless_rows {σ} f = fine_has_rows σ.pieces f.pieces
 
 -- ---- the lent list
-pub unaltered_given : (σ : Setting) (T : ℤ) (o : Outlined) (old : List ℤ) (r : Refusal) → band_given σ T o (length old) ≡ Refused r
+pub unaltered_given : (σ : Setting) (T : ℤ) (o : Outlined) (old : List ℤ) (r : Refusal) → band_given σ T o (length old) ≡ Err r
     → written_given σ T o old ≡ old
 unaltered_given σ T o old r e = sym (written_refused σ o T old (sym e))
 
@@ -150,29 +151,29 @@ module _ (σ : Setting) (T : ℤ) (ns : List ℤ) (room : ℕ) where
   abbrev own : Given σ (outlined σ.most σ.pieces ns)
   own = outline_given σ ns
 
-  pub wide_exactly : (k n : ℕ) → (banded σ T ns room ≡ Refused (TooWide k n)) ↔ ((cs : List Curve) × Faultless σ T ns cs × FirstWide σ T 0 cs k n)
+  pub wide_exactly : (k n : ℕ) → (banded σ T ns room ≡ Err (TooWide k n)) ↔ ((cs : List Curve) × Faultless σ T ns cs × FirstWide σ T 0 cs k n)
   wide_exactly = wide_given σ T own room
 
-  pub many_exactly : (l : ℕ) → (banded σ T ns room ≡ Refused (TooManyLeaves l)) ↔ ((cs : List Curve) × Faultless σ T ns cs × Many σ T cs l)
+  pub many_exactly : (l : ℕ) → (banded σ T ns room ≡ Err (TooManyLeaves l)) ↔ ((cs : List Curve) × Faultless σ T ns cs × Many σ T cs l)
   many_exactly = many_given σ T own room
 
-  pub never_many : 256 * σ.most ≤ σ.leaves → (l : ℕ) → banded σ T ns room ≡ Refused (TooManyLeaves l) → ⊥
+  pub never_many : 256 * σ.most ≤ σ.leaves → (l : ℕ) → banded σ T ns room ≡ Err (TooManyLeaves l) → ⊥
   never_many = never_many_given σ T own room
 
-  pub few_exactly : (l : ℕ) → (banded σ T ns room ≡ Refused (TooFewRecords l)) ↔ ((cs : List Curve) × Faultless σ T ns cs × Few σ T cs room l)
+  pub few_exactly : (l : ℕ) → (banded σ T ns room ≡ Err (TooFewRecords l)) ↔ ((cs : List Curve) × Faultless σ T ns cs × Few σ T cs room l)
   few_exactly = few_given σ T own room
 
-  pub done_exactly : (a b c : ℕ) → (banded σ T ns room ≡ Done a b c) ↔ ((cs : List Curve) × Faultless σ T ns cs × Report σ T cs room a b c)
+  pub done_exactly : (a b c : ℕ) → (banded σ T ns room ≡ done a b c) ↔ ((cs : List Curve) × Faultless σ T ns cs × Report σ T cs room a b c)
   done_exactly = done_given σ T own room
 
-  pub done_limits : (a b c : ℕ) → banded σ T ns room ≡ Done a b c → (a ≤ σ.most) × (b ≤ σ.leaves) × (b ≤ 256 * a)
+  pub done_limits : (a b c : ℕ) → banded σ T ns room ≡ done a b c → (a ≤ σ.most) × (b ≤ σ.leaves) × (b ≤ 256 * a)
   done_limits = limits_given σ T own room
 
-  pub nodes_reported : (a b c : ℕ) → banded σ T ns room ≡ Done a b c → c + a ≡ 2 * b
+  pub nodes_reported : (a b c : ℕ) → banded σ T ns room ≡ done a b c → c + a ≡ 2 * b
   nodes_reported = nodes_given σ T own room
 
 module _ (σ : Setting) (T : ℤ) (ns old : List ℤ) where
-  pub refused_unaltered : (r : Refusal) → banded σ T ns (length old) ≡ Refused r → written σ T ns old ≡ old
+  pub refused_unaltered : (r : Refusal) → banded σ T ns (length old) ≡ Err r → written σ T ns old ≡ old
   refused_unaltered = unaltered_given σ T (outlined σ.most σ.pieces ns) old
 
   module _ {cs : List Curve} {a b c : ℕ} (f : Faultless σ T ns cs) (r : Report σ T cs (length old) a b c) where

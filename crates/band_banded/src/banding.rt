@@ -1,13 +1,9 @@
-// The answer of banding.
-use refusals::Refusal;
+// The answer of banding: this report, or the first fault as a refusal.
 
-// What banding answers: the report, or the first fault.
+// What banding reports.
 #[derive(Clone, Copy)]
-pub enum Banded {
-    Done {
-        curves: usize,
-        leaves: usize,
-        nodes: usize,
-    },
-    Refused(Refusal),
+pub struct Banded {
+    pub curves: usize,
+    pub leaves: usize,
+    pub nodes: usize,
 }

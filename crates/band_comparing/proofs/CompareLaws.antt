@@ -10,8 +10,10 @@ use native.Mathlib.Omega.{arith}
 use lib.ListN.{length, take, drop, take-append-drop}
 use lib.Seq.{take_all, length-take-le}
 use lib.IntN.{ℤ}
+use Rattle.std.specs.Prelude.{Result, Ok, Err}
 use Rattle.setting.specs.Setting.{Setting, record_length}
 use Rattle.integers.proofs.Clash.{clash}
+use Rattle.refusals.specs.declared.Refusal.{Refusal}
 use Rattle.refusals.specs.declared.Refusal.TheVariants.{TooWide}
 use Rattle.curve_nodes.specs.declared.Curve.{Curve}
 use Rattle.outline.specs.Curves.{next_at}
@@ -22,37 +24,42 @@ use Rattle.walk_curve.specs.Walked.{node_meets, ends_of}
 use Rattle.band_records.specs.Records.{records_of, all_records}
 use Rattle.band_passes.specs.Leaves.{first_too_wide, leaves_of}
 use Rattle.band_passes.specs.Inside.{read_at, next_of, curves_in, Readable}
-use Rattle.band_passes.specs.declared.forms.Form.TheVariants.{Outline}
+use Rattle.band_passes.specs.Forms.{Outline}
 use Rattle.band_passes.proofs.Reading.{curves_count, Rest, rest_of, rest_start, rest_begins, rest_next}
 use Rattle.band_passes.specs.FirstWide.{AllMeet}
 use Rattle.band_passes.proofs.Wide.{wide_later, wide_here, none_wide, behind}
 use Rattle.band_passes.proofs.Among.{all_records_length, records_among, leaves_among}
 use Rattle.band_passes.proofs.Counting.{few_leaves}
-use Rattle.band_comparing.specs.declared.Seen.TheVariants.{WideNode, Upto}
+use Rattle.band_comparing.specs.declared.Seen.{Seen}
 use Rattle.band_comparing.specs.declared.Stand.{Stand}
-use Rattle.band_comparing.specs.declared.Compared.TheVariants.{Stopped, Through}
+use Rattle.band_comparing.specs.declared.Compared.{Compared}
 use Rattle.band_comparing.specs.Inside.{reach_of, seen_of, stand_of, later_of, compared_of}
 use Rattle.band_comparing.proofs.ReachLaws.{reach_less, reach_parts}
 
 -- ---- what the walk of one curve says
-upto_is : (o : Option ℕ) (a b p r : ℕ) → Upto p r ≡ elim o [ some n ↦ WideNode n | none ↦ Upto a b ] → (o ≡ none) × (p ≡ a) × (r ≡ b)
-upto_is none a b p r e = (refl, cc, cc)
-upto_is (some n) a b p r e = clash (cc)
+abbrev found : Option ℕ → Seen → Result Seen ℕ
+found o s = elim o [ some n ↦ Err n | none ↦ Ok s ]
 
-wide_is : (o : Option ℕ) (a b m : ℕ) → WideNode m ≡ elim o [ some n ↦ WideNode n | none ↦ Upto a b ] → o ≡ some m
-wide_is none a b m e = clash (cc)
-wide_is (some n) a b m e = cc
+seen_is : (o : Option ℕ) (s w : Seen) → Ok w ≡ found o s → (o ≡ none) × (w ≡ s)
+seen_is none s w e = (refl, cc)
+seen_is (some n) s w e = clash (cc)
+
+wide_is : (o : Option ℕ) (s : Seen) (m : ℕ) → Err m ≡ found o s → o ≡ some m
+wide_is none s m e = clash (cc)
+wide_is (some n) s m e = cc
 
 module _ (σ : Setting) (T : ℤ) (c : Curve) (k : ℕ) (g : List ℤ) (reach at : ℕ) where
-  seen_wide : (m : ℕ) → WideNode m ≡ seen_of σ T c k g reach at → first_failing (node_meets σ T c) (ends_of σ T c) ≡ some m
+  seen_wide : (m : ℕ) → Err m ≡ seen_of σ T c k g reach at → first_failing (node_meets σ T c) (ends_of σ T c) ≡ some m
   unfolding seen_of
-  seen_wide m e = wide_is (first_failing (node_meets σ T c) (ends_of σ T c)) _ _ m e
+  seen_wide m e = wide_is (first_failing (node_meets σ T c) (ends_of σ T c)) _ m e
 
-  seen_upto : (p r : ℕ) → Upto p r ≡ seen_of σ T c k g reach at
-      → (first_failing (node_meets σ T c) (ends_of σ T c) ≡ none) × (p ≡ at + record_length σ * length (ends_of σ T c))
-      × (r ≡ reach_of g reach at (records_of σ k c (ends_of σ T c)))
+  seen_upto : (w : Seen) → Ok w ≡ seen_of σ T c k g reach at
+      → (first_failing (node_meets σ T c) (ends_of σ T c) ≡ none) × (w.place ≡ at + record_length σ * length (ends_of σ T c))
+      × (w.reach ≡ reach_of g reach at (records_of σ k c (ends_of σ T c)))
   unfolding seen_of
-  seen_upto p r e = upto_is (first_failing (node_meets σ T c) (ends_of σ T c)) _ _ p r e
+  seen_upto w e =
+      let both = seen_is (first_failing (node_meets σ T c) (ends_of σ T c)) _ w e in
+      (both.0, ap (λ (s : Seen). s.place) both.1, ap (λ (s : Seen). s.reach) both.1)
 
 -- ---- lists of curves
 pub take_one_more : (k : ℕ) (cs : List Curve) (c : Curve) (ds : List Curve) → drop k cs ≡ c ∷ ds → take (suc k) cs ≡ take k cs ++ (c ∷ [])
@@ -100,6 +107,9 @@ pub record Comparing (σ : Setting) (T : ℤ) (ns : List ℤ) (n number : ℕ) (
   pub second_is : second ≡ stand_of σ T ns n (min k (suc number))
   pub reach_is : reach ≡ reach_of g shown 0 (all_records σ T 0 (take k (curves_in Outline ns n)))
 
+abbrev pub through : (first second : Stand) → (whole reach : ℕ) → Result Compared Refusal
+through first second whole reach = Ok (record { first = first; second = second; whole = whole; reach = reach })
+
 abbrev pub front : Stand
 front = record { at = 0; place = 0 }
 
@@ -141,14 +151,14 @@ module _ (σ : Setting) (T : ℤ) (ns : List ℤ) (n number : ℕ) (g : List ℤ
         )
 
     -- ---- all curves are done
-    pub comparing_done : n ≤ k → Through first second here.place reach ≡ compared_of σ T ns n number g shown
+    pub comparing_done : n ≤ k → through first second here.place reach ≡ compared_of σ T ns n number g shown
     unfolding compared_of
     comparing_done l =
         let all : take k cs ≡ cs = take_all k cs (omega (arith, count_cs)) in
         let e : k ≡ n = omega (arith, h.ahead.done) in
         let w = (none_wide σ T 0 cs).1 (subst (AllMeet σ T) all h.meet) in
         rw (compared_of, w)
-        (λ j. Through ((h.first_is ∙ ap (λ m. stand_of σ T ns n (min m number)) e) j) ((h.second_is ∙ ap (λ m. stand_of σ T ns n (min m (suc number))) e) j)
+        (λ j. through ((h.first_is ∙ ap (λ m. stand_of σ T ns n (min m number)) e) j) ((h.second_is ∙ ap (λ m. stand_of σ T ns n (min m (suc number))) e) j)
         ((ap (λ (s : Stand). s.place) h.here_is ∙ ap (λ l. record_length σ * leaves_of σ T l) all) j)
         ((h.reach_is ∙ ap (λ l. reach_of g shown 0 (all_records σ T 0 l)) all) j))
 
@@ -172,17 +182,17 @@ module _ (σ : Setting) (T : ℤ) (ns : List ℤ) (n number : ℕ) (g : List ℤ
           ∙ ap (λ m. first_too_wide σ T m (c ∷ ds)) {x = 0 + length (take k cs)} {y = k} (omega (arith, count_passed))
 
       -- 7
-      pub comparing_wide : (q : Curve) → q ≡ read_at Outline ns here.at → (m : ℕ) → WideNode m ≡ seen_of σ T q k g reach here.place
-          → Stopped (TooWide k m) ≡ compared_of σ T ns n number g shown
+      pub comparing_wide : (q : Curve) → q ≡ read_at Outline ns here.at → (m : ℕ) → Err m ≡ seen_of σ T q k g reach here.place
+          → Err (TooWide k m) ≡ compared_of σ T ns n number g shown
       unfolding compared_of
       comparing_wide q eq m e =
           let f = e ∙ ap (λ c. seen_of σ T c k g reach here.place) eq in
           let w = wide_from ∙ wide_here σ T k c ds m (seen_wide σ T c k g reach here.place m f) in rw (compared_of, w)
 
-      module _ (q : Curve) (eq : q ≡ read_at Outline ns here.at) (p r : ℕ) (e : Upto p r ≡ seen_of σ T q k g reach here.place) where
-        said : (first_failing (node_meets σ T c) (ends_of σ T c) ≡ none) × (p ≡ here.place + record_length σ * length (ends_of σ T c))
-            × (r ≡ reach_of g reach here.place (records_of σ k c (ends_of σ T c)))
-        said = seen_upto σ T c k g reach here.place p r (e ∙ ap (λ c. seen_of σ T c k g reach here.place) eq)
+      module _ (q : Curve) (eq : q ≡ read_at Outline ns here.at) (w : Seen) (e : Ok w ≡ seen_of σ T q k g reach here.place) where
+        said : (first_failing (node_meets σ T c) (ends_of σ T c) ≡ none) × (w.place ≡ here.place + record_length σ * length (ends_of σ T c))
+            × (w.reach ≡ reach_of g reach here.place (records_of σ k c (ends_of σ T c)))
+        said = seen_upto σ T c k g reach here.place w (e ∙ ap (λ c. seen_of σ T c k g reach here.place) eq)
 
         passed : take (k + 1) cs ≡ take k cs ++ (c ∷ [])
         passed = ap (λ m. take m cs) (add-one k) ∙ take_one_more k cs c ds next_is
@@ -204,14 +214,14 @@ module _ (σ : Setting) (T : ℤ) (ns : List ℤ) (n number : ℕ) (g : List ℤ
             ∙ (none_wide σ T (suc (0 + length (take k cs))) []).1 (none_yet σ T))
 
         abbrev there : Stand
-        there = record { at = next_of Outline ns here.at; place = p }
+        there = record { at = next_of Outline ns here.at; place = w.place }
 
         there_is : there ≡ stand_of σ T ns n (k + 1)
         there_is =
-            let w = ap (λ (s : Stand). s.place) h.here_is in
+            let z = ap (λ (s : Stand). s.place) h.here_is in
             ap₂ (λ a b. record { at = a; place = b })
             (ap (λ (s : Stand). next_at ns s.at) h.here_is ∙ sym (place_next ns 0 k) ∙ ap (place_of ns 0) (sym (add-one k)))
-            (omega (arith, said.1, w, ap (λ m. record_length σ * m) leaves_now))
+            (omega (arith, said.1, z, ap (λ m. record_length σ * m) leaves_now))
 
         later_is : (b : Bool) (m : ℕ) (s : Stand) → s ≡ stand_of σ T ns n (min k m) → (b ≡ true → k < m) → (b ≡ false → m ≤ k)
             → later_of b there s ≡ stand_of σ T ns n (min (k + 1) m)
@@ -220,7 +230,7 @@ module _ (σ : Setting) (T : ℤ) (ns : List ℤ) (n number : ℕ) (g : List ℤ
 
         pub comparing_on : {a b : Bool} {first' second' : Stand} → (a ≡ true → k < number) → (a ≡ false → number ≤ k) → (b ≡ true → k ≤ number)
             → (b ≡ false → number < k) → first' ≡ later_of a there first → second' ≡ later_of b there second
-            → Comparing σ T ns n number g shown (k + 1) there first' second' r
+            → Comparing σ T ns n number g shown (k + 1) there first' second' w.reach
         comparing_on {a} {b} a-on a_off b-on b-off ef es = record {
           ahead = (rest_next h.ahead l).on;
           rest = ap (λ m. drop m cs) (add-one k) ∙ drop_one_more k cs c ds next_is;

@@ -7,6 +7,7 @@ use native.Mathlib.Nat.{mul-le-mul_left}
 use native.Mathlib.Omega.{arith}
 use lib.ListN.{length, length-append}
 use lib.IntN.{ℤ}
+use Rattle.std.specs.Prelude.{Result, Some, None, Ok, Err}
 use Rattle.setting.specs.Setting.{Setting, break_points, record_length, deepest}
 use Rattle.setting.proofs.Depths.{deepest_few}
 use Rattle.curve_nodes.specs.declared.Curve.{Curve}
@@ -23,11 +24,14 @@ use Rattle.walk_curve.proofs.Parts.{part}
 use Rattle.walk_curve.proofs.Walks.{WalkOf, walk_start, walk_left, walk_after}
 use Rattle.band_records.specs.Records.{boxes_to, node_numbers, record_of, records_of}
 use Rattle.band_records.proofs.Lengths.{records_length, records_snoc}
-use Rattle.band_comparing.specs.declared.trying.Tried.TheVariants.{Wide, Narrow}
-use Rattle.band_comparing.specs.declared.Seen.TheVariants.{WideNode, Upto}
+use Rattle.band_comparing.specs.declared.Seen.{Seen}
 use Rattle.band_comparing.specs.Inside.{reach_of, tried_of, seen_of}
 use Rattle.band_comparing.proofs.ReachLaws.{reach_less, reach_parts}
 use Rattle.band_comparing.proofs.TryLaws.{told_wide, told_narrow}
+
+-- what a walk that finds nothing too wide gives
+abbrev pub seen : (place reach : ℕ) → Result Seen ℕ
+seen place reach = Ok (record { place = place; reach = reach })
 
 -- the walk stands at part p; the numbers agree so far with the records of the leaves passed
 pub record Seeing (σ : Setting) (T : ℤ) (c : Curve) (k : ℕ) (g : List ℤ) (reach at : ℕ) (p : Part) (place to : ℕ) : Type 0 where
@@ -63,20 +67,20 @@ module _ {σ : Setting} {T : ℤ} {c : Curve} {k : ℕ} {g : List ℤ} {reach at
     own_is = ap (λ q. node_numbers k p.node (boxes_to σ (break_points σ) (depth p.node) q)) h.walk.of.is
 
     -- ---- a node that is too wide is halved, or it is the first
-    module _ (e : Wide ≡ tried_of (meets σ T (depth p.node) p.curve) (reach_of g to place own)) where
+    module _ (e : None ≡ tried_of (meets σ T (depth p.node) p.curve) (reach_of g to place own)) where
       wide : node_meets σ T c p.node ≡ false
       wide = sym same_test ∙ told_wide (meets σ T (depth p.node) p.curve) (reach_of g to place own) e
 
       pub seeing_left : p.node < 2 ^ deepest c.degree → Seeing σ T c k g reach at (left_part p) place to
       seeing_left l = record { passed = h.passed; walk = walk_left h.walk wide l; here = h.here; is = h.is }
 
-      pub seeing_failed : 2 ^ deepest c.degree ≤ p.node → WideNode p.node ≡ seen_of σ T c k g reach at
+      pub seeing_failed : 2 ^ deepest c.degree ≤ p.node → Err p.node ≡ seen_of σ T c k g reach at
       unfolding seen_of
       seeing_failed l =
           rw ((some_exactly (node_meets σ T c) (ends_of σ T c) p.node).1 (walking_failed h.walk.walking wide l), seen_of)
 
     -- ---- one that is not is a leaf, and its record is compared
-    module _ {n : ℕ} (e : Narrow n ≡ tried_of (meets σ T (depth p.node) p.curve) (reach_of g to place own)) where
+    module _ {n : ℕ} (e : Some n ≡ tried_of (meets σ T (depth p.node) p.curve) (reach_of g to place own)) where
       told : (meets σ T (depth p.node) p.curve ≡ true) × (n ≡ reach_of g to place own)
       told = told_narrow (meets σ T (depth p.node) p.curve) (reach_of g to place own) n e
 
@@ -98,12 +102,12 @@ module _ {σ : Setting} {T : ℤ} {c : Curve} {k : ℕ} {g : List ℤ} {reach at
         pub seeing_after : (q.node ≡ 1 → ⊥) → Seeing σ T c k g reach at q (place + step) n
         seeing_after o = record { passed = h.passed ++ p.node ∷ []; walk = walk_after h.walk a o leaf; here = rw whole on; is = more }
 
-        pub seeing_done : q.node ≡ 1 → Upto (place + step) n ≡ seen_of σ T c k g reach at
+        pub seeing_done : q.node ≡ 1 → seen (place + step) n ≡ seen_of σ T c k g reach at
         unfolding seen_of
         seeing_done o =
             let w = h.walk.walking in
             let l = sym a.node ∙ o in
             let d = walking_done w leaf l in
             rw ((none_exactly (node_meets σ T c) (ends_of σ T c)).1 (all_passed w leaf l), seen_of)
-            (ap₂ Upto (ap (λ m. place + m) whole ∙ on ∙ ap (λ ps. at + record_length σ * length ps) (sym d))
+            (ap₂ seen (ap (λ m. place + m) whole ∙ on ∙ ap (λ ps. at + record_length σ * length ps) (sym d))
             (more ∙ ap (λ ps. reach_of g reach at (records_of σ k c ps)) (sym d)))

@@ -9,6 +9,7 @@ use native.Mathlib.Omega.{arith}
 use lib.ListN.{length}
 use lib.IntN.{ℤ, pos, ◌+ℤ◌, ◌-ℤ◌, ◌*ℤ◌}
 use lib.Signed.{lt_z}
+use Rattle.std.specs.Prelude.{Option, Some, None}
 use Rattle.setting.specs.Setting.{Setting, HasRows, lists, break_points}
 use Rattle.setting.proofs.Depths.{deepest_low, deepest_high}
 use Rattle.setting.proofs.Pieces.{degree_takes}
@@ -37,16 +38,14 @@ use Rattle.bound_tolerance.proofs.ToleranceLaws.{across_is, higher_across_is}
 use Rattle.band_records.specs.Records.{box_numbers, boxes_to, node_numbers}
 use Rattle.band_records.specs.Inside.{box_by}
 use Rattle.band_records.proofs.Writing.{joined_to, joined_length, boxes_are, box_is, higher_box_is}
-use Rattle.band_comparing.specs.declared.trying.Tried.{Tried}
-use Rattle.band_comparing.specs.declared.trying.Tried.TheVariants.{Wide, Narrow}
 use Rattle.band_comparing.specs.Inside.{reach_number, reach_of, tried_of, BoxGiven, Tryable, higher_box_by}
 use Rattle.band_comparing.proofs.ReachLaws.{reach_less, reach_parts}
 
 -- ---- what an answer says
-pub box_wide : {b : Bool} (r : ℕ) → b ≡ true → Wide ≡ tried_of (not b) r
+pub box_wide : {b : Bool} (r : ℕ) → b ≡ true → None ≡ tried_of (not b) r
 box_wide r e = rw e
 
-pub box_narrow : {b : Bool} {r s : ℕ} → b ≡ false → s ≡ r → Narrow s ≡ tried_of (not b) r
+pub box_narrow : {b : Bool} {r s : ℕ} → b ≡ false → s ≡ r → Some s ≡ tried_of (not b) r
 box_narrow e f = rw (e, f)
 
 -- four numbers, as the code holds them
@@ -67,7 +66,7 @@ module _ {x₀ x₁ y₀ y₁ a b c d : ℤ} (p : Computed (2 ^ 28) a x₀) (q :
     of_high = record { size = (restored s tt).size };
   }
 
-  pub sides_tried : (g : List ℤ) (reach at : ℕ) {square : ℤ} → SFits w64 square → {r : Tried}
+  pub sides_tried : (g : List ℤ) (reach at : ℕ) {square : ℤ} → SFits w64 square → {r : Option ℕ}
       → r ≡ tried_of (not (lt_z (stored w64 square) (squared (stored w64 x₁ -ℤ stored w64 x₀) +ℤ squared (stored w64 y₁ -ℤ stored w64 y₀))))
       (reach_of g reach at (stored w64 x₀ ∷ stored w64 x₁ ∷ stored w64 y₀ ∷ stored w64 y₁ ∷ []))
       → r ≡ tried_of (not (lt_z square (squared (b -ℤ a) +ℤ squared (d -ℤ c)))) (reach_of g reach at (a ∷ b ∷ c ∷ d ∷ []))
@@ -83,11 +82,11 @@ node_head g reach at k n boxes ea eb e f =
     ap (λ q. reach_of g q (at + 2) boxes) (f ∙ ap₂ (λ q z. reach_number g q (at + 1) z) (e ∙ ap (reach_number g reach at) ea) eb)
     ∙ rw (add-one, add-two)
 
-pub told_wide : (b : Bool) (r : ℕ) → Wide ≡ tried_of b r → b ≡ false
+pub told_wide : (b : Bool) (r : ℕ) → None ≡ tried_of b r → b ≡ false
 told_wide true r e = clash (cc)
 told_wide false r e = refl
 
-pub told_narrow : (b : Bool) (r s : ℕ) → Narrow s ≡ tried_of b r → (b ≡ true) × (s ≡ r)
+pub told_narrow : (b : Bool) (r s : ℕ) → Some s ≡ tried_of b r → (b ≡ true) × (s ≡ r)
 told_narrow true r s e = (refl, cc)
 told_narrow false r s e = clash (cc)
 
@@ -119,7 +118,7 @@ module _ (g : List ℤ) (reach at m : ℕ) (across : ℕ → ℤ) (square : ℤ)
     pub going_less : to ≤ reach
     going_less = omega (arith, h.is, reach_less g reach at (joined_to i box))
 
-    pub going_on : i ≤ m → (n : ℕ) → Narrow n ≡ tried_of (not (lt_z square (across i))) (reach_of g to (at + 4 * i) (box i))
+    pub going_on : i ≤ m → (n : ℕ) → Some n ≡ tried_of (not (lt_z square (across i))) (reach_of g to (at + 4 * i) (box i))
         → Going g reach at m across square box (i + 1) n
     going_on inside n e =
         let t = told_narrow (not (lt_z square (across i))) (reach_of g to (at + 4 * i) (box i)) n e in
@@ -136,17 +135,17 @@ pub record Finds (σ : Setting) (T : ℤ) (k : ℕ) (c : Curve) (across : ℕ �
 
 module _ {σ : Setting} {T : ℤ} {k : ℕ} {c : Curve} {across : ℕ → ℤ} {square : ℤ} {box : ℕ → List ℤ} (f : Finds σ T k c across square box)
     (g : List ℤ) (reach at : ℕ) where
-  pub going_wide : (i r : ℕ) → i ≤ σ.pieces → Wide ≡ tried_of (not (lt_z square (across i))) r
-      → Wide ≡ tried_of (meets σ T k c) (reach_of g reach at (boxes_to σ (break_points σ) k c))
+  pub going_wide : (i r : ℕ) → i ≤ σ.pieces → None ≡ tried_of (not (lt_z square (across i))) r
+      → None ≡ tried_of (meets σ T k c) (reach_of g reach at (boxes_to σ (break_points σ) k c))
   going_wide i r h e =
       ap (λ b. tried_of b (reach_of g reach at (boxes_to σ (break_points σ) k c)))
       (box_fails f.diagonals i h refl (not_false (told_wide (not (lt_z square (across i))) r e)))
 
   pub going_done : {i to : ℕ} → Going g reach at σ.pieces across square box i to → σ.pieces < i
-      → Narrow to ≡ tried_of (meets σ T k c) (reach_of g reach at (boxes_to σ (break_points σ) k c))
+      → Some to ≡ tried_of (meets σ T k c) (reach_of g reach at (boxes_to σ (break_points σ) k c))
   going_done {i} {to} h all =
       let e : i ≡ break_points σ = omega (arith, h.passed.most) in
-      ap Narrow (h.is ∙ ap (λ n. reach_of g reach at (joined_to n box)) e
+      ap Some (h.is ∙ ap (λ n. reach_of g reach at (joined_to n box)) e
       ∙ ap (reach_of g reach at) (boxes_are σ k c f.boxes (break_points σ) (le_refl (break_points σ))))
       ∙ ap (λ b. tried_of b (reach_of g reach at (boxes_to σ (break_points σ) k c))) (boxes_pass f.diagonals h.passed all)
 

@@ -1,11 +1,12 @@
 -- For contracts inside the engine alone, no part of a public promise: how far numbers that are given agree with the
 -- records of an outline's curves, and what the pass that compares them finds.
 use Rattle.std.specs.Prelude.{◌≡◌, Bool, true, false, ◌&&◌, ◌||◌, List, [], ◌∷◌, ℕ, suc, ◌+◌, ◌*◌, ◌^◌, ◌≤◌}
-use Rattle.std.specs.Prelude.{◌<◌, min, leb, length, take, ℤ}
+use Rattle.std.specs.Prelude.{◌<◌, min, leb, length, take, ℤ, Option, Some, None, Result, Ok, Err}
 use Rattle.std.proofs.Math.Option.{none, some}
 use Rattle.setting.specs.Setting.{Setting, HasRows, record_length, degree_pieces, deepest, greatest_node}
 use Rattle.integers.specs.Entry.{entry}
 use Rattle.integers.specs.Equal.{equal}
+use Rattle.refusals.specs.declared.Refusal.{Refusal}
 use Rattle.curve_nodes.specs.declared.Curve.{Curve}
 use Rattle.curve_nodes.specs.Bounds.{Sized}
 use Rattle.bound_row_table.specs.Inside.{Copied}
@@ -19,14 +20,10 @@ use Rattle.band_records.specs.Records.{records_of, all_records}
 use Rattle.band_records.specs.Inside.{box_from}
 use Rattle.band_passes.specs.Leaves.{first_too_wide, leaves_of}
 use Rattle.band_passes.specs.Inside.{curves_in}
-use Rattle.band_passes.specs.declared.forms.Form.TheVariants.{Outline}
-use Rattle.band_comparing.specs.declared.trying.Tried.{Tried}
-use Rattle.band_comparing.specs.declared.trying.Tried.TheVariants.{Wide, Narrow}
+use Rattle.band_passes.specs.Forms.{Outline}
 use Rattle.band_comparing.specs.declared.Seen.{Seen}
-use Rattle.band_comparing.specs.declared.Seen.TheVariants.{WideNode, Upto}
 use Rattle.band_comparing.specs.declared.Stand.{Stand}
 use Rattle.band_comparing.specs.declared.Compared.{Compared}
-use Rattle.band_comparing.specs.declared.Compared.TheVariants.{Stopped, Through}
 
 -- ---- the first `reach` numbers given agree so far; with number x of the records at index i, they agree as far, or up
 -- to i
@@ -50,9 +47,9 @@ higher_box_by m s rows x y =
     box_from (higher_low m s rows x) (higher_high m s rows x) (higher_low m s rows y) (higher_high m s rows y)
 
 -- ---- a box or a node is tried: it is too wide, or how far the numbers agree with its own
-abbrev pub tried_of : (narrow : Bool) → (reach : ℕ) → Tried
-tried_of true reach = Narrow reach
-tried_of false reach = Wide
+abbrev pub tried_of : (narrow : Bool) → (reach : ℕ) → Option ℕ
+tried_of true reach = Some reach
+tried_of false reach = None
 
 -- the first `reach` numbers are given, and the lows and the highs of a box, as they are computed, are small
 pub record BoxGiven (given : List ℤ) (reach at : ℕ) (left right low high : ℤ) : Type 0 where
@@ -89,13 +86,14 @@ pub record Numbered (number node : ℕ) : Type 0 where
 
 -- ---- curve c of number k, whose records begin at index `at`: the first node at the last depth that is too wide, or
 -- where its records end and how far the numbers agree
-unfoldable pub seen_of : Setting → ℤ → Curve → (k : ℕ) → (given : List ℤ) → (reach at : ℕ) → Seen
+unfoldable pub seen_of : Setting → ℤ → Curve → (k : ℕ) → (given : List ℤ) → (reach at : ℕ) → Result Seen ℕ
 seen_of σ T c k given reach at =
     elim (first_failing (node_meets σ T c) (ends_of σ T c)) [
-      | some n ↦ WideNode n
-      | none ↦
-          Upto (at + record_length σ * length (ends_of σ T c))
-          (reach_of given reach at (records_of σ k c (ends_of σ T c)))
+      | some n ↦ Err n
+      | none ↦ Ok (record {
+        place = at + record_length σ * length (ends_of σ T c);
+        reach = reach_of given reach at (records_of σ k c (ends_of σ T c));
+      })
     ]
 
 -- ---- all n curves of an outline: where the degree of curve i stands in the outline, and where its records begin
@@ -111,12 +109,15 @@ later_of true here before = here
 later_of false here before = before
 
 -- check 7, or else where curve k and the one after it begin, where all records end, and how far the numbers agree
-unfoldable pub compared_of : Setting → ℤ → List ℤ → (n k : ℕ) → (given : List ℤ) → (shown : ℕ) → Compared
+unfoldable pub compared_of : Setting → ℤ → List ℤ → (n k : ℕ) → (given : List ℤ) → (shown : ℕ)
+    → Result Compared Refusal
 compared_of σ T ns n k given shown =
     elim (first_too_wide σ T 0 (curves_in Outline ns n)) [
-      | some r ↦ Stopped r
-      | none ↦
-          Through (stand_of σ T ns n (min n k)) (stand_of σ T ns n (min n (suc k)))
-          (record_length σ * leaves_of σ T (curves_in Outline ns n))
-          (reach_of given shown 0 (all_records σ T 0 (curves_in Outline ns n)))
+      | some r ↦ Err r
+      | none ↦ Ok (record {
+        first = stand_of σ T ns n (min n k);
+        second = stand_of σ T ns n (min n (suc k));
+        whole = record_length σ * leaves_of σ T (curves_in Outline ns n);
+        reach = reach_of given shown 0 (all_records σ T 0 (curves_in Outline ns n));
+      })
     ]

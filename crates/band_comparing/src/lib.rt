@@ -5,10 +5,10 @@
 ghost use Rattle.std.specs.Prelude.{◌≡◌, ◌≤◌, ◌<◌, ◌^◌, length};
 ghost use Rattle.setting.specs.Setting.{lists, deepest};
 ghost use Rattle.bound_coordinate.specs.Inside.{Small};
-ghost use Rattle.band_passes.specs.{Inside.{Readable}, declared.forms.Form.TheVariants.{Outline}};
+ghost use Rattle.band_passes.specs.{Inside.{Readable}, Forms.{Outline}};
 ghost use Rattle.band_comparing.specs.Inside.{Lent, Tryable, seen_of, later_of, compared_of};
 
-use crate::trying::{Scaling, Tried, try_node};
+use crate::trying::{Scaling, try_node};
 use curve_nodes::Curve;
 use outline_reading::curve_values::curve_at;
 use outline_reading::outline_curves::next_at;
@@ -18,12 +18,12 @@ use walk_curve::Part;
 pub mod reaching;
 pub mod trying;
 
-// What the walk of a curve finds: the first node at the last depth that is too wide, or where the curve's records end
-// and how far the numbers given agree.
+// What the walk of a curve finds where no node is too wide: where the curve's records end, and how far the numbers
+// given agree.
 #[derive(Clone, Copy)]
-pub enum Seen {
-    WideNode(u32),
-    Upto { place: usize, reach: usize },
+pub struct Seen {
+    pub place: usize,
+    pub reach: usize,
 }
 
 // The first node at the last depth of a curve of this degree.
@@ -33,7 +33,7 @@ fn last_of(degree: u32) -> u32
     if degree <= 3 { 256 } else { 16 }
 }
 
-// One curve, whose records begin at index `at`.
+// One curve, whose records begin at index `at`; or else the first node at the last depth that is too wide.
 fn see_curve(
     given: &[i32],
     reach: usize,
@@ -43,7 +43,7 @@ fn see_curve(
     number: u32,
     curve: Curve,
     t: i64,
-) -> Seen
+) -> Result<Seen, u32>
     requires { (Tryable given.now reach at (2 ^ 40) by.m by.scale rows.now 0 curve t)
         × (number < 2 ^ 31) }
     ensures { result ≡ seen_of (lists by.m) t curve number given.now reach at }
@@ -58,18 +58,18 @@ fn see_curve(
         let node = part.node;
         let own = part.curve;
         match try_node(given, to, place, number, node, rows, by, own, t) {
-            Tried::Wide => {
+            None => {
                 if last <= node {
-                    return Seen::WideNode(node);
+                    return Err(node);
                 }
                 part = part.left();
             }
-            Tried::Narrow(n) => {
+            Some(n) => {
                 to = n;
                 place += record_length;
                 part = part.after();
                 if part.node == 1 {
-                    return Seen::Upto { place, reach: to };
+                    return Ok(Seen { place, reach: to });
                 }
             }
         }
@@ -90,21 +90,18 @@ fn later(on: bool, here: Stand, before: Stand) -> Stand
     if on { here } else { before }
 }
 
-// What the pass finds: check 7, or else where one curve and the one after it stand, where all records end, and how far
-// the numbers given agree with them.
+// What the pass finds: where one curve and the one after it stand, where all records end, and how far the numbers given
+// agree with them.
 #[derive(Clone, Copy)]
-pub enum Compared {
-    Stopped(Refusal),
-    Through {
-        first: Stand,
-        second: Stand,
-        whole: usize,
-        reach: usize,
-    },
+pub struct Compared {
+    pub first: Stand,
+    pub second: Stand,
+    pub whole: usize,
+    pub reach: usize,
 }
 
-// All curves of an outline; `shown` of the numbers given are compared. The rows lent are those of m pieces, and the
-// scale is 5040 over m.
+// All curves of an outline, or else the refusal of check 7; `shown` of the numbers given are compared. The rows lent
+// are those of m pieces, and the scale is 5040 over m.
 pub fn compare(
     given: &[i32],
     shown: usize,
@@ -115,40 +112,41 @@ pub fn compare(
     t: i64,
     curves: usize,
     number: usize,
-) -> Compared
+) -> Result<Compared, Refusal>
     requires { (shown ≤ length given.now) × (Lent m scale rows.now) × (Small (2 ^ 27) t)
         × (Readable (lists m) Outline ns.now curves) }
     ensures { result ≡ compared_of (lists m) t ns.now curves number given.now shown }
 {
     let by = Scaling { m, scale };
-    let mut k: usize = 0;
     let mut here = Stand { at: 0, place: 0 };
     let mut first = Stand { at: 0, place: 0 };
     let mut second = Stand { at: 0, place: 0 };
     let mut reach = shown;
-    while k < curves {
+    for k in 0..curves {
         let curve = curve_at(ns, here.at);
         let at = next_at(ns, here.at);
         match see_curve(given, reach, here.place, rows, by, k as u32, curve, t) {
-            Seen::WideNode(node) => {
-                return Compared::Stopped(Refusal::TooWide {
+            Ok(seen) => {
+                here = Stand {
+                    at,
+                    place: seen.place,
+                };
+                reach = seen.reach;
+            }
+            Err(node) => {
+                return Err(Refusal::TooWide {
                     curve: k as u32,
                     node,
                 });
             }
-            Seen::Upto { place, reach: to } => {
-                here = Stand { at, place };
-                reach = to;
-            }
         }
         first = later(k < number, here, first);
         second = later(k <= number, here, second);
-        k += 1;
     }
-    Compared::Through {
+    Ok(Compared {
         first,
         second,
         whole: here.place,
         reach,
-    }
+    })
 }

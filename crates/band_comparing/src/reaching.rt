@@ -34,13 +34,7 @@ fn are_there(given: &[i32], at: usize, a: i32, b: i32, c: i32, d: i32) -> bool
     let q = given[at + 1];
     let r = given[at + 2];
     let s = given[at + 3];
-    if p != a {
-        return false;
-    }
-    if q != b {
-        return false;
-    }
-    if r != c {
+    if p != a || q != b || r != c {
         return false;
     }
     s == d
@@ -51,10 +45,8 @@ pub fn reach_box(given: &[i32], reach: usize, at: usize, a: i32, b: i32, c: i32,
     requires { (reach ≤ length given.now) × (at + 4 ≤ 2 ^ 63) }
     ensures { result ≡ reach_of given.now reach at (a ∷ b ∷ c ∷ d ∷ []) }
 {
-    if at + 4 <= reach {
-        if are_there(given, at, a, b, c, d) {
-            return reach;
-        }
+    if at + 4 <= reach && are_there(given, at, a, b, c, d) {
+        return reach;
     }
     reach_each(given, reach, at, a, b, c, d)
 }

@@ -17,13 +17,6 @@ use bound_coordinate::terms::Terms;
 use bound_tolerance::is_longer;
 use curve_nodes::Curve;
 
-// Too wide, or how far the numbers given agree.
-#[derive(Clone, Copy)]
-pub enum Tried {
-    Wide,
-    Narrow(usize),
-}
-
 // What goes with the number of pieces: that number m, and 5040 over m.
 #[derive(Clone, Copy)]
 pub struct Scaling {
@@ -31,8 +24,8 @@ pub struct Scaling {
     pub scale: usize,
 }
 
-// The box from `left` to `right` and from `low` to `high`, whose numbers stand from index `at` on: whether its diagonal
-// is longer than the length that has this square, or else how far the numbers given agree.
+// The box from `left` to `right` and from `low` to `high`, whose numbers stand from index `at` on: how far the numbers
+// given agree, or nothing where its diagonal is longer than the length that has this square.
 fn try_sides(
     given: &[i32],
     reach: usize,
@@ -42,15 +35,15 @@ fn try_sides(
     low: i64,
     high: i64,
     square: i64,
-) -> Tried
+) -> Option<usize>
     requires { BoxGiven given.now reach at left right low high }
     ensures { result ≡ tried_of (not (lt_z square (squared (right -ℤ left) +ℤ squared (high -ℤ low))))
         (reach_of given.now reach at (left ∷ right ∷ low ∷ high ∷ [])) }
 {
     if is_longer(right - left, high - low, square) {
-        return Tried::Wide;
+        return None;
     }
-    Tried::Narrow(reach_box(
+    Some(reach_box(
         given,
         reach,
         at,
@@ -74,7 +67,7 @@ fn try_box(
     by: Scaling,
     i: usize,
     square: i64,
-) -> Tried
+) -> Option<usize>
     requires { (reach ≤ length given.now) × (at + 4 ≤ 2 ^ 63)
         × (ComputableAt by.m shift by.scale i rows.now x)
         × (ComputableAt by.m shift by.scale i rows.now y) }
@@ -89,6 +82,7 @@ fn try_box(
 }
 
 // The box at break point i of a curve of degree 4 or 5.
+// It stands apart from `try_box`, as the terms of its boxes from those of degrees 1 to 3, for speed (docs/landings/19).
 fn try_higher_box(
     given: &[i32],
     reach: usize,
@@ -100,7 +94,7 @@ fn try_higher_box(
     by: Scaling,
     i: usize,
     square: i64,
-) -> Tried
+) -> Option<usize>
     requires { (reach ≤ length given.now) × (at + 4 ≤ 2 ^ 63)
         × (HigherComputable by.m shift by.scale rows.now x)
         × (HigherComputable by.m shift by.scale rows.now y) × (i ≤ by.m) }
@@ -124,7 +118,7 @@ fn try_low(
     curve: Curve,
     depth: u32,
     t: i64,
-) -> Tried
+) -> Option<usize>
     requires { (Tryable given.now reach at (2 ^ 60) by.m by.scale rows.now depth curve t)
         × (curve.degree ≤ 3) }
     ensures { result ≡ tried_of (meets (lists by.m) t depth curve)
@@ -139,22 +133,14 @@ fn try_low(
     let x = bound_coordinate::terms::terms_of(xs, degree, m);
     let y = bound_coordinate::terms::terms_of(ys, degree, m);
     let mut to = reach;
-    let mut i: usize = 0;
-    while i <= m {
-        match try_box(given, to, at + 4 * i, rows, x, y, shift, by, i, square) {
-            Tried::Wide => {
-                return Tried::Wide;
-            }
-            Tried::Narrow(n) => {
-                to = n;
-            }
-        }
-        i += 1;
+    for i in 0..m + 1 {
+        to = try_box(given, to, at + 4 * i, rows, x, y, shift, by, i, square)?;
     }
-    Tried::Narrow(to)
+    Some(to)
 }
 
 // The boxes of a curve of degree 4 or 5.
+// It stands apart from `try_low`, as the terms of its boxes from those of degrees 1 to 3, for speed (docs/landings/19).
 fn try_higher(
     given: &[i32],
     reach: usize,
@@ -164,7 +150,7 @@ fn try_higher(
     curve: Curve,
     depth: u32,
     t: i64,
-) -> Tried
+) -> Option<usize>
     requires { (Tryable given.now reach at (2 ^ 60) by.m by.scale rows.now depth curve t)
         × (3 < curve.degree) }
     ensures { result ≡ tried_of (meets (lists by.m) t depth curve)
@@ -179,19 +165,10 @@ fn try_higher(
     let x = bound_coordinate_higher::higher_of(xs, degree, shift, m);
     let y = bound_coordinate_higher::higher_of(ys, degree, shift, m);
     let mut to = reach;
-    let mut i: usize = 0;
-    while i <= m {
-        match try_higher_box(given, to, at + 4 * i, rows, x, y, shift, by, i, square) {
-            Tried::Wide => {
-                return Tried::Wide;
-            }
-            Tried::Narrow(n) => {
-                to = n;
-            }
-        }
-        i += 1;
+    for i in 0..m + 1 {
+        to = try_higher_box(given, to, at + 4 * i, rows, x, y, shift, by, i, square)?;
     }
-    Tried::Narrow(to)
+    Some(to)
 }
 
 // A node, whose record begins at index `at`, of the curve of this number.
@@ -205,7 +182,7 @@ pub fn try_node(
     by: Scaling,
     curve: Curve,
     t: i64,
-) -> Tried
+) -> Option<usize>
     requires { (Tryable given.now reach at (2 ^ 50) by.m by.scale rows.now (depth node) curve t)
         × (Numbered number node) }
     ensures { result ≡ tried_of (meets (lists by.m) t (depth node) curve)

@@ -8,11 +8,11 @@ use native.Mathlib.Omega.{arith}
 use lib.ListN.{length, take, drop, set, length-append}
 use lib.Seq.{sets, sets-eq, take-add, take-take, take_at, drop_at, length-take-le}
 use lib.IntN.{ℤ}
+use Rattle.std.specs.Prelude.{Ok, Err}
 use Rattle.setting.specs.Setting.{Setting, record_length}
 use Rattle.integers.proofs.Stores.{sets_append}
 use Rattle.refusals.specs.declared.Refusal.TheVariants.{TooWide, TooFewRecords}
 use Rattle.curve_nodes.specs.declared.Curve.{Curve}
-use Rattle.walk_curve.specs.declared.Walked.TheVariants.{Leaves, WideNode}
 use Rattle.walk_curve.specs.Walked.{ends_of}
 use Rattle.walk_curve.specs.Inside.{walked_of}
 use Rattle.band_records.specs.Records.{records_of, all_records}
@@ -22,8 +22,7 @@ use Rattle.band_passes.specs.FirstWide.{AllMeet}
 use Rattle.band_passes.proofs.Wide.{wide_later, wide_here, none_wide, behind}
 use Rattle.band_passes.proofs.Among.{all_records_length, records_among, leaves_among}
 use Rattle.band_passes.proofs.Counting.{nodes_of_curves, few_leaves}
-use Rattle.band_banded.specs.declared.banding.Banded.TheVariants.{Done, Refused}
-use Rattle.band_banded.specs.Banding.{band_curves}
+use Rattle.band_banded.specs.Banding.{done, band_curves}
 use Rattle.band_banded.proofs.Cases.{few_said, done_said}
 use Rattle.band_exchange.specs.Inside.{moved_to, Front}
 use Rattle.band_exchange.proofs.Moves.{store_before}
@@ -92,7 +91,7 @@ module _ {σ : Setting} {T : ℤ} {l : List ℤ} {n whole k place end : ℕ} (f 
       cs_few = omega (arith, few_leaves σ T cs, cs_count, f.few)
 
       -- 7
-      pub wide_answer : (node room : ℕ) → WideNode node ≡ walked_of σ T c → Refused (TooWide k node) ≡ band_curves σ T cs room
+      pub wide_answer : (node room : ℕ) → Err node ≡ walked_of σ T c → Err (TooWide k node) ≡ band_curves σ T cs room
       unfolding band_curves
       wide_answer node room w =
           let at : 0 + length f.before ≡ k = omega (arith, f.number) in
@@ -101,7 +100,7 @@ module _ {σ : Setting} {T : ℤ} {l : List ℤ} {n whole k place end : ℕ} (f 
           ∙ ap (λ m. some (TooWide m node)) at in
           rw here
 
-      module _ {own : ℕ} (w : Leaves own ≡ walked_of σ T c) where
+      module _ {own : ℕ} (w : Ok own ≡ walked_of σ T c) where
         pub now_leaves : (whole - (end - place)) / rl + own ≡ leaves_of σ T cs
         now_leaves = omega (arith, others, (new_leaves σ T c own w).1, leaves_among σ T c f.after f.before)
 
@@ -113,13 +112,13 @@ module _ {σ : Setting} {T : ℤ} {l : List ℤ} {n whole k place end : ℕ} (f 
 
         -- 8
         pub few_answer : σ.leaves ≡ 1048576 → (room : ℕ) → room < rl * ((whole - (end - place)) / rl + own)
-            → Refused (TooFewRecords ((whole - (end - place)) / rl + own)) ≡ band_curves σ T cs room
+            → Err (TooFewRecords ((whole - (end - place)) / rl + own)) ≡ band_curves σ T cs room
         few_answer most room h =
             let short : room < record_length σ * leaves_of σ T cs = subst (λ m. room < m) (ap₂ (λ a b. a * b) e now_leaves) h in
             sym (few_said σ T cs room (record { meet = meet; taken = omega (arith, most, cs_few); short = short; leaves = sym now_leaves }))
 
         pub done_answer : σ.leaves ≡ 1048576 → (room : ℕ) → rl * ((whole - (end - place)) / rl + own) ≤ room
-            → Done n ((whole - (end - place)) / rl + own) (2 * ((whole - (end - place)) / rl + own) - n) ≡ band_curves σ T cs room
+            → done n ((whole - (end - place)) / rl + own) (2 * ((whole - (end - place)) / rl + own) - n) ≡ band_curves σ T cs room
         done_answer most room h =
             let enough : record_length σ * leaves_of σ T cs ≤ room = subst (λ m. m ≤ room) (ap₂ (λ a b. a * b) e now_leaves) h in
             sym (done_said σ T cs room (record {

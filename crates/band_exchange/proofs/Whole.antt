@@ -11,6 +11,7 @@ use native.Mathlib.Omega.{arith}
 use lib.ListN.{length, take, drop, take-append-drop}
 use lib.Seq.{length-take-le}
 use lib.IntN.{ℤ}
+use Rattle.std.specs.Prelude.{Result, Err}
 use Rattle.setting.specs.Setting.{Setting, record_length}
 use Rattle.integers.specs.Entry.{entry}
 use Rattle.refusals.specs.declared.Refusal.{Refusal}
@@ -31,12 +32,11 @@ use Rattle.walk_curve.specs.Walked.{ends_of}
 use Rattle.band_records.specs.Records.{all_records}
 use Rattle.band_passes.specs.Leaves.{curves_of, leaves_of}
 use Rattle.band_passes.specs.Inside.{Readable, end, more}
-use Rattle.band_passes.specs.declared.forms.Form.TheVariants.{Outline}
+use Rattle.band_passes.specs.Forms.{Outline}
 use Rattle.band_passes.proofs.Among.{leaves_among}
 use Rattle.band_comparing.specs.declared.Stand.{Stand}
 use Rattle.band_comparing.proofs.CompareLaws.{take_one_more}
 use Rattle.band_banded.specs.declared.banding.Banded.{Banded}
-use Rattle.band_banded.specs.declared.banding.Banded.TheVariants.{Refused}
 use Rattle.band_banded.specs.Banding.{band_curves, band_outlined, written_by}
 use Rattle.band_exchanged.specs.Exchange.{records_for}
 use Rattle.band_exchange.specs.Inside.{Front, Replaced, Exchangeable}
@@ -120,7 +120,7 @@ module _ {σ : Setting} {T : ℤ} {ns : List ℤ} {n k : ℕ} {first second : St
         after ∙ ap (λ g. outlined_or g cs) (ap₂ (λ p r. changed_fault σ.pieces ns p r new) (sym x.first_at) (sym x.second_at) ∙ f)
 
     pub by_fault : (r : Refusal) → changed_fault σ.pieces ns first.at second.at new ≡ some r
-        → Refused r ≡ band_outlined σ T (outlined σ.most σ.pieces (changed ns k new)) (length lent)
+        → Err r ≡ band_outlined σ T (outlined σ.most σ.pieces (changed ns k new)) (length lent)
     by_fault r f = sym (ap (λ o. band_outlined σ T o (length lent)) (fault_is (some r) f))
 
     module _ (f : changed_fault σ.pieces ns first.at second.at new ≡ none) where
@@ -184,7 +184,7 @@ module _ {σ : Setting} {T : ℤ} {ns : List ℤ} {n k : ℕ} {first second : St
       }
 
       -- what replacing left
-      pub by_replaced : (r : Banded) (l' : List ℤ) → Replaced σ T lent n whole k first.place second.place (curve_at new 0) r l'
+      pub by_replaced : (r : Result Banded Refusal) (l' : List ℤ) → Replaced σ T lent n whole k first.place second.place (curve_at new 0) r l'
           → (r ≡ band_outlined σ T (outlined σ.most σ.pieces (changed ns k new)) (length lent))
           × (l' ≡ written_by r (records_for σ T (changed ns k new)) lent)
       unfolding front

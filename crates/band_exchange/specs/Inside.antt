@@ -1,7 +1,8 @@
 -- For contracts inside the engine alone, no part of a public promise: numbers moved in a list, records renumbered, and
 -- where the records of one curve stand among those of an outline.
 use Rattle.std.specs.Prelude.{◌≡◌, false, List, ◌∷◌, ◌++◌, ℕ, zero, suc, ◌+◌, ◌*◌, ◌≤◌, ◌<◌, length, take}
-use Rattle.std.specs.Prelude.{drop, set, ℤ, pos}
+use Rattle.std.specs.Prelude.{drop, set, ℤ, pos, Result}
+use Rattle.refusals.specs.declared.Refusal.{Refusal}
 use Rattle.std.proofs.lemmas.List.Edits.{sets}
 use Rattle.setting.specs.Setting.{Setting, record_length}
 use Rattle.curve_nodes.specs.declared.Curve.{Curve}
@@ -44,8 +45,8 @@ pub record Front (σ : Setting) (T : ℤ) (l : List ℤ) (n whole k place end : 
   pub meet_after : AllMeet σ T after
 
 -- curve k given way to another, whatever the curves are that Front speaks of: the answer, and the list afterwards
-pub record Replaced (σ : Setting) (T : ℤ) (l : List ℤ) (n whole k place end : ℕ) (c : Curve) (r : Banded) (l' : List ℤ)
-    : Type 0 where
+pub record Replaced (σ : Setting) (T : ℤ) (l : List ℤ) (n whole k place end : ℕ) (c : Curve) (r : Result Banded Refusal)
+    (l' : List ℤ) : Type 0 where
   pub answer : (f : Front σ T l n whole k place end) → r ≡ band_curves σ T (f.before ++ c ∷ f.after) (length l)
   pub list : (f : Front σ T l n whole k place end)
       → l' ≡ written_by r (all_records σ T 0 (f.before ++ c ∷ f.after)) l
@@ -70,7 +71,8 @@ pub record Exchangeable (σ : Setting) (T : ℤ) (ns : List ℤ) (n k : ℕ) (fi
   pub room : whole ≤ length lent
 
 -- ---- the answer from check 7 of the old outline on
-unfoldable pub exchanged_read : Setting → ℤ → List ℤ → (k : ℕ) → (new : List ℤ) → (count : ℕ) → (lent : List ℤ) → Banded
+unfoldable pub exchanged_read : Setting → ℤ → List ℤ → (k : ℕ) → (new : List ℤ) → (count : ℕ) → (lent : List ℤ)
+    → Result Banded Refusal
 exchanged_read σ T ns k new count lent =
     exchanged_after (band_outlined σ T (outlined σ.most σ.pieces ns) (length (records_for σ T ns))) k
     (other_records count lent (records_for σ T ns))

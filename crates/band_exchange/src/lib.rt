@@ -1,22 +1,19 @@
 // Exchanging one curve of an outline whose records are there.
 #![tactic(auto)]
 
-ghost use Rattle.std.specs.Prelude.{◌≡◌, ◌&&◌, ◌^◌};
+ghost use Rattle.std.specs.Prelude.{◌≡◌, ◌&&◌, ◌^◌, Ok};
 ghost use lib.{Dec.{eqb}, ListN.{length}};
 ghost use Rattle.setting.specs.Setting.{lists, HasRows};
 ghost use Rattle.bound_coordinate.specs.Inside.{Small};
-ghost use Rattle.outline.specs.{declared.Checked.TheVariants.{Curves}, Checks.{outlined}, Inside.{checked_of}};
+ghost use Rattle.outline.specs.{Checks.{outlined}, Inside.{checked_of}};
 ghost use Rattle.outline_changed.specs.Changed.{changed};
 ghost use Rattle.band_banded.specs.Banding.{band_outlined, written_by};
 ghost use Rattle.band_exchanged.specs.Exchange.{records_for, exchanged, exchanged_list};
 ghost use Rattle.band_exchange.specs.Inside.{exchanged_read, Exchangeable};
 
 use crate::replacing::replace;
-use band::outline_band::smaller;
 use band_banded::banding::Banded;
-use band_comparing::{Compared, Stand, compare};
-use outline::Checked;
-use outline::curve_faults::Fault;
+use band_comparing::{Stand, compare};
 use outline_changed::changed_fault;
 use refusals::Refusal;
 
@@ -35,31 +32,29 @@ pub fn exchange(
     curve: [i32; 13],
     given: usize,
     records: &mut [i32],
-) -> Banded
+) -> Result<Banded, Refusal>
     ensures value { result
         ≡ exchanged (lists m) tolerance outline.now number curve given records.old }
     ensures records_after { records.new
         ≡ exchanged_list (lists m) tolerance outline.now number curve given records.old }
 {
     if !band::pieces_fine(m) {
-        return Banded::Refused(Refusal::Pieces);
+        return Err(Refusal::Pieces);
     }
     if !outline_checks::tolerance_fine(tolerance) {
-        return Banded::Refused(Refusal::Tolerance);
+        return Err(Refusal::Tolerance);
     }
-    match outline_checks::check_outline(outline, 4096, m) {
-        Checked::Faulty(refusal) => Banded::Refused(refusal),
-        Checked::Curves(curves) => exchange_in(
-            outline,
-            tolerance as i64,
-            m as usize,
-            curves,
-            number,
-            &curve,
-            given,
-            records,
-        ),
-    }
+    let curves = outline_checks::check_outline(outline, 4096, m)?;
+    exchange_in(
+        outline,
+        tolerance as i64,
+        m as usize,
+        curves,
+        number,
+        &curve,
+        given,
+        records,
+    )
 }
 
 // The checks from 7 on of an outline without faults that has this many curves, for m pieces, whose rows are copied out
@@ -73,8 +68,8 @@ fn exchange_in(
     curve: &[i32],
     given: usize,
     records: &mut [i32],
-) -> Banded
-    requires { (HasRows m) × (Curves curves ≡ checked_of (outlined 4096 m ns.now)) × (length curve.now ≡ 13)
+) -> Result<Banded, Refusal>
+    requires { (HasRows m) × (Ok curves ≡ checked_of (outlined 4096 m ns.now)) × (length curve.now ≡ 13)
         × (Small (2 ^ 27) t) }
     ensures value { result
         ≡ exchanged_read (lists m) t ns.now number curve.now given records.old }
@@ -83,27 +78,28 @@ fn exchange_in(
         records.old }
 {
     let mut rows = [m as i64; 297];
-    bound_row_table::comparing::put_compared(&mut rows, m);
-    let shown = smaller(given, records.len());
-    match compare(records, shown, &rows, m, 5040 / m, ns, t, curves, number) {
-        Compared::Stopped(refusal) => Banded::Refused(refusal),
-        Compared::Through {
-            first,
-            second,
-            whole,
-            reach,
-        } => {
-            if curves <= number {
-                return Banded::Refused(Refusal::NoSuchCurve(number));
-            }
-            if !are_records(reach, given, whole) {
-                return Banded::Refused(Refusal::OtherRecords(smaller(reach, whole)));
-            }
-            exchange_by(
-                records, m, ns, t, curves, number, curve, first, second, whole,
-            )
-        }
+    bound_row_table::put_rows(&mut rows, m);
+    let shown = given.min(records.len());
+    let found = compare(records, shown, &rows, m, 5040 / m, ns, t, curves, number)?;
+    let whole = found.whole;
+    if curves <= number {
+        return Err(Refusal::NoSuchCurve(number));
     }
+    if !are_records(found.reach, given, whole) {
+        return Err(Refusal::OtherRecords(found.reach.min(whole)));
+    }
+    exchange_by(
+        records,
+        m,
+        ns,
+        t,
+        curves,
+        number,
+        curve,
+        found.first,
+        found.second,
+        whole,
+    )
 }
 
 // Whether numbers that agree as far as `reach` are all records: as many are given, and as many are the whole.
@@ -126,7 +122,7 @@ fn exchange_by(
     first: Stand,
     second: Stand,
     whole: usize,
-) -> Banded
+) -> Result<Banded, Refusal>
     requires { (HasRows m) × (length curve.now ≡ 13)
         × (Exchangeable (lists m) t ns.now curves number first second whole records.old) }
     ensures value { result
@@ -136,18 +132,16 @@ fn exchange_by(
         ≡ written_by result (records_for (lists m) t (changed ns.now number curve.now))
         records.old }
 {
-    match changed_fault(ns, first.at, second.at, curve, m as u32) {
-        Fault::Is(refusal) => Banded::Refused(refusal),
-        Fault::NoFault => replace(
-            records,
-            m,
-            t,
-            curves,
-            whole,
-            number,
-            curve,
-            first.place,
-            second.place,
-        ),
-    }
+    changed_fault(ns, first.at, second.at, curve, m as u32)?;
+    replace(
+        records,
+        m,
+        t,
+        curves,
+        whole,
+        number,
+        curve,
+        first.place,
+        second.place,
+    )
 }

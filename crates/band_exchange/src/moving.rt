@@ -22,11 +22,9 @@ fn move_forward(list: &mut [i32], from: usize, to: usize, n: usize)
     requires { (from + n ≤ length list.old) × (to ≤ from) }
     ensures { list.new ≡ moved_to list.old from to n }
 {
-    let mut i: usize = 0;
-    while i < n {
+    for i in 0..n {
         let z = list[from + i];
         list[to + i] = z;
-        i += 1;
     }
 }
 
@@ -35,9 +33,7 @@ fn move_back(list: &mut [i32], from: usize, to: usize, n: usize)
     requires { (to + n ≤ length list.old) × (from ≤ to) }
     ensures { list.new ≡ moved_to list.old from to n }
 {
-    let mut left = n;
-    while 0 < left {
-        left -= 1;
+    for left in (0..n).rev() {
         let z = list[from + left];
         list[to + left] = z;
     }

@@ -15,40 +15,39 @@ use Rattle.refusals.specs.declared.Refusal.{Refusal}
 use Rattle.refusals.specs.declared.Refusal.TheVariants.{NoSuchCurve, OtherRecords}
 use Rattle.outline_changed.specs.Changed.{changed}
 use Rattle.band_banded.specs.declared.banding.Banded.{Banded}
-use Rattle.band_banded.specs.declared.banding.Banded.TheVariants.{Done, Refused}
-use Rattle.band_banded.specs.Banding.{banded, written, written_by, written_given}
-use Rattle.judge.specs.declared.judging.Judgement.{Judgement}
-use Rattle.judge.specs.Judging.{Judged}
+use Rattle.std.specs.Prelude.{Result, Ok, Err}
+use Rattle.band_banded.specs.Banding.{done, banded, written, written_by, written_given}
+use Rattle.judge.specs.Judging.{Judgement, Judged}
 use Rattle.demand_3.specs.Demand3.{OutlineDemand3}
 use Rattle.demand_3.proofs.Demand3.{demand_3}
 use Rattle.band_exchanged.specs.Exchange.{records_for, other_records, exchanged_after, exchanged, exchanged_list}
 use Rattle.band_exchanged.proofs.Reaching.{others_are}
 
 -- ---- the old outline was accepted with n curves, of which there is a number k, the records are its own, and the rest is new
-record Passed (old : Banded) (k : ℕ) (others : Option ℕ) (new : Banded) (a b c : ℕ) : Type 0 where
+record Passed (old : Result Banded Refusal) (k : ℕ) (others : Option ℕ) (new : Result Banded Refusal) (a b c : ℕ) : Type 0 where
   curves : ℕ
   leaves : ℕ
   nodes : ℕ
-  accepted : old ≡ Done curves leaves nodes
+  accepted : old ≡ done curves leaves nodes
   number : k < curves
   own : others ≡ none
-  is : new ≡ Done a b c
+  is : new ≡ done a b c
 
-passed : (old : Banded) (k : ℕ) (others : Option ℕ) (new : Banded) (a b c : ℕ) → exchanged_after old k others new ≡ Done a b c
+passed : (old : Result Banded Refusal) (k : ℕ) (others : Option ℕ) (new : Result Banded Refusal) (a b c : ℕ) → exchanged_after old k others new ≡ done a b c
     → Passed old k others new a b c
-passed (Refused r) k others new a b c e = clash (cc)
-passed (Done n l d) k others new a b c e = go (ltb k n) refl others refl e
+passed (Err r) k others new a b c e = clash (cc)
+passed (Ok o) k others new a b c e = go (ltb k o.curves) refl others refl e
   where
-    go : (t : Bool) → ltb k n ≡ t → (o : Option ℕ) → others ≡ o
-        → ◌≡◌ {A = Banded} (elim t [ false ↦ Refused (NoSuchCurve k) | true ↦ elim o [ some i ↦ Refused (OtherRecords i) | none ↦ new ] ]) (Done a b c)
-        → Passed (Done n l d) k others new a b c
+    go : (t : Bool) → ltb k o.curves ≡ t → (i : Option ℕ) → others ≡ i
+        → ◌≡◌ {A = Result Banded Refusal} (elim t [ false ↦ Err (NoSuchCurve k) | true ↦ elim i [ some j ↦ Err (OtherRecords j) | none ↦ new ] ]) (done a b c)
+        → Passed (Ok o) k others new a b c
     go false f o g h = clash (cc)
     go true f (some i) g h = clash (cc)
-    go true f none g h = record { curves = n; leaves = l; nodes = d; accepted = refl; number = ltb-true k n f; own = g; is = h }
+    go true f none g h = record { curves = o.curves; leaves = o.leaves; nodes = o.nodes; accepted = refl; number = ltb-true k o.curves f; own = g; is = h }
 
 module _ (σ : Setting) (T : ℤ) (ns : List ℤ) (k : ℕ) (new : List ℤ) (count : ℕ) (lent : List ℤ) where
   -- ---- accepted
-  module _ (a b c : ℕ) (e : exchanged σ T ns k new count lent ≡ Done a b c) where
+  module _ (a b c : ℕ) (e : exchanged σ T ns k new count lent ≡ done a b c) where
     all : Passed (banded σ T ns (length (records_for σ T ns))) k (other_records count lent (records_for σ T ns)) (banded σ T (changed ns k new) (length lent))
         a b c
     unfolding exchanged
@@ -59,7 +58,7 @@ module _ (σ : Setting) (T : ℤ) (ns : List ℤ) (k : ℕ) (new : List ℤ) (co
     accepted_own = others_are count lent (records_for σ T ns) all.own
 
     -- banding accepts the changed outline with this report
-    pub accepted_new : banded σ T (changed ns k new) (length lent) ≡ Done a b c
+    pub accepted_new : banded σ T (changed ns k new) (length lent) ≡ done a b c
     accepted_new = all.is
 
     -- and leaves this list
@@ -75,6 +74,6 @@ module _ (σ : Setting) (T : ℤ) (ns : List ℤ) (k : ℕ) (new : List ℤ) (co
         rw accepted_list (demand_3 σ T (changed ns k new) lent a b c accepted_new x y answer (rw accepted_list at judged))
 
   -- ---- refused
-  pub refused_list : (r : Refusal) → exchanged σ T ns k new count lent ≡ Refused r → exchanged_list σ T ns k new count lent ≡ lent
+  pub refused_list : (r : Refusal) → exchanged σ T ns k new count lent ≡ Err r → exchanged_list σ T ns k new count lent ≡ lent
   unfolding exchanged_list
   refused_list r e = ap (λ q. written_by q (records_for σ T (changed ns k new)) lent) e

@@ -1,16 +1,17 @@
 -- Exchanging one curve of an outline whose records are there (document 02, request 12): what is answered in a setting,
 -- and what stands in the caller's list afterwards.
-use Rattle.std.specs.Prelude.{true, false, ◌&&◌, List, [], ◌∷◌, ℕ, suc, min, eqb, leb, ltb, length, take, ℤ}
+use Rattle.std.specs.Prelude.{true, false, ◌&&◌, List, [], ◌∷◌, ℕ, suc, min, eqb, leb, ltb, length, take, ℤ, Result, Ok}
+use Rattle.std.specs.Prelude.{Err}
 use Rattle.std.proofs.Math.Option.{Option, none, some}
 use Rattle.setting.specs.Setting.{Setting}
 use Rattle.integers.specs.Equal.{equal}
+use Rattle.refusals.specs.declared.Refusal.{Refusal}
 use Rattle.refusals.specs.declared.Refusal.TheVariants.{NoSuchCurve, OtherRecords}
 use Rattle.outline.specs.Checks.{outlined}
 use Rattle.outline_changed.specs.Changed.{changed}
 use Rattle.band_records.specs.Records.{all_records}
 use Rattle.band_passes.specs.Leaves.{curves_of}
 use Rattle.band_banded.specs.declared.banding.Banded.{Banded}
-use Rattle.band_banded.specs.declared.banding.Banded.TheVariants.{Done, Refused}
 use Rattle.band_banded.specs.Banding.{banded, written_by}
 
 -- the records of an outline's leaves
@@ -37,15 +38,17 @@ other_records count lent own =
 
 -- ---- the answer: the old outline's own refusals, as banding has them where there is room; 22; 23; then banding of the
 -- changed outline
-abbrev pub exchanged_after : (old : Banded) → (k : ℕ) → (others : Option ℕ) → (new : Banded) → Banded
-exchanged_after (Refused r) k others new = Refused r
-exchanged_after (Done curves leaves nodes) k others new =
-    elim (ltb k curves) [
-      | false ↦ Refused (NoSuchCurve k)
-      | true ↦ elim others [ some i ↦ Refused (OtherRecords i) | none ↦ new ]
+abbrev pub exchanged_after : (old : Result Banded Refusal) → (k : ℕ) → (others : Option ℕ)
+    → (new : Result Banded Refusal) → Result Banded Refusal
+exchanged_after (Err r) k others new = Err r
+exchanged_after (Ok b) k others new =
+    elim (ltb k b.curves) [
+      | false ↦ Err (NoSuchCurve k)
+      | true ↦ elim others [ some i ↦ Err (OtherRecords i) | none ↦ new ]
     ]
 
-unfoldable pub exchanged : Setting → ℤ → List ℤ → (k : ℕ) → (new : List ℤ) → (count : ℕ) → (lent : List ℤ) → Banded
+unfoldable pub exchanged : Setting → ℤ → List ℤ → (k : ℕ) → (new : List ℤ) → (count : ℕ) → (lent : List ℤ)
+    → Result Banded Refusal
 exchanged σ T ns k new count lent =
     exchanged_after (banded σ T ns (length (records_for σ T ns))) k (other_records count lent (records_for σ T ns))
     (banded σ T (changed ns k new) (length lent))

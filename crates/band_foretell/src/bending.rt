@@ -4,8 +4,6 @@ ghost use Rattle.curve_halves.specs.Sizes.{Each};
 ghost use Rattle.curve_nodes.specs.{Bounds.{Sized}, Differences.{difference, bend, largest}};
 
 use bound_coordinate::terms::difference_at;
-use bound_pieces::larger;
-use bound_tolerance::spread::size;
 use curve_nodes::Curve;
 
 // The size of the second difference of control values from place k on.
@@ -13,7 +11,7 @@ fn size_at(c: [i64; 6], k: usize) -> u64
     requires { (Each (2 ^ 44) c) × (k < 4) }
     ensures { result ≡ nat_abs (difference c k) }
 {
-    size(difference_at(c, k))
+    difference_at(c, k).unsigned_abs()
 }
 
 // The largest size of a second difference of one coordinate.
@@ -24,7 +22,7 @@ fn bend(c: [i64; 6], degree: u32) -> u64
     let count = (degree - 1) as usize;
     let mut most = 0;
     for k in 0..count {
-        most = larger(most, size_at(c, k));
+        most = most.max(size_at(c, k));
     }
     most
 }
@@ -37,5 +35,5 @@ pub fn largest_of(curve: Curve) -> u64
     let degree = curve.degree;
     let x = curve.x;
     let y = curve.y;
-    larger(bend(x, degree), bend(y, degree))
+    bend(x, degree).max(bend(y, degree))
 }

@@ -9,7 +9,6 @@ ghost use Rattle.band_foretold.specs.Foretelling.{foretold, depths_written};
 use crate::depths::depths_of;
 use band::pieces_fine;
 use band_foretold::foretelling::Foretold;
-use outline::Checked;
 use refusals::Refusal;
 
 pub mod bending;
@@ -20,24 +19,25 @@ pub mod premise;
 // Foretells the leaves of an outline of at most 4,096 curves with m pieces a leaf, at a tolerance in sixteenths. The
 // depths stand at the front of the list afterwards, one number a curve, −1 where a curve has none, and what stood
 // behind them stays. A refusal alters nothing. Defined for every outline, tolerance, m and list.
-pub fn foretell(outline: &[i32], tolerance: i32, m: u32, depths: &mut [i32]) -> Foretold
+pub fn foretell(
+    outline: &[i32],
+    tolerance: i32,
+    m: u32,
+    depths: &mut [i32],
+) -> Result<Foretold, Refusal>
     ensures value { result ≡ foretold (lists m) tolerance outline.now (length depths.old) }
     ensures depths_after { depths.new
         ≡ depths_written (lists m) tolerance outline.now depths.old }
 {
     if !pieces_fine(m) {
-        return Foretold::Refused(Refusal::Pieces);
+        return Err(Refusal::Pieces);
     }
     if !outline_checks::tolerance_fine(tolerance) {
-        return Foretold::Refused(Refusal::Tolerance);
+        return Err(Refusal::Tolerance);
     }
-    match outline_checks::check_outline(outline, 4096, m) {
-        Checked::Faulty(refusal) => Foretold::Refused(refusal),
-        Checked::Curves(curves) => {
-            if depths.len() < curves {
-                return Foretold::Refused(Refusal::TooFewRecords(curves));
-            }
-            depths_of(outline, tolerance as u64, m as usize, curves, depths)
-        }
+    let curves = outline_checks::check_outline(outline, 4096, m)?;
+    if depths.len() < curves {
+        return Err(Refusal::TooFewRecords(curves));
     }
+    Ok(depths_of(outline, tolerance as u64, m as usize, curves, depths))
 }

@@ -13,36 +13,34 @@ use Rattle.setting.specs.Setting.{Setting, lists, record_length, deepest}
 use Rattle.refusals.specs.declared.Refusal.TheVariants.{TooWide, TooFewRecords}
 use Rattle.curve_nodes.specs.declared.Curve.{Curve}
 use Rattle.curve_nodes.specs.Nodes.{depth}
-use Rattle.outline.specs.Checks.{curves}
 use Rattle.walk_curve.specs.Walked.{ends_of}
 use Rattle.walk_depths.specs.Premise.{Flat}
 use Rattle.walk_depths.specs.Depth.{depth_of}
-use Rattle.band_banded.specs.declared.banding.Banded.TheVariants.{Done, Refused}
-use Rattle.band_banded.specs.Banding.{banded}
+use Rattle.std.specs.Prelude.{Err}
+use Rattle.band_banded.specs.Banding.{done, banded}
 use Rattle.band_banded.specs.Outcomes.{Faultless}
 use Rattle.band_banded.proofs.Theorems.{few_exactly, done_exactly, leaf_at_most}
 use Rattle.band_banded.proofs.Computing.{reading, computing as banding}
-use Rattle.band_foretold.specs.declared.foretelling.Foretold.TheVariants as told
-use Rattle.band_foretold.specs.Foretelling.{foretold, depths_written}
+use Rattle.band_foretold.specs.Foretelling.{told, foretold, depths_written}
 use Rattle.band_foretold.specs.Outcomes.{Tells, Foretells}
 use Rattle.band_foretold.proofs.Theorems.{told_each, leaf_foretold, foretells}
 use Rattle.band_foretold.proofs.Computing.{computing}
 use Rattle.band_foretold.proofs.Examples.{bow, bow_at_44}
 
 -- ---- where leaves are foretold, and so many records are lent
-module _ (m : ℕ) (T : ℤ) (ns : List ℤ) (lent a b : ℕ) (said : foretold (lists m) T ns lent ≡ told.Done a b) (some : 0 < a) where
+module _ (m : ℕ) (T : ℤ) (ns : List ℤ) (lent a b : ℕ) (said : foretold (lists m) T ns lent ≡ told a b) (some : 0 < a) where
   claim : Foretells (lists m) T ns a b
   claim = foretells (lists m) T ns lent a b said some
 
   -- banding accepts, and reports no more of either
-  pub band_fits : (x : ℕ) × (y : ℕ) × (z : ℕ) × (banded (lists m) T ns (record_length (lists m) * a) ≡ Done x y z) × (y ≤ a) × (z ≤ b)
+  pub band_fits : (x : ℕ) × (y : ℕ) × (z : ℕ) × (banded (lists m) T ns (record_length (lists m) * a) ≡ done x y z) × (y ≤ a) × (z ≤ b)
   band_fits =
       let d = claim.accepts (record_length (lists m) * a) (lit≤ tt) (le_refl (record_length (lists m) * a)) in
       let n = claim.no_more (record_length (lists m) * a) d.0 d.1 d.2 d.3 in
       (d.0, d.1, d.2, d.3, n.0, n.1)
 
   -- and 8, to whatever shorter list, names no more leaves
-  pub spot_at_most : (room l : ℕ) → banded (lists m) T ns room ≡ Refused (TooFewRecords l) → l ≤ a
+  pub spot_at_most : (room l : ℕ) → banded (lists m) T ns room ≡ Err (TooFewRecords l) → l ≤ a
   spot_at_most room l e =
       let w = (few_exactly (lists m) T ns room l).0 e in
       let s = w.2 in
@@ -92,10 +90,10 @@ chord = record {
   y = pos 0 ∷ pos 0 ∷ pos 0 ∷ pos 0 ∷ pos 0 ∷ pos 0 ∷ [];
 }
 
-pub bow_never_wide : (room k n : ℕ) → banded (lists 3) (pos 44) bow room ≡ Refused (TooWide k n) → ⊥
+pub bow_never_wide : (room k n : ℕ) → banded (lists 3) (pos 44) bow room ≡ Err (TooWide k n) → ⊥
 bow_never_wide = (claim 3 (pos 44) bow 2 3 4 bow_at_44 (lit< tt)).no_wide
 
-pub bow_fits_54 : (l : ℕ) → banded (lists 3) (pos 44) bow 54 ≡ Refused (TooFewRecords l) → ⊥
+pub bow_fits_54 : (l : ℕ) → banded (lists 3) (pos 44) bow 54 ≡ Err (TooFewRecords l) → ⊥
 bow_fits_54 l = (claim 3 (pos 44) bow 2 3 4 bow_at_44 (lit< tt)).no_few 54 l (lit≤ tt)
 
 bow_faultless : Faultless (lists 3) (pos 44) bow (A ∷ chord ∷ [])
@@ -114,10 +112,10 @@ a_at_most_1 = leaf_foretold (lists 3) (pos 44) bow (A ∷ chord ∷ []) bow_faul
 abbrev line : List ℤ
 line = pos 1 ∷ pos 0 ∷ pos 0 ∷ pos 0 ∷ pos 1 ∷ []
 
-pub line_told_none : foretold (lists 3) (pos 2) line 1 ≡ told.Done 0 0
+pub line_told_none : foretold (lists 3) (pos 2) line 1 ≡ told 0 0
 unfolding computing
 line_told_none = refl
 
-pub line_accepted : banded (lists 3) (pos 2) line 18 ≡ Done 1 1 1
+pub line_accepted : banded (lists 3) (pos 2) line 18 ≡ done 1 1 1
 unfolding banding
 line_accepted = refl

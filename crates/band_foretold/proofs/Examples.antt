@@ -4,22 +4,22 @@ use mathlib.Core.List.{List, [], ◌∷◌}
 use mathlib.Core.Option.{none, some}
 use lib.ListN.{replicate}
 use lib.IntN.{ℤ, pos, negsuc}
+use Rattle.std.specs.Prelude.{Err}
 use Rattle.setting.specs.Setting.{lists}
 use Rattle.refusals.specs.declared.Refusal.TheVariants.{TooFewRecords, Tolerance, Pieces}
-use Rattle.band_foretold.specs.declared.foretelling.Foretold.TheVariants.{Done, Refused}
-use Rattle.band_foretold.specs.Foretelling.{foretell_depths, all_have, summed, foretold, depths_written}
+use Rattle.band_foretold.specs.Foretelling.{told, foretell_depths, all_have, summed, foretold, depths_written}
 use Rattle.band_foretold.proofs.Computing.{computing}
 
 -- depths 0, 3 and 1: 1 + 8 + 2 leaves, 1 + 15 + 3 nodes
-pub three_depths : foretell_depths 3 (some 0 ∷ some 3 ∷ some 1 ∷ []) ≡ Done 11 19
+pub three_depths : foretell_depths 3 (some 0 ∷ some 3 ∷ some 1 ∷ []) ≡ told 11 19
 unfolding foretell_depths all_have summed
 three_depths = refl
 
-pub one_has_none : foretell_depths 9 (some 0 ∷ none ∷ some 1 ∷ []) ≡ Done 0 0
+pub one_has_none : foretell_depths 9 (some 0 ∷ none ∷ some 1 ∷ []) ≡ told 0 0
 unfolding foretell_depths all_have summed
 one_has_none = refl
 
-pub two_lent : foretell_depths 2 (some 0 ∷ none ∷ some 1 ∷ []) ≡ Refused (TooFewRecords 3)
+pub two_lent : foretell_depths 2 (some 0 ∷ none ∷ some 1 ∷ []) ≡ Err (TooFewRecords 3)
 unfolding foretell_depths all_have summed
 two_lent = refl
 
@@ -27,7 +27,7 @@ two_lent = refl
 abbrev pub bow : List ℤ
 bow = pos 3 ∷ pos 0 ∷ pos 0 ∷ pos 10 ∷ pos 30 ∷ pos 20 ∷ pos 30 ∷ pos 30 ∷ pos 0 ∷ pos 1 ∷ pos 30 ∷ pos 0 ∷ pos 0 ∷ pos 0 ∷ []
 
-pub bow_at_44 : foretold (lists 3) (pos 44) bow 2 ≡ Done 3 4
+pub bow_at_44 : foretold (lists 3) (pos 44) bow 2 ≡ told 3 4
 unfolding computing
 bow_at_44 = refl
 
@@ -41,7 +41,7 @@ unfolding computing
 bow_at_2 = refl
 
 -- ---- refusals, and that they alter nothing
-pub one_lent : foretold (lists 3) (pos 44) bow 1 ≡ Refused (TooFewRecords 2)
+pub one_lent : foretold (lists 3) (pos 44) bow 1 ≡ Err (TooFewRecords 2)
 unfolding computing
 one_lent = refl
 
@@ -49,10 +49,10 @@ pub one_unaltered : depths_written (lists 3) (pos 44) bow (pos 7 ∷ []) ≡ pos
 unfolding computing
 one_unaltered = refl
 
-pub pieces_first : foretold (lists 9) (pos 1) [] 0 ≡ Refused Pieces
+pub pieces_first : foretold (lists 9) (pos 1) [] 0 ≡ Err Pieces
 unfolding computing
 pieces_first = refl
 
-pub tolerance_next : foretold (lists 8) (pos 1) [] 0 ≡ Refused Tolerance
+pub tolerance_next : foretold (lists 8) (pos 1) [] 0 ≡ Err Tolerance
 unfolding computing
 tolerance_next = refl

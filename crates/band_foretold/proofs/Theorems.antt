@@ -33,23 +33,23 @@ use Rattle.band_passes.specs.Leaves.{leaves_of, nodes_of}
 use Rattle.band_passes.specs.FirstWide.{AllMeet, FirstWide}
 use Rattle.band_passes.proofs.Counting.{few_leaves}
 use Rattle.band_passes.proofs.Wide.{none_wide, first_wide}
-use Rattle.band_banded.specs.declared.banding.Banded.TheVariants.{Done, Refused}
+use Rattle.std.specs.Prelude.{Result, Err}
 use Rattle.band_banded.specs.Banding.{band_given, banded}
 use Rattle.band_banded.specs.Outcomes.{Faultless}
 use Rattle.band_banded.proofs.Faults.{banded_curves}
 use Rattle.band_banded.proofs.Given.{Taken, outline_given}
 use Rattle.band_banded.proofs.Cases.{said_wide, said_few, said_done, done_said}
 use Rattle.band_banded.proofs.Theorems.{faultless_rows, leaf_at_most, flat_meets}
-use Rattle.band_foretold.specs.declared.foretelling.Foretold.TheVariants as told
+use Rattle.band_foretold.specs.declared.foretelling.Foretold.{Foretold}
 use Rattle.band_foretold.specs.Foretelling.{depths_of, depth_number, depth_numbers, all_have, summed, leaves_within, nodes_within}
-use Rattle.band_foretold.specs.Foretelling.{leaves_foretold, nodes_foretold, foretell_depths, foretold, depths_written}
+use Rattle.band_foretold.specs.Foretelling.{told, leaves_foretold, nodes_foretold, foretell_depths, foretold, depths_written}
 use Rattle.band_foretold.specs.Outcomes.{Tells, Foretells}
 use Rattle.band_foretold.proofs.Answering.{depths_length, numbers_length, foretold_curves}
 
 -- ---- the checks before the walk: foretelling refuses where banding does, with the same refusal
 module _ (σ : Setting) (T : ℤ) (ns : List ℤ) (room lent : ℕ) where
   pub early_alike : ((cs : List Curve) × Faultless σ T ns cs)
-      ⊎ ((r : Refusal) × (foretold σ T ns room ≡ told.Refused r) × (banded σ T ns lent ≡ Refused r))
+      ⊎ ((r : Refusal) × (foretold σ T ns room ≡ Err r) × (banded σ T ns lent ≡ Err r))
   unfolding foretold band_given
   early_alike = ⊎_elim
       (λ rows. ⊎_elim
@@ -60,7 +60,7 @@ module _ (σ : Setting) (T : ℤ) (ns : List ℤ) (room lent : ℕ) where
       (either (pieces_fine σ.pieces))
     where
       go : pieces_fine σ.pieces ≡ true → tolerance_fine T ≡ true → (o : Outlined) → outlined σ.most σ.pieces ns ≡ o
-          → ((cs : List Curve) × Faultless σ T ns cs) ⊎ ((r : Refusal) × (foretold σ T ns room ≡ told.Refused r) × (banded σ T ns lent ≡ Refused r))
+          → ((cs : List Curve) × Faultless σ T ns cs) ⊎ ((r : Refusal) × (foretold σ T ns room ≡ Err r) × (banded σ T ns lent ≡ Err r))
       go rows fine (curves cs) e = inl (cs, record { pieces = rows; tolerance = fine; outline = e })
       go rows fine (faulty r) e = inr (r, rw (rows, fine, e, foretold), rw (rows, fine, e, band_given))
 
@@ -98,16 +98,21 @@ module _ (σ : Setting) (T : ℤ) where
           (omega (arith, h.0, r.0), omega (arith, h.1, r.1))
 
 -- ---- the answer
-answer_done : (room : ℕ) (os : List (Option ℕ)) (a b : ℕ) → foretell_depths room os ≡ told.Done a b
+told_same : {a b x y : ℕ} → told a b ≡ told x y → (a ≡ x) × (b ≡ y)
+told_same {a} {b} {x} {y} e =
+    let r : ◌≡◌ {A = Foretold} (record { leaves = a; nodes = b }) (record { leaves = x; nodes = y }) = cc in
+    (ap (λ (f : Foretold). f.leaves) r, ap (λ (f : Foretold). f.nodes) r)
+
+answer_done : (room : ℕ) (os : List (Option ℕ)) (a b : ℕ) → foretell_depths room os ≡ told a b
     → (length os ≤ room) × (leaves_foretold os ≡ a) × (nodes_foretold os ≡ b)
 unfolding foretell_depths
 answer_done room os a b = go (ltb room (length os)) refl
   where
     go : (t : Bool) → ltb room (length os) ≡ t
-        → elim t [ true ↦ told.Refused (TooFewRecords (length os)) | false ↦ told.Done (leaves_foretold os) (nodes_foretold os) ] ≡ told.Done a b
+        → ◌≡◌ {A = Result Foretold Refusal} (elim t [ true ↦ Err (TooFewRecords (length os)) | false ↦ told (leaves_foretold os) (nodes_foretold os) ]) (told a b)
         → (length os ≤ room) × (leaves_foretold os ≡ a) × (nodes_foretold os ≡ b)
     go true f e = clash (cc)
-    go false f e = (ltb-false room (length os) f, cc, cc)
+    go false f e = let s = told_same e in (ltb-false room (length os) f, s.0, s.1)
 
 some_all : (t : Bool) (l a : ℕ) → cond t l 0 ≡ a → 0 < a → t ≡ true
 some_all true l a e h = refl
@@ -237,7 +242,7 @@ foretold_exactly σ T ns cs f = (
 )
 
 -- ---- where leaves are foretold, for whatever list the depths were written to
-pub foretells : (σ : Setting) (T : ℤ) (ns : List ℤ) (room a b : ℕ) → foretold σ T ns room ≡ told.Done a b → 0 < a → Foretells σ T ns a b
+pub foretells : (σ : Setting) (T : ℤ) (ns : List ℤ) (room a b : ℕ) → foretold σ T ns room ≡ told a b → 0 < a → Foretells σ T ns a b
 foretells σ T ns room a b e h = ⊎_elim
     (λ w. let f = w.1 in
     let d = answer_done room (depths_of σ T w.0) a b (foretold_curves σ ns T f.pieces f.tolerance w.0 f.outline room ∙ e) in
@@ -246,5 +251,5 @@ foretells σ T ns room a b e h = ⊎_elim
     (λ r. clash (not_done (sym r.1 ∙ e)))
     (early_alike σ T ns room 0)
   where
-    not_done : {r : Refusal} → told.Refused r ≡ told.Done a b → ◌≡◌ {A = ℕ} 0 1
+    not_done : {r : Refusal} → Err r ≡ told a b → ◌≡◌ {A = ℕ} 0 1
     not_done e = cc

@@ -1,15 +1,15 @@
 -- What foretelling answers in a setting, and what it leaves in the caller's list (request 09).
 use Rattle.std.specs.Prelude.{Bool, true, false, cond, List, [], ◌∷◌, ◌++◌, ℕ, ◌+◌, ◌-◌, ◌^◌, ltb, length}
-use Rattle.std.specs.Prelude.{drop, ℤ, pos, negsuc}
+use Rattle.std.specs.Prelude.{drop, ℤ, pos, negsuc, Result, Ok, Err}
 use Rattle.std.proofs.Math.Option.{Option, none, some}
 use Rattle.setting.specs.Setting.{Setting, pieces_fine}
+use Rattle.refusals.specs.declared.Refusal.{Refusal}
 use Rattle.refusals.specs.declared.Refusal.TheVariants.{Tolerance, TooFewRecords, Pieces}
 use Rattle.curve_nodes.specs.declared.Curve.{Curve}
 use Rattle.outline.specs.Checks.{tolerance_fine, Outlined, curves, faulty, outlined}
 use Rattle.walk_depths.specs.Depth.{depth_of}
 use Rattle.band_passes.specs.Leaves.{curves_of}
 use Rattle.band_foretold.specs.declared.foretelling.Foretold.{Foretold}
-use Rattle.band_foretold.specs.declared.foretelling.Foretold.TheVariants.{Done, Refused}
 
 -- ---- the depths of curves, and as the numbers that are written: −1 where a curve has none
 unfoldable pub depths_of : Setting → ℤ → List Curve → List (Option ℕ)
@@ -51,33 +51,37 @@ leaves_foretold os = cond (all_have os) (summed leaves_within os) 0
 abbrev pub nodes_foretold : List (Option ℕ) → ℕ
 nodes_foretold os = cond (all_have os) (summed nodes_within os) 0
 
+-- a leaves and b nodes are foretold
+abbrev pub told : (a b : ℕ) → Result Foretold Refusal
+told a b = Ok (record { leaves = a; nodes = b })
+
 -- ---- the answer, with `room` numbers lent: 18, 1, the outline's fault, 8, the sums
-unfoldable pub foretell_depths : (room : ℕ) → List (Option ℕ) → Foretold
+unfoldable pub foretell_depths : (room : ℕ) → List (Option ℕ) → Result Foretold Refusal
 foretell_depths room os =
     elim (ltb room (length os)) [
-      | true ↦ Refused (TooFewRecords (length os))
-      | false ↦ Done (leaves_foretold os) (nodes_foretold os)
+      | true ↦ Err (TooFewRecords (length os))
+      | false ↦ told (leaves_foretold os) (nodes_foretold os)
     ]
 
-abbrev pub foretell_outlined : Setting → ℤ → Outlined → ℕ → Foretold
-foretell_outlined σ T (faulty r) room = Refused r
+abbrev pub foretell_outlined : Setting → ℤ → Outlined → ℕ → Result Foretold Refusal
+foretell_outlined σ T (faulty r) room = Err r
 foretell_outlined σ T (curves cs) room = foretell_depths room (depths_of σ T cs)
 
-unfoldable pub foretold : Setting → ℤ → List ℤ → ℕ → Foretold
+unfoldable pub foretold : Setting → ℤ → List ℤ → ℕ → Result Foretold Refusal
 foretold σ T ns room =
     elim (pieces_fine σ.pieces) [
-      | false ↦ Refused Pieces
+      | false ↦ Err Pieces
       | true ↦
           elim (tolerance_fine T) [
-            | false ↦ Refused Tolerance
+            | false ↦ Err Tolerance
             | true ↦ foretell_outlined σ T (outlined σ.most σ.pieces ns) room
           ]
     ]
 
 -- ---- the caller's list afterwards: a number for each curve, then the rest as it was; a refusal alters nothing
-abbrev pub numbers_written : Foretold → List ℤ → List ℤ → List ℤ
-numbers_written (Refused r) numbers old = old
-numbers_written (Done a b) numbers old = numbers ++ drop (length numbers) old
+abbrev pub numbers_written : Result Foretold Refusal → List ℤ → List ℤ → List ℤ
+numbers_written (Err r) numbers old = old
+numbers_written (Ok f) numbers old = numbers ++ drop (length numbers) old
 
 unfoldable pub depths_written : Setting → ℤ → List ℤ → List ℤ → List ℤ
 depths_written σ T ns old =

@@ -1,9 +1,8 @@
-// The answer of foretelling.
-use refusals::Refusal;
+// The answer of foretelling: this, or the first fault as a refusal.
 
-// What foretelling answers: the leaves and the nodes foretold, 0 and 0 where a curve has no depth, or the first fault.
+// The most leaves and nodes that banding reports, and 0 and 0 where a curve has no depth.
 #[derive(Clone, Copy)]
-pub enum Foretold {
-    Done { leaves: usize, nodes: usize },
-    Refused(Refusal),
+pub struct Foretold {
+    pub leaves: usize,
+    pub nodes: usize,
 }

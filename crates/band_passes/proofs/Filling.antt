@@ -11,7 +11,7 @@ use lib.IntN.{ℤ}
 use Rattle.integers.proofs.Stores.{sets_append}
 use Rattle.setting.specs.Setting.{Setting, record_length}
 use Rattle.curve_nodes.specs.declared.Curve.{Curve}
-use Rattle.band_passes.specs.declared.forms.Form.{Form}
+use Rattle.band_passes.specs.Forms.{Form}
 use Rattle.walk_curve.specs.Walked.{node_meets, ends_of}
 use Rattle.band_records.specs.Records.{records_of, all_records}
 use Rattle.band_passes.specs.Leaves.{leaves_of}

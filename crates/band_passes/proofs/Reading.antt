@@ -7,7 +7,7 @@ use lib.ListN.{length}
 use lib.IntN.{ℤ}
 use Rattle.setting.specs.Setting.{Setting}
 use Rattle.curve_nodes.specs.declared.Curve.{Curve}
-use Rattle.band_passes.specs.declared.forms.Form.{Form}
+use Rattle.band_passes.specs.Forms.{Form}
 use Rattle.band_passes.specs.Inside.{read_at, next_of, curves_from, curves_in, Walkable, AllWalkable, more, Readable}
 
 pub curves_count : (read : ℕ → Curve) (next : ℕ → ℕ) (n at : ℕ) → length (curves_from read next n at) ≡ n

@@ -1,8 +1,10 @@
 -- For contracts inside the engine alone, no part of a public promise: how curves are read from a list, by its form,
 -- what the two passes ask of them, and what the first finds.
-use Rattle.std.specs.Prelude.{◌≡◌, Bool, true, false, List, [], ◌∷◌, ℕ, zero, suc, ◌+◌, ◌*◌, ◌≤◌, length, ℤ, Float}
+use Rattle.std.specs.Prelude.{◌≡◌, Bool, true, false, List, [], ◌∷◌, ℕ, zero, suc, ◌+◌, ◌*◌, ◌≤◌, length, ℤ, Result, Ok}
+use Rattle.std.specs.Prelude.{Err}
 use Rattle.std.proofs.Math.Option.{none, some}
 use Rattle.setting.specs.Setting.{Setting, record_length}
+use Rattle.refusals.specs.declared.Refusal.{Refusal}
 use Rattle.integers.specs.Entry.{entry}
 use Rattle.curve_nodes.specs.declared.Curve.{Curve}
 use Rattle.curve_nodes.specs.Bounds.{Sized}
@@ -13,17 +15,21 @@ use Rattle.outline_splines.specs.Splines.{spline_at}
 use Rattle.walk_tree.specs.Tree.{first_failing}
 use Rattle.walk_curve.specs.Walked.{node_meets, ends_of}
 use Rattle.walk_curve.specs.Inside.{Suits}
-use Rattle.band_passes.specs.declared.forms.Form.{Form}
-use Rattle.band_passes.specs.declared.forms.Form.TheVariants.{Outline, Binary64, Spline}
-use Rattle.band_passes.specs.declared.passes.Counted.{Counted}
-use Rattle.band_passes.specs.declared.passes.Counted.TheVariants.{Total, Stopped}
+use Rattle.band_passes.specs.declared.forms.CurveList.{CurveList}
+use Rattle.band_passes.specs.declared.forms.CurveList.TheVariants as Given
+use Rattle.band_passes.specs.Forms.{Form, Outline, Binary64, Spline}
 use Rattle.band_passes.specs.Leaves.{first_too_wide, leaves_of}
 
 -- ---- the numbers of a list, by its form: those of the list of integers, or the whole numbers read from that of f64
-abbrev pub numbers_of : Form → List ℤ → List Float → List ℤ
-numbers_of Outline ns xs = ns
-numbers_of Binary64 ns xs = wholes xs
-numbers_of Spline ns xs = ns
+abbrev pub form_of : CurveList → Form
+form_of (Given.Outline ns) = Outline
+form_of (Given.Binary64 xs) = Binary64
+form_of (Given.Spline ns) = Spline
+
+abbrev pub numbers_of : CurveList → List ℤ
+numbers_of (Given.Outline ns) = ns.now
+numbers_of (Given.Binary64 xs) = wholes xs.now
+numbers_of (Given.Spline ns) = ns.now
 
 -- ---- what they give, by their form: the curve at an index, where the next one is, and whether its control values are
 -- sixths
@@ -73,8 +79,8 @@ pub record Readable (σ : Setting) (f : Form) (ns : List ℤ) (n : ℕ) : Type 0
   pub few : n ≤ 65536
 
 -- check 7, or else how many leaves the curves have
-unfoldable pub counted_of : Setting → ℤ → List Curve → Counted
-counted_of σ T cs = elim (first_too_wide σ T 0 cs) [ some r ↦ Stopped r | none ↦ Total (leaves_of σ T cs) ]
+unfoldable pub counted_of : Setting → ℤ → List Curve → Result ℕ Refusal
+counted_of σ T cs = elim (first_too_wide σ T 0 cs) [ some r ↦ Err r | none ↦ Ok (leaves_of σ T cs) ]
 
 -- every end of the walk of curve c is a leaf at T
 pub record EndsMeet (σ : Setting) (T : ℤ) (c : Curve) : Type 0 where

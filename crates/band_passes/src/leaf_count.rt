@@ -1,54 +1,43 @@
 // The first pass over the curves of a list: it counts their leaves or finds a node that is still too wide.
 ghost use Rattle.std.specs.Prelude.{◌≡◌};
 ghost use Rattle.bound_pieces.specs.Inside.{PiecesReady, setting_of};
-ghost use Rattle.band_passes.specs.Inside.{numbers_of, Readable, curves_in, counted_of};
+ghost use Rattle.band_passes.specs.Inside.{form_of, numbers_of, Readable, curves_in, counted_of};
 
-use crate::forms::{Form, next_of};
-use crate::passes::Counted;
+use crate::forms::{CurveList, curve_at, next_of};
 use bound_pieces::Pieces;
-use outline_binary64::reading;
-use outline_reading::curve_values::curve_at;
-use outline_splines::spline_at;
 use refusals::Refusal;
-use walk_curve::{Walked, walk};
+use walk_curve::walk;
 
-// The leaves of a list without faults that has this many curves. The rows lent are those of the number of pieces.
+// How many leaves a list without faults has that gives this many curves, or the refusal of check 7. The rows lent are
+// those of the number of pieces.
 pub fn count(
     rows: &[i64],
     pieces: Pieces,
-    form: Form,
-    ns: &[i32],
-    xs: &[f64],
+    list: CurveList,
     t: i64,
     curves: usize,
-) -> Counted
+) -> Result<usize, Refusal>
     requires { (PiecesReady pieces rows.now)
-        × (Readable (setting_of pieces) form (numbers_of form ns.now xs.now) curves) }
+        × (Readable (setting_of pieces) (form_of list) (numbers_of list) curves) }
     ensures { result ≡ counted_of (setting_of pieces) t
-        (curves_in form (numbers_of form ns.now xs.now) curves) }
+        (curves_in (form_of list.entry) (numbers_of list.entry) curves) }
 {
     let mut leaves: usize = 0;
     let mut at: usize = 0;
-    let mut k: usize = 0;
-    while k < curves {
-        let curve = match form {
-            Form::Outline => curve_at(ns, at),
-            Form::Binary64 => reading::curve_at(xs, at),
-            Form::Spline => spline_at(ns, at),
-        };
-        at = next_of(form, ns, xs, at);
+    for k in 0..curves {
+        let curve = curve_at(list, at);
+        at = next_of(list, at);
         match walk(rows, pieces, curve, t) {
-            Walked::WideNode(node) => {
-                return Counted::Stopped(Refusal::TooWide {
+            Ok(n) => {
+                leaves += n;
+            }
+            Err(node) => {
+                return Err(Refusal::TooWide {
                     curve: k as u32,
                     node,
                 });
             }
-            Walked::Leaves(n) => {
-                leaves += n;
-            }
         }
-        k += 1;
     }
-    Counted::Total(leaves)
+    Ok(leaves)
 }

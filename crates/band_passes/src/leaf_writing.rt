@@ -5,16 +5,13 @@ ghost use Rattle.setting.specs.Setting.{record_length};
 ghost use Rattle.bound_pieces.specs.Inside.{PiecesReady, setting_of};
 ghost use Rattle.walk_curve.specs.Walked.{ends_of};
 ghost use Rattle.band_records.specs.Records.{records_of, all_records};
-ghost use Rattle.band_passes.specs.{Leaves.{leaves_of}, Inside.{numbers_of, curves_in, EndsMeet, Fillable}};
+ghost use Rattle.band_passes.specs.{Leaves.{leaves_of}, Inside.{form_of, numbers_of, curves_in, EndsMeet, Fillable}};
 
-use crate::forms::{Form, next_of};
+use crate::forms::{CurveList, curve_at, next_of};
 use band_records::{put_record, put_record_higher};
 use bound_pieces::Pieces;
 use bound_tolerance::Tested;
 use curve_nodes::Curve;
-use outline_binary64::reading;
-use outline_reading::curve_values::curve_at;
-use outline_splines::spline_at;
 use walk_curve::Part;
 
 // The records of a curve's leaves, from place `at` on. It returns the place after them. The rows lent are those of the
@@ -43,6 +40,7 @@ pub fn write_curve(
 }
 
 // Writes the records of a curve of degree 1 to 3.
+// Apart, for speed: in one loop with degrees 4 and 5 the test of a node is no longer inlined (docs/landings/20).
 fn write_low(
     records: &mut [i32],
     at: usize,
@@ -144,32 +142,24 @@ pub fn write_all(
     records: &mut [i32],
     rows: &[i64],
     pieces: Pieces,
-    form: Form,
-    ns: &[i32],
-    xs: &[f64],
+    list: CurveList,
     t: i64,
     curves: usize,
 ) -> usize
     requires { (PiecesReady pieces rows.now)
-        × (Fillable (setting_of pieces) t form (numbers_of form ns.now xs.now) curves (length records.old)) }
+        × (Fillable (setting_of pieces) t (form_of list) (numbers_of list) curves (length records.old)) }
     ensures value { result ≡ record_length (setting_of pieces) * leaves_of (setting_of pieces) t
-        (curves_in form (numbers_of form ns.now xs.now) curves) }
+        (curves_in (form_of list.entry) (numbers_of list.entry) curves) }
     ensures records_after { records.new ≡ sets records.old 0
         (all_records (setting_of pieces) t 0
-        (curves_in form (numbers_of form ns.now xs.now) curves)) }
+        (curves_in (form_of list.entry) (numbers_of list.entry) curves)) }
 {
     let mut at: usize = 0;
     let mut place: usize = 0;
-    let mut k: usize = 0;
-    while k < curves {
-        let curve = match form {
-            Form::Outline => curve_at(ns, at),
-            Form::Binary64 => reading::curve_at(xs, at),
-            Form::Spline => spline_at(ns, at),
-        };
-        at = next_of(form, ns, xs, at);
+    for k in 0..curves {
+        let curve = curve_at(list, at);
+        at = next_of(list, at);
         place = write_curve(records, place, rows, pieces, k as u32, curve, t);
-        k += 1;
     }
     place
 }

@@ -4,4 +4,3 @@
 pub mod forms;
 pub mod leaf_count;
 pub mod leaf_writing;
-pub mod passes;

@@ -25,13 +25,11 @@ fn put_coordinate(
     ensures { records.new
         ≡ put_pairs_by records.old at m shift rows.now z (suc m) }
 {
-    let mut i: usize = 0;
-    while i <= m {
+    for i in 0..m + 1 {
         let low = low_at(rows, z, shift, scale, m, i);
         let high = high_at(rows, z, shift, scale, m, i);
         records[at + 4 * i] = low as i32;
         records[at + 4 * i + 1] = high as i32;
-        i += 1;
     }
 }
 

@@ -67,11 +67,9 @@ fn put_low_boxes(
     let ys = curve.y;
     let x = bound_coordinate::terms::terms_of(xs, degree, m);
     let y = bound_coordinate::terms::terms_of(ys, degree, m);
-    let mut i: usize = 0;
-    while i <= m {
+    for i in 0..m + 1 {
         let place = at + 4 * i;
         put_box(records, place, rows, x, y, shift, pieces, i);
-        i += 1;
     }
 }
 
@@ -110,6 +108,7 @@ pub fn put_record(
 
 // The record of a node of degree 4 or 5: its curve's number, its own, and its boxes, by what goes with the number of
 // pieces, whose rows are lent.
+// It stands apart from `put_record`, as its loop from that of degrees 1 to 3, for speed (docs/landings/20).
 pub fn put_record_higher(
     records: &mut [i32],
     at: usize,

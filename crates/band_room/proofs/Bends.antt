@@ -1,5 +1,5 @@
 -- What the code takes for G and for M: neither is less, and 64 bits have room.
-use mathlib.Core.Path.{◌≡◌, refl}
+use mathlib.Core.Path.{◌≡◌}
 use mathlib.Core.List.{List}
 use Prim.Native.Nat.{ℕ, zero, suc, ◌+◌, ◌-◌, ◌*◌, ◌^◌, ◌≤◌, ◌<◌, max}
 use native.Mathlib.Nat.{mul-zero, le_trans, max-le}
@@ -11,7 +11,7 @@ use Rattle.integers.proofs.Table.{every_below}
 use Rattle.curve_halves.specs.Sizes.{Each}
 use Rattle.curve_nodes.specs.declared.Curve.{Curve}
 use Rattle.curve_nodes.specs.Bounds.{Sized}
-use Rattle.curve_nodes.specs.Differences.{difference, largest_of, bend, largest}
+use Rattle.curve_nodes.specs.Differences.{difference, largest_of, largest}
 use Rattle.curve_nodes.proofs.Sizes.{difference_under}
 use Rattle.curve_nodes.proofs.Quarter.{bend_least}
 use Rattle.bound_rows.specs.Table.{table, rows_of}

@@ -2,13 +2,13 @@
 use mathlib.Core.Path.{◌≡◌, refl, sym, ◌∙◌, ap}
 use mathlib.Core.List.{[], ◌∷◌}
 use Prim.Native.Nat.{ℕ, ◌+◌, ◌*◌, ◌/◌, ◌%◌, ◌^◌, ◌≤◌, ◌<◌}
-use native.Mathlib.Nat.{div-one, div-le_self, le_trans, pow-suc, one-mul, mod-eq_of_lt, lt_of_le_of_lt, div-div-eq-div-mul}
+use native.Mathlib.Nat.{div-one, div-le_self, pow-suc, one-mul, mod-eq_of_lt, lt_of_le_of_lt, div-div-eq-div-mul}
 use native.Mathlib.Numerals.{add-one}
 use native.Mathlib.Omega.{arith}
 use lib.Dec.{lit<}
 use lib.Pow.{pow_mono}
-use lib.IntN.{ℤ, pos, ◌+ℤ◌, ◌*ℤ◌}
-use lib.Signed.{lt_z, ◌≤ℤ◌}
+use lib.IntN.{ℤ, pos, ◌+ℤ◌}
+use lib.Signed.{lt_z}
 use mathlib.Core.Bool.{false}
 use mir.Syntax.{w64}
 use mir.Val.{to_z}

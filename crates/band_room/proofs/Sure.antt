@@ -4,19 +4,16 @@ use mathlib.Core.Path.{◌≡◌, refl}
 use mathlib.Core.Bool.{Bool, true, false, cond}
 use mathlib.Core.Logic.{⊎_elim}
 use mathlib.Core.List.{List, [], ◌∷◌}
-use mathlib.Core.Option.{none}
-use Prim.Native.Nat.{ℕ, ◌+◌, ◌-◌, ◌*◌, ◌/◌, ◌%◌, ◌^◌, ◌≤◌, ◌<◌}
+use Prim.Native.Nat.{ℕ, ◌+◌, ◌-◌, ◌*◌, ◌/◌, ◌^◌, ◌≤◌, ◌<◌}
 use native.Mathlib.Nat.{le_trans, mul-le-mul, le_refl, mul_assoc, mul_comm, mul-add, div-div-eq-div-mul, div-add-mod, mod-lt, one-le-pow, zero-lt-suc}
 use native.Mathlib.Omega.{arith}
-use lib.ListN.{length}
 use lib.IntN.{ℤ, pos, nat_abs, ◌+ℤ◌, ◌-ℤ◌, ◌*ℤ◌}
-use lib.Pow.{pow_pos}
 use lib.Signed.{◌≤ℤ◌}
 use Rattle.setting.specs.Setting.{Setting, HasRows, scale, degree_pieces, deepest}
 use Rattle.setting.proofs.Depths.{deepest_low}
 use Rattle.integers.specs.Squares.{squared}
 use Rattle.integers.proofs.Ring.{sides}
-use Rattle.integers.proofs.Order.{natural, gap, gap<, le_by, clash_by, le_or_lt, pos_le, pos_lt, ≤ℤ_trans, +ℤ_mono, ◌+₀◌, ◌×₀◌}
+use Rattle.integers.proofs.Order.{natural, gap, gap<, le_by, clash_by, le_or_lt, pos_lt, ≤ℤ_trans, +ℤ_mono, ◌+₀◌, ◌×₀◌}
 use Rattle.integers.proofs.Squares.{square_mono}
 use Rattle.curve_nodes.specs.declared.Curve.{Curve}
 use Rattle.curve_nodes.specs.Bounds.{Sized}
@@ -27,7 +24,6 @@ use Rattle.curve_nodes.proofs.Quarter.{quarter_x, quarter_y}
 use Rattle.bound_rows.specs.Rule.{gap_of}
 use Rattle.bound_enclosure.specs.AtDepth.{high_of, low_of}
 use Rattle.bound_enclosure.proofs.Width.{width_gap}
-use Rattle.bound_node.specs.Boxes.{meets}
 use Rattle.bound_node.proofs.Sound.{low_high}
 use Rattle.bound_node.proofs.Narrow.{narrow_meets}
 use Rattle.bound_pieces.specs.Inside.{times}

@@ -1,6 +1,6 @@
 -- What a caller may conclude from the tightest band and from banding at a larger tolerance. Each law uses a conclusion of the theorems, so that a
 -- weaker one is seen here.
-use mathlib.Core.Path.{◌≡◌, sym, ◌∙◌, subst}
+use mathlib.Core.Path.{◌≡◌, sym, ◌∙◌, ap, subst}
 use mathlib.Core.Bool.{true}
 use mathlib.Core.Logic.{⊎_elim}
 use mathlib.Core.List.{List, Memᴰ}
@@ -9,15 +9,15 @@ use native.Mathlib.Nat.{le_refl, div-le_self, div-eq_of_lt}
 use native.Mathlib.Omega.{arith}
 use lib.Pow.{pow_mono}
 use lib.IntN.{ℤ, pos}
+use Rattle.std.specs.Prelude.{Some, None, Ok}
 use lib.Signed.{◌≤ℤ◌}
 use Rattle.setting.specs.Setting.{Setting, lists, record_length}
 use Rattle.curve_nodes.specs.declared.Curve.{Curve}
 use Rattle.outline.specs.Checks.{Outlined, tolerance_fine, curves, outlined}
 use Rattle.walk_tree.specs.Leaves.{Leaf, Ancestor}
 use Rattle.walk_curve.specs.Walked.{node_meets}
-use Rattle.band_banded.specs.declared.banding.Banded.TheVariants.{Done}
-use Rattle.band_banded.specs.Banding.{banded}
-use Rattle.band_tightest.specs.declared.tolerances.Tightest.TheVariants.{Least, Nothing}
+use Rattle.band_banded.specs.declared.banding.Banded.{Banded}
+use Rattle.band_banded.specs.Banding.{done, banded}
 use Rattle.band_tightest.specs.Tightest.{tightest}
 use Rattle.band_tightest.specs.Looser.{Merged, StillAccepted}
 use Rattle.band_tightest.proofs.Looser.{still_accepted}
@@ -27,9 +27,9 @@ use Rattle.band_tightest.proofs.Theorems.{least_exactly, nothing_exactly, fits_e
 module _ (m : ℕ) (ns : List ℤ) (R : ℕ) where
   -- banding accepts at T
   abbrev pub AcceptedAt : ℕ → Type 0
-  AcceptedAt T = (a : ℕ) × (b : ℕ) × (c : ℕ) × (banded (lists m) (pos T) ns (record_length (lists m) * R) ≡ Done a b c)
+  AcceptedAt T = (a : ℕ) × (b : ℕ) × (c : ℕ) × (banded (lists m) (pos T) ns (record_length (lists m) * R) ≡ done a b c)
 
-  module _ {T : ℕ} (said : tightest (lists m) ns R ≡ Least T) where
+  module _ {T : ℕ} (said : tightest (lists m) ns R ≡ Ok (Some T)) where
     pub tightest_accepted : (2 ≤ T) × (T ≤ 1048576) × AcceptedAt T
     tightest_accepted =
         let h = (least_exactly (lists m) ns R T).0 said in
@@ -42,7 +42,7 @@ module _ (m : ℕ) (ns : List ℤ) (R : ℕ) where
         let high = h.2.fits.high in
         omega (arith, less, h.2.least S ((fits_exactly m ns R S low (omega arith) h.0 h.1).1 e))
 
-  pub none_accepted : tightest (lists m) ns R ≡ Nothing → (S : ℕ) → 2 ≤ S → S ≤ 1048576 → AcceptedAt S → ⊥
+  pub none_accepted : tightest (lists m) ns R ≡ Ok None → (S : ℕ) → 2 ≤ S → S ≤ 1048576 → AcceptedAt S → ⊥
   none_accepted said S low high e =
       let h = (nothing_exactly (lists m) ns R).0 said in
       h.2 S ((fits_exactly m ns R S low high h.0 h.1).1 e)
@@ -59,16 +59,19 @@ none_above a =
     omega (arith, a.node, a.is ∙ zero)
 
 module _ (σ : Setting) (T U : ℤ) (ns : List ℤ) (room a b c : ℕ) (larger : T ≤ℤ U) (fine : tolerance_fine U ≡ true)
-    (accepted : banded σ T ns room ≡ Done a b c) where
+    (accepted : banded σ T ns room ≡ done a b c) where
   still : StillAccepted σ T U (outlined σ.most σ.pieces ns) room a b
   still = still_accepted σ T U ns room a b c larger fine accepted
 
   -- what is reported there has as many curves and no more leaves
-  pub no_more_leaves : (x l n : ℕ) → banded σ U ns room ≡ Done x l n → (x ≡ a) × (l ≤ b)
+  pub no_more_leaves : (x l n : ℕ) → banded σ U ns room ≡ done x l n → (x ≡ a) × (l ≤ b)
   no_more_leaves x l n e = go (sym still.accepts ∙ e) still.fewer
     where
-      go : {l' n' : ℕ} → Done a l' n' ≡ Done x l n → l' ≤ b → (x ≡ a) × (l ≤ b)
-      go {l'} e h = let q : l' ≡ l = cc in (cc, omega arith)
+      go : {l' n' : ℕ} → done a l' n' ≡ done x l n → l' ≤ b → (x ≡ a) × (l ≤ b)
+      go {l'} {n'} e h =
+          let r : ◌≡◌ {A = Banded} (record { curves = a; leaves = l'; nodes = n' }) (record { curves = x; leaves = l; nodes = n }) = cc in
+          let q : l' ≡ l = ap (λ (d : Banded). d.leaves) r in
+          (sym (ap (λ (d : Banded). d.curves) r), omega arith)
 
   module _ (cs : List Curve) (given : outlined σ.most σ.pieces ns ≡ curves cs) (k : Curve) (i : Memᴰ k cs) where
     merged : Merged σ T U k

@@ -4,11 +4,11 @@ use mathlib.Core.Bool.{true, false}
 use mathlib.Core.List.{List, [], ◌∷◌}
 use native.Mathlib.Omega.{arith}
 use lib.IntN.{ℤ, pos}
+use Rattle.std.specs.Prelude.{Some, None, Ok, Err}
 use Rattle.setting.specs.Setting.{lists}
 use Rattle.refusals.specs.declared.Refusal.TheVariants.{Pieces, EmptyOutline, CutShort}
 use Rattle.curve_nodes.specs.declared.Curve.{Curve}
 use Rattle.band_banded.proofs.Computing.{reading, computing}
-use Rattle.band_tightest.specs.declared.tolerances.Tightest.TheVariants.{Least, Nothing, Refused}
 use Rattle.band_tightest.specs.Tightest.{too_tight, tightest}
 use Rattle.band_tightest.specs.Fitting.{Fine}
 use Rattle.band_tightest.proofs.Answers.{answer_curves}
@@ -37,7 +37,7 @@ two_at_43 : too_tight (lists 3) (curve_A ∷ []) 1 43 ≡ true
 unfolding computing too_tight
 two_at_43 = refl
 
-pub a_44 : tightest (lists 3) A 1 ≡ Least 44
+pub a_44 : tightest (lists 3) A 1 ≡ Ok (Some 44)
 a_44 = sym (answer_curves (lists 3) A 1 fine_A) ∙ sym (least_found (lists 3) (curve_A ∷ []) 1 {low = 43} (record {
   least = omega arith;
   order = omega arith;
@@ -51,7 +51,7 @@ some_leaf : too_tight (lists 3) (curve_A ∷ []) 0 1048576 ≡ true
 unfolding computing too_tight
 some_leaf = refl
 
-pub a_none : tightest (lists 3) A 0 ≡ Nothing
+pub a_none : tightest (lists 3) A 0 ≡ Ok None
 a_none = sym (answer_curves (lists 3) A 0 fine_A) ∙ sym (nothing_fits (lists 3) (curve_A ∷ []) 0 some_leaf)
 
 -- ---- a line at T 2
@@ -70,7 +70,7 @@ one_at_2 : too_tight (lists 3) (line ∷ []) 1 2 ≡ false
 unfolding computing too_tight
 one_at_2 = refl
 
-pub line_2 : tightest (lists 3) (pos 1 ∷ pos 0 ∷ pos 0 ∷ pos 0 ∷ pos 1 ∷ []) 1 ≡ Least 2
+pub line_2 : tightest (lists 3) (pos 1 ∷ pos 0 ∷ pos 0 ∷ pos 0 ∷ pos 1 ∷ []) 1 ≡ Ok (Some 2)
 line_2 = sym (answer_curves (lists 3) _ 1 fine_line) ∙ sym (least_found (lists 3) (line ∷ []) 1 {low = 1} (record {
   least = omega arith;
   order = omega arith;
@@ -80,14 +80,14 @@ line_2 = sym (answer_curves (lists 3) _ 1 fine_line) ∙ sym (least_found (lists
 }) (omega arith))
 
 -- ---- 18 before the outline, and no tolerance that could be refused
-pub pieces_first : tightest (lists 9) [] 1 ≡ Refused Pieces
+pub pieces_first : tightest (lists 9) [] 1 ≡ Err Pieces
 unfolding computing tightest
 pieces_first = refl
 
-pub empty_next : tightest (lists 3) [] 1 ≡ Refused EmptyOutline
+pub empty_next : tightest (lists 3) [] 1 ≡ Err EmptyOutline
 unfolding computing tightest
 empty_next = refl
 
-pub cut_short : tightest (lists 3) (pos 1 ∷ pos 0 ∷ []) 1 ≡ Refused (CutShort 2)
+pub cut_short : tightest (lists 3) (pos 1 ∷ pos 0 ∷ []) 1 ≡ Err (CutShort 2)
 unfolding computing tightest
 cut_short = refl

@@ -8,6 +8,7 @@ use Prim.Native.Nat.{ℕ, ◌≤◌}
 use native.Mathlib.Nat.{le_refl, le_trans, mul-le-mul}
 use native.Mathlib.Omega.{arith}
 use lib.IntN.{ℤ, pos}
+use Rattle.std.specs.Prelude.{Err}
 use lib.Signed.{◌≤ℤ◌}
 use Rattle.setting.specs.Setting.{Setting, splines, pieces_fine, record_length, deepest}
 use Rattle.setting.proofs.Pieces.{fine_has_rows}
@@ -24,8 +25,7 @@ use Rattle.walk_curve.specs.Walked.{node_meets, ends_of}
 use Rattle.walk_depths.proofs.Widest.{widest_passes}
 use Rattle.band_passes.specs.Leaves.{leaves_of, nodes_of}
 use Rattle.band_passes.specs.FirstWide.{AllMeet}
-use Rattle.band_banded.specs.declared.banding.Banded.TheVariants.{Done, Refused}
-use Rattle.band_banded.specs.Banding.{band_given, banded, banded_spline}
+use Rattle.band_banded.specs.Banding.{done, band_given, banded, banded_spline}
 use Rattle.band_banded.proofs.Given.{Given, outline_given, spline_given}
 use Rattle.band_banded.proofs.Theorems.{wide_given, done_given, leaves_exactly}
 use Rattle.outline_splines.specs.Splines.{splined}
@@ -70,7 +70,7 @@ fine_some : {T : ℤ} → tolerance_fine T ≡ true → NonNeg T
 fine_some {T} f = nonneg (≤ℤ_trans (pos_le {m = 0} {n = 2} (omega arith)) (between_low (pos 2) (pos 1048576) T f))
 
 module _ (σ : Setting) {o : Outlined} (given : Given σ o) where
-  given_accepted : (T U : ℤ) (room a b c : ℕ) → T ≤ℤ U → tolerance_fine U ≡ true → band_given σ T o room ≡ Done a b c
+  given_accepted : (T U : ℤ) (room a b c : ℕ) → T ≤ℤ U → tolerance_fine U ≡ true → band_given σ T o room ≡ done a b c
       → StillAccepted σ T U o room a b
   given_accepted T U room a b c larger fine e =
       let h = (done_given σ T given room a b c).0 e in
@@ -106,7 +106,7 @@ module _ (σ : Setting) {o : Outlined} (given : Given σ o) where
       let t = given.taken cs e in
       record { each = λ c i. widest_passes σ (fine_has_rows σ.pieces fine) c (t.sized c i) (t.takes c i) }
 
-  given_never_wide : (room k n : ℕ) → band_given σ (pos 1048576) o room ≡ Refused (TooWide k n) → ⊥
+  given_never_wide : (room k n : ℕ) → band_given σ (pos 1048576) o room ≡ Err (TooWide k n) → ⊥
   given_never_wide room k n e =
       let h = (wide_given σ (pos 1048576) given room k n).0 e in
       let w = h.2 in
@@ -115,17 +115,17 @@ module _ (σ : Setting) {o : Outlined} (given : Given σ o) where
       not_both (((widest_meets h.1.pieces h.1.outline).each w.curve here).each n end) w.first.fails
 
 -- ---- an outline, in every setting
-pub still_accepted : (σ : Setting) (T U : ℤ) (ns : List ℤ) (room a b c : ℕ) → T ≤ℤ U → tolerance_fine U ≡ true → banded σ T ns room ≡ Done a b c
+pub still_accepted : (σ : Setting) (T U : ℤ) (ns : List ℤ) (room a b c : ℕ) → T ≤ℤ U → tolerance_fine U ≡ true → banded σ T ns room ≡ done a b c
     → StillAccepted σ T U (outlined σ.most σ.pieces ns) room a b
 still_accepted σ T U ns = given_accepted σ (outline_given σ ns) T U
 
-pub never_wide : (σ : Setting) (ns : List ℤ) (room k n : ℕ) → banded σ (pos 1048576) ns room ≡ Refused (TooWide k n) → ⊥
+pub never_wide : (σ : Setting) (ns : List ℤ) (room k n : ℕ) → banded σ (pos 1048576) ns room ≡ Err (TooWide k n) → ⊥
 never_wide σ ns = given_never_wide σ (outline_given σ ns)
 
 -- ---- a B-spline
-pub spline_still_accepted : (m : ℕ) (T U : ℤ) (ns : List ℤ) (room a b c : ℕ) → T ≤ℤ U → tolerance_fine U ≡ true → banded_spline m T ns room ≡ Done a b c
+pub spline_still_accepted : (m : ℕ) (T U : ℤ) (ns : List ℤ) (room a b c : ℕ) → T ≤ℤ U → tolerance_fine U ≡ true → banded_spline m T ns room ≡ done a b c
     → StillAccepted (splines m) T U (splined ns) room a b
 spline_still_accepted m T U ns = given_accepted (splines m) (spline_given m ns) T U
 
-pub spline_never_wide : (m : ℕ) (ns : List ℤ) (room k n : ℕ) → banded_spline m (pos 1048576) ns room ≡ Refused (TooWide k n) → ⊥
+pub spline_never_wide : (m : ℕ) (ns : List ℤ) (room k n : ℕ) → banded_spline m (pos 1048576) ns room ≡ Err (TooWide k n) → ⊥
 spline_never_wide m ns = given_never_wide (splines m) (spline_given m ns)

@@ -11,6 +11,7 @@ use native.Mathlib.Nat.{le_refl, mul-le-mul, le_of_mul-le-mul_left}
 use native.Mathlib.Omega.{arith}
 use lib.ListN.{length}
 use lib.IntN.{ℤ, pos}
+use Rattle.std.specs.Prelude.{Some, None, Result, Ok, Err}
 use Rattle.setting.specs.Setting.{Setting, lists, pieces_fine, record_length}
 use Rattle.integers.specs.First.{first_bad}
 use Rattle.integers.proofs.First.{none_bad, bad_below, bad_from, bad_at, bad_is, bad_first}
@@ -25,12 +26,9 @@ use Rattle.outline.proofs.Accepted.{accepted_most}
 use Rattle.walk_tree.proofs.Tree.{either, not_both}
 use Rattle.band_passes.specs.Leaves.{leaves_of, nodes_of}
 use Rattle.band_passes.proofs.Counting.{few_leaves}
-use Rattle.band_banded.specs.declared.banding.Banded.TheVariants.{Done, Refused as NotBanded}
-use Rattle.band_banded.specs.Banding.{band_given, banded}
+use Rattle.band_banded.specs.Banding.{done, band_given, banded}
 use Rattle.band_banded.proofs.Theorems.{done_exactly}
 use Rattle.band_banded.proofs.Given.{outline_given}
-use Rattle.band_tightest.specs.declared.tolerances.Tightest.{Tightest}
-use Rattle.band_tightest.specs.declared.tolerances.Tightest.TheVariants.{Least, Nothing, Refused}
 use Rattle.band_tightest.specs.Tightest.{too_tight, tightest_of, tightest}
 use Rattle.band_tightest.specs.Fitting.{Fine, Fits, LeastFits}
 use Rattle.band_tightest.proofs.Looser.{widest_meets}
@@ -38,15 +36,15 @@ use Rattle.band_tightest.proofs.Answers.{answer_curves}
 use Rattle.band_tightest.proofs.Span.{said, loose, loose_meets, loose_few, nothing_fits}
 
 -- ---- of curves
-said_least : (o : Option ℕ) (T : ℕ) → said o ≡ Least T → o ≡ some T
+said_least : (o : Option ℕ) (T : ℕ) → said o ≡ Ok (Some T) → o ≡ some T
 said_least none T e = clash (cc)
 said_least (some S) T e = cc
 
-said_nothing : (o : Option ℕ) → said o ≡ Nothing → o ≡ none
+said_nothing : (o : Option ℕ) → said o ≡ Ok None → o ≡ none
 said_nothing none e = refl
 said_nothing (some S) e = clash (cc)
 
-never_refused : (o : Option ℕ) (r : Refusal) → said o ≡ Refused r → ⊥
+never_refused : (o : Option ℕ) (r : Refusal) → said o ≡ Err r → ⊥
 never_refused none r e = clash (cc)
 never_refused (some S) r e = clash (cc)
 
@@ -60,7 +58,7 @@ module _ (σ : Setting) (cs : List Curve) (R : ℕ) where
   misfit : {T : ℕ} → 2 ≤ T → T ≤ 1048576 → (Fits σ cs R T → ⊥) → too_tight σ cs R T ≡ true
   misfit {T} low high h = ⊎_elim (λ t. t) (λ e. absurd (h (loose_fits low high e))) (either (too_tight σ cs R T))
 
-  least_of : (T : ℕ) → tightest_of σ cs R ≡ Least T → LeastFits σ cs R T
+  least_of : (T : ℕ) → tightest_of σ cs R ≡ Ok (Some T) → LeastFits σ cs R T
   unfolding tightest_of
   least_of T e =
       let f = said_least (first_bad (too_tight σ cs R) 1048575 2) T e in
@@ -72,14 +70,14 @@ module _ (σ : Setting) (cs : List Curve) (R : ℕ) where
             (lt_or_ge S T);
       }
 
-  of_least : (T : ℕ) → LeastFits σ cs R T → tightest_of σ cs R ≡ Least T
+  of_least : (T : ℕ) → LeastFits σ cs R T → tightest_of σ cs R ≡ Ok (Some T)
   unfolding tightest_of
   of_least T l =
       let high = l.fits.high in
       ap said (bad_at (too_tight σ cs R) 1048575 2 T l.fits.low (omega arith) (fits_loose l.fits)
       (λ k low h. misfit low (omega arith) (λ f. let m = l.least k f in omega arith)))
 
-  none_of : tightest_of σ cs R ≡ Nothing → (T : ℕ) → Fits σ cs R T → ⊥
+  none_of : tightest_of σ cs R ≡ Ok None → (T : ℕ) → Fits σ cs R T → ⊥
   unfolding tightest_of
   none_of e T f =
       let low = f.low in
@@ -88,7 +86,7 @@ module _ (σ : Setting) (cs : List Curve) (R : ℕ) where
       let tight = none_bad (too_tight σ cs R) 1048575 2 (said_nothing (first_bad (too_tight σ cs R) 1048575 2) e) (T - 2) (omega arith) in
       not_both (rw is at tight) (fits_loose f)
 
-  of_none : ((T : ℕ) → Fits σ cs R T → ⊥) → tightest_of σ cs R ≡ Nothing
+  of_none : ((T : ℕ) → Fits σ cs R T → ⊥) → tightest_of σ cs R ≡ Ok None
   of_none h = sym (nothing_fits σ cs R (misfit (omega arith) (omega arith) (h 1048576)))
 
 -- ---- of an outline
@@ -98,7 +96,7 @@ module _ (σ : Setting) (ns : List ℤ) (R : ℕ) where
 
   -- the checks of m and of the outline find no fault, or the refusal is that of banding at every tolerance of the span
   pub early_alike : ((cs : List Curve) × Fine σ ns cs)
-      ⊎ ((r : Refusal) × (tightest σ ns R ≡ Refused r) × ((T : ℤ) (room : ℕ) → tolerance_fine T ≡ true → banded σ T ns room ≡ NotBanded r))
+      ⊎ ((r : Refusal) × (tightest σ ns R ≡ Err r) × ((T : ℤ) (room : ℕ) → tolerance_fine T ≡ true → banded σ T ns room ≡ Err r))
   unfolding tightest band_given
   early_alike = ⊎_elim
       (λ fine. go fine (outlined σ.most σ.pieces ns) refl)
@@ -106,32 +104,32 @@ module _ (σ : Setting) (ns : List ℤ) (R : ℕ) where
       (either (pieces_fine σ.pieces))
     where
       go : pieces_fine σ.pieces ≡ true → (o : Outlined) → outlined σ.most σ.pieces ns ≡ o → ((cs : List Curve) × Fine σ ns cs)
-          ⊎ ((r : Refusal) × (tightest σ ns R ≡ Refused r) × ((T : ℤ) (room : ℕ) → tolerance_fine T ≡ true → banded σ T ns room ≡ NotBanded r))
+          ⊎ ((r : Refusal) × (tightest σ ns R ≡ Err r) × ((T : ℤ) (room : ℕ) → tolerance_fine T ≡ true → banded σ T ns room ≡ Err r))
       go fine (curves cs) e = inl (cs, record { pieces = fine; outline = e })
       go fine (faulty r) e = inr (r, rw (fine, e, tightest), λ T room f. rw (fine, f, e, band_given))
 
   -- an answer that is no refusal is the answer for the outline's curves
-  of_curves : {v : Tightest} → ((r : Refusal) → Refused r ≡ v → ⊥) → tightest σ ns R ≡ v
+  of_curves : {v : Result (Rattle.std.specs.Prelude.Option ℕ) Refusal} → ((r : Refusal) → Err r ≡ v → ⊥) → tightest σ ns R ≡ v
       → (cs : List Curve) × Fine σ ns cs × (tightest_of σ cs R ≡ v)
   of_curves not_refused e = ⊎_elim
       (λ t. (t.0, t.1, sym (of_fine t.1) ∙ e))
       (λ r. absurd (not_refused r.0 (sym r.1 ∙ e)))
       early_alike
 
-  pub least_exactly : (T : ℕ) → (tightest σ ns R ≡ Least T) ↔ ((cs : List Curve) × Fine σ ns cs × LeastFits σ cs R T)
+  pub least_exactly : (T : ℕ) → (tightest σ ns R ≡ Ok (Some T)) ↔ ((cs : List Curve) × Fine σ ns cs × LeastFits σ cs R T)
   least_exactly T = (
     λ e. let h = of_curves (λ r f. clash (cc)) e in (h.0, h.1, least_of σ h.0 R T h.2),
     λ h. of_fine h.1 ∙ of_least σ h.0 R T h.2,
   )
 
-  pub nothing_exactly : (tightest σ ns R ≡ Nothing) ↔ ((cs : List Curve) × Fine σ ns cs × ((T : ℕ) → Fits σ cs R T → ⊥))
+  pub nothing_exactly : (tightest σ ns R ≡ Ok None) ↔ ((cs : List Curve) × Fine σ ns cs × ((T : ℕ) → Fits σ cs R T → ⊥))
   nothing_exactly = (
     λ e. let h = of_curves (λ r f. clash (cc)) e in (h.0, h.1, none_of σ h.0 R h.2),
     λ h. of_fine h.1 ∙ of_none σ h.0 R h.2,
   )
 
   -- none fits exactly where there are more than R leaves at the largest tolerance, where nothing is too wide
-  pub nothing_by_leaves : (tightest σ ns R ≡ Nothing) ↔ ((cs : List Curve) × Fine σ ns cs × (R < leaves_of σ (pos 1048576) cs))
+  pub nothing_by_leaves : (tightest σ ns R ≡ Ok None) ↔ ((cs : List Curve) × Fine σ ns cs × (R < leaves_of σ (pos 1048576) cs))
   nothing_by_leaves = (
     λ e.
         let h = nothing_exactly.0 e in (
@@ -145,15 +143,15 @@ module _ (σ : Setting) (ns : List ℤ) (R : ℕ) where
       at_most : (cs : List Curve) → Fine σ ns cs → leaves_of σ (pos 1048576) cs ≤ R → Fits σ cs R 1048576
       at_most cs t l = record { low = omega arith; high = omega arith; meet = widest_meets σ (outline_given σ ns) t.pieces t.outline; few = l }
 
-  pub refused_as_banding : (r : Refusal) → tightest σ ns R ≡ Refused r → (T : ℤ) (room : ℕ) → tolerance_fine T ≡ true
-      → banded σ T ns room ≡ NotBanded r
+  pub refused_as_banding : (r : Refusal) → tightest σ ns R ≡ Err r → (T : ℤ) (room : ℕ) → tolerance_fine T ≡ true
+      → banded σ T ns room ≡ Err r
   unfolding tightest_of
   refused_as_banding r e T room f = ⊎_elim
       (λ t. absurd (never_refused (first_bad (too_tight σ t.0 R) 1048575 2) r (sym (of_fine t.1) ∙ e)))
-      (λ q. let same : q.0 ≡ r = same_refusal (sym q.1 ∙ e) in q.2 T room f ∙ ap NotBanded same)
+      (λ q. let same : q.0 ≡ r = same_refusal (sym q.1 ∙ e) in q.2 T room f ∙ ap Err same)
       early_alike
     where
-      same_refusal : {q r : Refusal} → Refused q ≡ Refused r → q ≡ r
+      same_refusal : {q r : Refusal} → ◌≡◌ {A = Result (Rattle.std.specs.Prelude.Option ℕ) Refusal} (Err q) (Err r) → q ≡ r
       same_refusal e = cc
 
 -- ---- a tolerance of the span fits exactly where banding, with room for R leaves, accepts
@@ -164,7 +162,7 @@ module _ (m : ℕ) (ns : List ℤ) (R T : ℕ) (low : 2 ≤ T) (high : T ≤ 104
   abbrev room_for : ℕ
   room_for = record_length (lists m) * R
 
-  fits_accepted : Fits (lists m) cs R T → (a : ℕ) × (b : ℕ) × (c : ℕ) × (banded (lists m) (pos T) ns room_for ≡ Done a b c)
+  fits_accepted : Fits (lists m) cs R T → (a : ℕ) × (b : ℕ) × (c : ℕ) × (banded (lists m) (pos T) ns room_for ≡ done a b c)
   fits_accepted f =
       let leaves = leaves_of (lists m) (pos T) cs in
       let nodes = nodes_of (lists m) (pos T) cs in (
@@ -185,7 +183,7 @@ module _ (m : ℕ) (ns : List ℤ) (R T : ℕ) (low : 2 ≤ T) (high : T ≤ 104
         ),
       )
 
-  accepted_fits : (a b c : ℕ) → banded (lists m) (pos T) ns room_for ≡ Done a b c → Fits (lists m) cs R T
+  accepted_fits : (a b c : ℕ) → banded (lists m) (pos T) ns room_for ≡ done a b c → Fits (lists m) cs R T
   accepted_fits a b c e =
       let h = (done_exactly (lists m) (pos T) ns room_for a b c).0 e in
       let same : h.0 ≡ cs = same_curves (sym h.1.outline ∙ t.outline) in
@@ -199,5 +197,5 @@ module _ (m : ℕ) (ns : List ℤ) (R T : ℕ) (low : 2 ≤ T) (high : T ≤ 104
       same_curves : {cs ds : List Curve} → curves cs ≡ curves ds → cs ≡ ds
       same_curves e = cc
 
-  pub fits_exactly : Fits (lists m) cs R T ↔ ((a : ℕ) × (b : ℕ) × (c : ℕ) × (banded (lists m) (pos T) ns (record_length (lists m) * R) ≡ Done a b c))
+  pub fits_exactly : Fits (lists m) cs R T ↔ ((a : ℕ) × (b : ℕ) × (c : ℕ) × (banded (lists m) (pos T) ns (record_length (lists m) * R) ≡ done a b c))
   fits_exactly = (fits_accepted, λ h. accepted_fits h.0 h.1 h.2 h.3)

@@ -7,8 +7,7 @@ use Rattle.curve_nodes.specs.declared.Curve.{Curve}
 use Rattle.outline.specs.Checks.{Outlined, curves}
 use Rattle.walk_tree.specs.Leaves.{Ancestor, Leaf}
 use Rattle.walk_curve.specs.Walked.{node_meets}
-use Rattle.band_banded.specs.declared.banding.Banded.TheVariants.{Done}
-use Rattle.band_banded.specs.Banding.{band_given}
+use Rattle.band_banded.specs.Banding.{done, band_given}
 
 -- the leaves of curve c at T and at a larger U
 pub record Merged (σ : Setting) (T U : ℤ) (c : Curve) : Type 0 where
@@ -24,7 +23,7 @@ pub record Merged (σ : Setting) (T U : ℤ) (c : Curve) : Type 0 where
 pub record StillAccepted (σ : Setting) (T U : ℤ) (o : Outlined) (room a b : ℕ) : Type 0 where
   pub leaves : ℕ
   pub nodes : ℕ
-  pub accepts : band_given σ U o room ≡ Done a leaves nodes
+  pub accepts : band_given σ U o room ≡ done a leaves nodes
   pub fewer : leaves ≤ b
   pub all : List Curve
   pub given : o ≡ curves all

@@ -1,12 +1,13 @@
 -- `is_whole`: cut to a whole number and made an f64 again, an f64 comes back as it was exactly where it is a whole number, and one beyond 2 ^ 63
 -- is one in any case.
-use Rattle.std.proofs.Common.{◌≡◌, ℕ, zero, suc, ◌+◌, ◌-◌, ◌*◌, ◌%◌, ◌^◌, ◌<◌, ◌≤◌, min, Bool, true, false, ◌&&◌, ◌||◌, T, eqb, ltb, leb, ◌⊎◌, ℤ, pos, negsuc, neg_ℤ, sym, refl, ap, ◌∙◌, subst, inl, inr, true≢false, le_trans, le_of_eq, lt_of_lt_of_le, lt_of_le_of_lt, le_of_lt, zero-lt-suc, mul_assoc, lt_of_mul-lt-mul_right, mul-le-mul_left, mul-lt-mul_of_pos_right, mul-pos, one-mul, div-add-mod', zero-mul, mul-one, div-le_self, mul_right_comm, not-le_of_lt, le_of_mul-le-mul_right, div-one, arith, lit≤, eqb→eq, ltb→lt, pow_pos, pow_mono, pow-add, ltb-false, ltb-true, eq-eqb}
+use Rattle.std.proofs.Common.{◌≡◌, ℕ, zero, suc, ◌+◌, ◌-◌, ◌*◌, ◌%◌, ◌^◌, ◌<◌, ◌≤◌, min, Bool, true, false, ◌&&◌, ◌||◌, T, eqb, ltb, leb, ◌⊎◌, ℤ, pos, negsuc, neg_ℤ, sym, refl, ap, ◌∙◌, subst, inl, inr, le_trans, le_of_eq, lt_of_lt_of_le, lt_of_le_of_lt, le_of_lt, zero-lt-suc, mul_assoc, lt_of_mul-lt-mul_right, mul-le-mul_left, mul-lt-mul_of_pos_right, mul-pos, one-mul, div-add-mod', zero-mul, mul-one, div-le_self, mul_right_comm, not-le_of_lt, le_of_mul-le-mul_right, div-one, arith, lit≤, eqb→eq, ltb→lt, pow_pos, pow_mono, pow-add, ltb-false, ltb-true, eq-eqb}
 use mathlib.Core.Bool.{beq, false≢true}
 use native.Mathlib.Nat.{mod-one, eq_of_mul-eq-mul_right}
 use lib.Ieee.{Float, nan, inf, fin, binary64, up, down, round, eq, le, lt, fits, of_int, to_signed}
 use lib.Ieee.Fits.{and_l, and_r, and_i, eq→eqb, down_pos}
 use lib.Ieee.Exact.{HasValue, round_exact}
 use lib.Ieee.Back.{round_whole}
+use Rattle.std.specs.Float.{float_is_finite}
 use Rattle.binary64.specs.Exact.{signed}
 use Rattle.binary64.specs.Read.{whole_of}
 use Rattle.binary64.proofs.Tests.{over, part, low_end_law, high_end_law, bound, bound_pos, few_digits, no_sum_r, one_test, or_r, or_le, beyond_low, whole_part}
@@ -119,7 +120,7 @@ trip s m e t =
     let r = with_sign s (part m e) (part_value false s m e t) (part_value true s m e t) in
     back_as_it_was (of_int binary64 (signed s (part m e))) r.0 s m e r.1 r.2
 
--- ---- the three ways through `is_whole`
+-- ---- the two ways through `is_whole`
 pub near_is : (x : Float) → T (fits binary64 x) → le (low_end_law 63) x ≡ true → lt x (high_end_law 63) ≡ true → eq (of_int binary64 (to_signed 63 x)) x ≡ whole_of x
 unfolding le
 near_is nan t p q = absurd (false≢true p)
@@ -136,16 +137,8 @@ beyond : (s : Bool) (m : ℕ) (e : ℤ) → (le (low_end_law 63) (fin s m e) ≡
 beyond s m e (inl p) = le_of_lt (beyond_low 63 s m e p)
 beyond s m e (inr p) = at_least 63 s m e p
 
-pub far_is : (x : Float) → T (fits binary64 x) → (le (low_end_law 63) x ≡ false) ⊎ (lt x (high_end_law 63) ≡ false) → lt x (inf false) ≡ true → lt (inf true) x ≡ whole_of x
-unfolding lt
-far_is nan t w p = absurd (false≢true p)
-far_is (inf true) t w p = refl
-far_is (inf false) t w p = absurd (false≢true p)
-far_is (fin s m e) t w p = sym (eq-eqb (over m e) 0 (far 63 (lit≤ tt) s m e t (beyond s m e w)))
-
-pub endless_is : (x : Float) → lt x (inf false) ≡ false → false ≡ whole_of x
-unfolding lt
-endless_is nan p = refl
-endless_is (inf true) p = absurd (true≢false p)
-endless_is (inf false) p = refl
-endless_is (fin s m e) p = absurd (true≢false p)
+pub far_is : (x : Float) → T (fits binary64 x) → (le (low_end_law 63) x ≡ false) ⊎ (lt x (high_end_law 63) ≡ false) → float_is_finite x ≡ whole_of x
+unfolding float_is_finite
+far_is nan t w = refl
+far_is (inf s) t w = refl
+far_is (fin s m e) t w = sym (eq-eqb (over m e) 0 (far 63 (lit≤ tt) s m e t (beyond s m e w)))

@@ -9,29 +9,21 @@ ghost use Rattle.binary64.specs.{Exact.{Exactly}, Read.{whole_of}, Inside.{near_
 pub fn is_whole(x: f64) -> bool
     ensures { result ≡ whole_of x }
 {
-    if x >= -9223372036854775808.0 {
-        if x < 9223372036854775808.0 {
-            let cut = std::num::truncating_f64_to_i64(x);
-            return std::num::nearest_i64_to_f64(cut) == x;
-        }
+    if x >= -9223372036854775808.0 && x < 9223372036854775808.0 {
+        let cut = std::num::truncating_f64_to_i64(x);
+        return std::num::nearest_i64_to_f64(cut) == x;
     }
     // From 2^63 on every f64 is a whole number, but for the infinities and the NaN.
-    let endless = 1.0 / 0.0;
-    if x < endless {
-        return x > -endless;
-    }
-    false
+    x.is_finite()
 }
 
 // Whether x is a whole number from −1,048,576 to 1,048,576.
 pub fn is_near(x: f64) -> bool
     ensures { result ≡ near_of x }
 {
-    if x >= -1048576.0 {
-        if x <= 1048576.0 {
-            let cut = std::num::truncating_f64_to_i64(x) as i32;
-            return cut as f64 == x;
-        }
+    if x >= -1048576.0 && x <= 1048576.0 {
+        let cut = std::num::truncating_f64_to_i64(x) as i32;
+        return cut as f64 == x;
     }
     false
 }

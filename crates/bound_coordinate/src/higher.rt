@@ -1,7 +1,9 @@
 // What the bounds of one coordinate of degree 4 or 5 need. The code stands in the crate `bound_coordinate_higher`.
 
 // The degree, 10000 times the chord's start times m and its rise, the second differences, and where each begins to read
-// its rows. The start is raised by 2^28 times the divisor, so that no number that is divided is negative.
+// its rows. The start is raised by 2^28 times the divisor, so that no number that is divided is negative. They stand
+// apart from those of degrees 1 to 3, for speed: one struct of four differences for all degrees took 5,450,696
+// instructions where these take 3,769,353 (docs/landings/19).
 #[derive(Clone, Copy)]
 pub struct HigherTerms {
     pub degree: u32,

@@ -1,4 +1,5 @@
-// One coordinate of degree 4 or 5: what its bounds at all break points need, and its low and high at a break point.
+// One coordinate of degree 4 or 5: what its bounds at all break points need, and its low and high at a break point. It
+// stands apart from degrees 1 to 3, for speed (docs/landings/19).
 #![tactic(auto)]
 
 ghost use Rattle.std.specs.Prelude.{◌≡◌, ◌<◌, ◌≤◌, ◌*◌, ◌^◌, length};

@@ -22,12 +22,12 @@ use Rattle.integers.proofs.Squares.{square_mono}
 use Rattle.integers.proofs.Size.{abs_within}
 use Rattle.integers.proofs.Ranges.{lt_no}
 use Rattle.integers.proofs.Rounding.{Floor, Ceiling, floor_is, ceiling_is, ceiling_le, ceiling_unique}
-use Rattle.integers.proofs.Table.{and_left, and_right, below}
+use Rattle.integers.proofs.Table.{and_left, and_right}
 use Rattle.curve_nodes.specs.declared.Curve.{Curve}
 use Rattle.curve_nodes.specs.Differences.{difference}
 use Rattle.curve_nodes.specs.Bounds.{Sized}
 use Rattle.curve_halves.specs.Sizes.{Each}
-use Rattle.bound_rows.specs.Rows.{Row, pieces}
+use Rattle.bound_rows.specs.Rows.{Row}
 use Rattle.bound_rows.specs.Table.{rows_of}
 use Rattle.bound_rows.proofs.Gaps.{ordered}
 use Rattle.bound_rows.proofs.Rule.{rows_ordered}

@@ -1,7 +1,7 @@
 // What the test of a node takes from the number of pieces alone.
 #![tactic(auto)]
 
-ghost use Rattle.std.specs.Prelude.{◌≡◌, true, cond, ◌≤◌, ◌<◌, ◌-◌, ◌+◌, ◌*◌, max};
+ghost use Rattle.std.specs.Prelude.{◌≡◌, true, cond, ◌≤◌, ◌<◌, ◌-◌, ◌+◌, ◌*◌};
 ghost use Rattle.setting.specs.Setting.{HasRows, degree_pieces};
 ghost use Rattle.bound_row_table.specs.Inside.{row_place, Copied};
 ghost use Rattle.bound_pieces.specs.Inside.{times, gap_at, gaps_of, pieces_by, pieces_of};
@@ -61,13 +61,6 @@ fn gap_at(rows: &[i64], m: usize, degree: u32, k: usize, i: usize) -> u64
     let high = rows[start + 3 * i];
     let low = rows[start + 3 * i + 1];
     (high - low) as u64 / (m as u64)
-}
-
-// The larger of two sums.
-pub fn larger(a: u64, b: u64) -> u64
-    ensures { result ≡ max a b }
-{
-    if a < b { b } else { a }
 }
 
 // The gaps of degree 4 or 5, which stand at the break points 0 and 1; 0 for fewer pieces than they take.
@@ -163,7 +156,7 @@ pub fn pieces_of(rows: &[i64], m: usize, sixths: bool) -> Pieces
     let single = gap_at(rows, m, 2, 0, 1);
     let quartic = gaps_of(rows, m, 4);
     let quintic = gaps_of(rows, m, 5);
-    let both = larger(a0 + b0, a1 + b1);
+    let both = (a0 + b0).max(a1 + b1);
     if a0 < a1 {
         pieces_by(m, sixths, single, a1, b1, both, quartic, quintic)
     } else {

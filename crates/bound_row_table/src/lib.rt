@@ -10,7 +10,6 @@ ghost use Rattle.curve_halves.specs.Sizes.{Each};
 ghost use Rattle.bound_rows.specs.Table.{table, row_from};
 ghost use Rattle.bound_row_table.specs.Inside.{copied_number, Put, PutRows, Copied};
 
-pub mod comparing;
 pub mod table;
 
 use crate::table::table;
@@ -23,14 +22,12 @@ fn put_row(rows: &mut [i64], at: usize, entries: &[i16], from: usize, m: usize)
     ensures { Put at (3 * (m + 1)) (copied_number m (row_from m from)) rows.old rows.new }
 {
     let times = m as i64;
-    let mut i: usize = 0;
-    while i <= m {
+    for i in 0..m + 1 {
         let high = times * entries[from + i] as i64;
         let low = times * entries[from + (m + 1) + i] as i64;
         rows[at + 3 * i] = high;
         rows[at + 3 * i + 1] = low;
         rows[at + 3 * i + 2] = high;
-        i += 1;
     }
 }
 
@@ -40,10 +37,8 @@ pub fn put_degree(rows: &mut [i64], at: usize, entries: &[i16], from: usize, n: 
         × (at + 27 * n ≤ length rows.old) }
     ensures { PutRows at n m from rows.old rows.new }
 {
-    let mut k: usize = 0;
-    while k < n {
+    for k in 0..n {
         put_row(rows, at + 27 * k, entries, from + k * (2 * (m + 1)), m);
-        k += 1;
     }
 }
 
@@ -52,15 +47,14 @@ pub fn put_zeros(rows: &mut [i64], at: usize)
     requires { at + 27 ≤ length rows.old }
     ensures { Put at 27 (λ p. pos 0) rows.old rows.new }
 {
-    let mut i: usize = 0;
-    while i < 27 {
+    for i in 0..27 {
         rows[at + i] = 0;
-        i += 1;
     }
 }
 
 // The rows of m pieces, 27 places for each second difference: two of degree 3, one of degree 2, zeros, and where there
 // are rows of m pieces for them, three of degree 4 and four of degree 5.
+#[inline(always)]
 pub fn put_rows(rows: &mut [i64], m: usize)
     requires { (HasRows m) × (length rows.old ≡ 297) × (Each (5000 * m) rows.old) }
     ensures { Copied m rows.new }

@@ -23,7 +23,7 @@ use Rattle.curve_nodes.specs.Bounds.{Sized}
 use Rattle.curve_nodes.proofs.Sizes.{difference_under}
 use Rattle.bound_rows.proofs.Degrees.{degrees}
 use Rattle.bound_rows.specs.Table.{table, rows_of}
-use Rattle.bound_coordinate.specs.Inside.{Small, Computed}
+use Rattle.bound_coordinate.specs.Inside.{Computed}
 use Rattle.bound_coordinate.proofs.Coordinates.{stored_is}
 use Rattle.setting.specs.Setting.{HasRows}
 use Rattle.bound_rows.specs.Rule.{gap_of}
@@ -33,9 +33,6 @@ use Rattle.bound_pieces.specs.Inside.{gaps_sum, up, times, spread_of, near_gap, 
 use Rattle.bound_pieces.specs.Inside.{gaps_of, pieces_by, pieces_of}
 use Rattle.bound_pieces.proofs.Apart.{up_most, times_most}
 use Rattle.bound_pieces.proofs.Corners.{pieces_tested, other_under}
-
-pub same_size : {B r : ℕ} {z : ℤ} → r ≡ nat_abs z → Small B z → (r ≡ nat_abs z) × (r ≤ B)
-same_size e h = (e, rw e h.size)
 
 -- ---- a fraction over q × 2^s, rounded up: raised by the denominator less one, then divided down in two steps
 abbrev pub unit : (q s : ℕ) → ℕ

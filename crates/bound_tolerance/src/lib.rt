@@ -15,7 +15,7 @@ ghost use Rattle.bound_tolerance.specs.Verdicts.{VerdictRight};
 use crate::spread::size;
 use bound_coordinate::break_points::{high_at, low_at};
 use bound_coordinate::terms::{Terms, difference_at, terms_of};
-use bound_pieces::{Pieces, larger};
+use bound_pieces::Pieces;
 use curve_nodes::Curve;
 
 pub mod spread;
@@ -72,12 +72,10 @@ pub fn boxes_meet(
     let shift = degree * depth;
     let x = terms_of(xs, degree, m);
     let y = terms_of(ys, degree, m);
-    let mut i: usize = 0;
-    while i <= m {
+    for i in 0..m + 1 {
         if is_wide(rows, x, y, shift, scale, divisor, i, square) {
             return false;
         }
-        i += 1;
     }
     true
 }
@@ -136,8 +134,8 @@ fn verdict_by(pieces: Pieces, curve: Curve, depth: u32, t: i64) -> Tested
     let x2 = x[1];
     let y1 = y[0];
     let y2 = y[1];
-    let width = crate::spread::rounded_up(larger(x1, x2), more, shift);
-    let height = crate::spread::rounded_up(larger(y1, y2), more, shift);
+    let width = crate::spread::rounded_up(x1.max(x2), more, shift);
+    let height = crate::spread::rounded_up(y1.max(y2), more, shift);
     if !is_longer(width + 1, height + 1, square) {
         return Tested::Narrow;
     }
@@ -159,15 +157,13 @@ fn verdict_by(pieces: Pieces, curve: Curve, depth: u32, t: i64) -> Tested
 
 // Whether a node meets the tolerance, as far as the gaps tell. A tolerance beyond 2^27 is longer than every diagonal,
 // and so no square wraps.
+#[inline(always)]
 pub fn verdict_of(pieces: Pieces, curve: Curve, depth: u32, t: i64) -> Tested
     requires { (HasRows pieces.m) × (pieces ≡ pieces_of pieces.m pieces.sixths) × (Sized depth curve)
         × (curve.degree ≤ 3) × (depth ≤ 8) }
     ensures { VerdictRight (setting_of pieces) t depth curve result }
 {
-    if t < -134217728 {
-        return Tested::Narrow;
-    }
-    if 134217728 < t {
+    if t < -134217728 || 134217728 < t {
         return Tested::Narrow;
     }
     verdict_by(pieces, curve, depth, t)

@@ -12,11 +12,7 @@ pub fn size(difference: i64) -> u64
     requires { Small (2 ^ 46) difference }
     ensures { (result ≡ nat_abs difference) × (result ≤ 2 ^ 46) }
 {
-    if difference < 0 {
-        (-difference) as u64
-    } else {
-        difference as u64
-    }
+    difference.unsigned_abs()
 }
 
 // The fraction of a sum, times 6 over the scale of control values, over 3750 times a power of 2, rounded up: one less

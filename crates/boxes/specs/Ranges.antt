@@ -1,5 +1,6 @@
 -- The range of box numbers and of points, and the first bad number of a box (document 01, checks 10, 11 and 12).
 use Rattle.std.specs.Prelude.{Bool, ◌&&◌, List, [], ◌∷◌, ℕ, zero, suc, ◌%◌, ℤ, pos, neg_ℤ, ◌≤ℤ◌}
+use Rattle.std.specs.Prelude.{Option as Maybe, Some, None}
 use Rattle.std.proofs.Math.Option.{Option, none, some}
 use Rattle.std.specs.Int.Signed.{le_z}
 use Rattle.integers.specs.Entry.{entry}
@@ -33,10 +34,10 @@ boxes_fault n zs = first_bad (λ p. box_number_fine p (entry zs p) (entry zs (su
 unfoldable pub box_fault : Box → Option ℕ
 box_fault b = boxes_fault 4 (numbers_of b)
 
--- a place, or n where there is none
-abbrev pub place_or : ℕ → Option ℕ → ℕ
-place_or n (some p) = p
-place_or n none = n
+-- a place, or that there is none, as the code hands it on
+abbrev pub place_of : Option ℕ → Maybe ℕ
+place_of (some p) = Some p
+place_of none = None
 
 -- in words: a low and a high in range, the low not above the high
 pub record Interval (low high : ℤ) : Type 0 where

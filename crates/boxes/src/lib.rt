@@ -2,7 +2,7 @@
 #![tactic(auto)]
 
 ghost use Rattle.std.specs.Prelude.{◌≡◌};
-ghost use Rattle.boxes.specs.{Ranges.{in_range, low_fine, box_fault, place_or}, Inside.{side_fine, box_of}};
+ghost use Rattle.boxes.specs.{Ranges.{in_range, low_fine, box_fault, place_of}, Inside.{side_fine, box_of}};
 
 // A box: what lies from the lows to the highs, edges included.
 #[repr(C)]
@@ -19,20 +19,14 @@ pub struct Box {
 pub fn in_range(n: i32) -> bool
     ensures { result ≡ in_range n }
 {
-    if n < -536870912 {
-        return false;
-    }
-    n <= 536870912
+    (-536870912..=536870912).contains(&n)
 }
 
 // Whether a low is in range and not above its high.
 fn low_fine(low: i32, high: i32) -> bool
     ensures { result ≡ low_fine low high }
 {
-    if !in_range(low) {
-        return false;
-    }
-    low <= high
+    in_range(low) && low <= high
 }
 
 // Whether a low and a high are fine, by three comparisons and no branch. Defined for every two numbers.
@@ -43,39 +37,37 @@ pub fn side_fine(low: i32, high: i32) -> bool
 }
 
 impl Box {
-    // The place of the first bad number, 0 to 3 in the order of the fields, or 4 where all are fine. A low above its
-    // high is named by the low. The numbers are looked at one by one only where one is bad.
-    pub fn fault(self) -> usize
-        ensures { result ≡ place_or 4 (box_fault self) }
+    // The place of the first bad number, 0 to 3 in the order of the fields. A low above its high is named by the low.
+    // The numbers are looked at one by one only where one is bad.
+    pub fn fault(self) -> Option<usize>
+        ensures { result ≡ place_of (box_fault self) }
     {
         let x_low = self.x_low;
         let x_high = self.x_high;
         let y_low = self.y_low;
         let y_high = self.y_high;
-        if side_fine(x_low, x_high) {
-            if side_fine(y_low, y_high) {
-                return 4;
-            }
+        if side_fine(x_low, x_high) && side_fine(y_low, y_high) {
+            return None;
         }
         first_bad(x_low, x_high, y_low, y_high)
     }
 }
 
-// The place of the first bad number of a box, or 4, number by number.
-fn first_bad(x_low: i32, x_high: i32, y_low: i32, y_high: i32) -> usize
-    ensures { result ≡ place_or 4 (box_fault (box_of x_low x_high y_low y_high)) }
+// The place of the first bad number of a box, number by number.
+fn first_bad(x_low: i32, x_high: i32, y_low: i32, y_high: i32) -> Option<usize>
+    ensures { result ≡ place_of (box_fault (box_of x_low x_high y_low y_high)) }
 {
     if !low_fine(x_low, x_high) {
-        return 0;
+        return Some(0);
     }
     if !in_range(x_high) {
-        return 1;
+        return Some(1);
     }
     if !low_fine(y_low, y_high) {
-        return 2;
+        return Some(2);
     }
     if !in_range(y_high) {
-        return 3;
+        return Some(3);
     }
-    4
+    None
 }

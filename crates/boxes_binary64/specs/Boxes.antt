@@ -1,7 +1,8 @@
 -- A box handed out in binary64 (document 02, request 10): its four numbers in stage units, and the short form. A box
 -- given by itself is checked as in 12, so its places are 0 to 3.
-use Rattle.std.specs.Prelude.{◌≡◌, ℕ, ◌+ℤ◌, ◌-ℤ◌}
+use Rattle.std.specs.Prelude.{◌≡◌, ℕ, ◌+ℤ◌, ◌-ℤ◌, Result, Ok, Err}
 use Rattle.std.proofs.Math.Option.{none, some}
+use Rattle.refusals.specs.declared.Refusal.{Refusal}
 use Rattle.refusals.specs.declared.Refusal.TheVariants.{BoxNumber}
 use Rattle.boxes.specs.declared.Box.{Box}
 use Rattle.boxes.specs.Ranges.{box_fault}
@@ -9,10 +10,6 @@ use Rattle.binary64.specs.Exact.{Exactly}
 use Rattle.boxes_binary64.specs.declared.StageBox.{StageBox}
 use Rattle.boxes_binary64.specs.declared.Short.{Short}
 use Rattle.boxes_binary64.specs.declared.Short.TheVariants.{Point, Middle}
-use Rattle.boxes_binary64.specs.declared.UnitsAnswer.{UnitsAnswer}
-use Rattle.boxes_binary64.specs.declared.UnitsAnswer.TheVariants.{Units, Refused}
-use Rattle.boxes_binary64.specs.declared.ShortAnswer.{ShortAnswer}
-use Rattle.boxes_binary64.specs.declared.ShortAnswer.TheVariants.{Form, Refused as ShortRefused}
 
 -- each number is exactly the sixteenth divided by 16
 pub record InUnits (b : Box) (r : StageBox) : Type 0 where
@@ -38,10 +35,10 @@ ShortOf b (Middle x y half-width half-height) =
     × Exactly half-height (b.y_high -ℤ b.y_low) 32
 
 -- ---- the answers: the box in one of the forms, or 12 with the place of its first bad number
-abbrev pub HandedOut : Box → UnitsAnswer → Type 0
-HandedOut b (Units r) = (box_fault b ≡ none) × InUnits b r
-HandedOut b (Refused q) = (place : ℕ) × (box_fault b ≡ some place) × (q ≡ BoxNumber place)
+abbrev pub HandedOut : Box → Result StageBox Refusal → Type 0
+HandedOut b (Ok r) = (box_fault b ≡ none) × InUnits b r
+HandedOut b (Err q) = (place : ℕ) × (box_fault b ≡ some place) × (q ≡ BoxNumber place)
 
-abbrev pub Shortened : Box → ShortAnswer → Type 0
-Shortened b (Form r) = (box_fault b ≡ none) × ShortOf b r
-Shortened b (ShortRefused q) = (place : ℕ) × (box_fault b ≡ some place) × (q ≡ BoxNumber place)
+abbrev pub Shortened : Box → Result Short Refusal → Type 0
+Shortened b (Ok r) = (box_fault b ≡ none) × ShortOf b r
+Shortened b (Err q) = (place : ℕ) × (box_fault b ≡ some place) × (q ≡ BoxNumber place)

@@ -32,29 +32,14 @@ pub enum Short {
     },
 }
 
-// What handing out a box answers: the box in stage units, or the first fault.
-#[derive(Clone, Copy)]
-pub enum UnitsAnswer {
-    Units(StageBox),
-    Refused(Refusal),
-}
-
-// What the short form of a box is answered with: the form, or the first fault.
-#[derive(Clone, Copy)]
-pub enum ShortAnswer {
-    Form(Short),
-    Refused(Refusal),
-}
-
 // A box in stage units, each number exactly the sixteenth divided by 16, or check 12. Defined for every box.
-pub fn hand_out(b: Box) -> UnitsAnswer
+pub fn hand_out(b: Box) -> Result<StageBox, Refusal>
     ensures { HandedOut b result }
 {
-    let place = b.fault();
-    if place < 4 {
-        return UnitsAnswer::Refused(Refusal::BoxNumber(place));
+    match b.fault() {
+        Some(place) => Err(Refusal::BoxNumber(place)),
+        None => Ok(in_units(b)),
     }
-    UnitsAnswer::Units(in_units(b))
 }
 
 // The four numbers of a box in stage units.
@@ -70,14 +55,13 @@ fn in_units(b: Box) -> StageBox
 }
 
 // The short form of a box, or check 12. Defined for every box.
-pub fn shorten(b: Box) -> ShortAnswer
+pub fn shorten(b: Box) -> Result<Short, Refusal>
     ensures { Shortened b result }
 {
-    let place = b.fault();
-    if place < 4 {
-        return ShortAnswer::Refused(Refusal::BoxNumber(place));
+    match b.fault() {
+        Some(bad) => Err(Refusal::BoxNumber(bad)),
+        None => Ok(short_of(b)),
     }
-    ShortAnswer::Form(short_of(b))
 }
 
 // The short form of a box that check 12 passed, so that no sum of two of its numbers wraps.
@@ -89,10 +73,8 @@ fn short_of(b: Box) -> Short
     let x_high = b.x_high;
     let y_low = b.y_low;
     let y_high = b.y_high;
-    if x_low == x_high {
-        if y_low == y_high {
-            return Short::Point(sixteenth(x_low), sixteenth(y_low));
-        }
+    if x_low == x_high && y_low == y_high {
+        return Short::Point(sixteenth(x_low), sixteenth(y_low));
     }
     Short::Middle {
         x: thirty_second(x_low + x_high),

@@ -1,15 +1,13 @@
 -- Boxes handed out in binary64, in numbers: 0 and 0 and the box in stage units or its short form, or a refusal's number
 -- and spot and zeros.
-use Rattle.std.specs.Prelude.{◌≡◌, false, pos, Float}
+use Rattle.std.specs.Prelude.{◌≡◌, false, Result, Ok, Err, pos, Float}
 use Rattle.std.specs.Float.{fin}
+use Rattle.refusals.specs.declared.Refusal.{Refusal}
 use Rattle.refusals.specs.Refusals.{number_of, spot_of}
 use Rattle.boxes.specs.declared.Box.{Box}
 use Rattle.boxes_binary64.specs.declared.Short.{Short}
 use Rattle.boxes_binary64.specs.declared.Short.TheVariants.{Point, Middle}
-use Rattle.boxes_binary64.specs.declared.UnitsAnswer.{UnitsAnswer}
-use Rattle.boxes_binary64.specs.declared.UnitsAnswer.TheVariants.{Units, Refused}
-use Rattle.boxes_binary64.specs.declared.ShortAnswer.{ShortAnswer}
-use Rattle.boxes_binary64.specs.declared.ShortAnswer.TheVariants.{Form, Refused as ShortRefused}
+use Rattle.boxes_binary64.specs.declared.StageBox.{StageBox}
 use Rattle.boxes_binary64.specs.Boxes.{HandedOut, Shortened}
 use Rattle.contour.specs.declared.c_answers.BoxUnits.{BoxUnits}
 use Rattle.contour.specs.declared.c_answers.BoxShort.{BoxShort}
@@ -18,8 +16,8 @@ use Rattle.contour.specs.declared.c_answers.BoxShort.{BoxShort}
 abbrev pub zero_float : Float
 zero_float = fin false 0 (pos 0)
 
-abbrev pub units_of : UnitsAnswer → BoxUnits
-units_of (Units r) = record {
+abbrev pub units_of : Result StageBox Refusal → BoxUnits
+units_of (Ok r) = record {
   refusal = 0;
   spot = 0;
   x_low = r.x_low;
@@ -27,7 +25,7 @@ units_of (Units r) = record {
   y_low = r.y_low;
   y_high = r.y_high;
 }
-units_of (Refused q) = record {
+units_of (Err q) = record {
   refusal = number_of q;
   spot = spot_of q;
   x_low = zero_float;
@@ -43,9 +41,9 @@ form_of (Point x y) =
 form_of (Middle x y half-width half-height) =
     record { refusal = 0; spot = 0; kind = 2; x = x; y = y; half_width = half-width; half_height = half-height }
 
-abbrev pub short_of : ShortAnswer → BoxShort
-short_of (Form r) = form_of r
-short_of (ShortRefused q) = record {
+abbrev pub short_of : Result Short Refusal → BoxShort
+short_of (Ok r) = form_of r
+short_of (Err q) = record {
   refusal = number_of q;
   spot = spot_of q;
   kind = 0;
@@ -57,12 +55,12 @@ short_of (ShortRefused q) = record {
 
 -- the numbers are those of an answer that handing out the box may give
 pub record UnitsInNumbers (b : Box) (numbers : BoxUnits) : Type 0 where
-  pub answer : UnitsAnswer
+  pub answer : Result StageBox Refusal
   pub handed : HandedOut b answer
   pub are : numbers ≡ units_of answer
 
 -- the numbers are those of an answer that the box's short form may be given by
 pub record ShortInNumbers (b : Box) (numbers : BoxShort) : Type 0 where
-  pub answer : ShortAnswer
+  pub answer : Result Short Refusal
   pub shortened : Shortened b answer
   pub are : numbers ≡ short_of answer

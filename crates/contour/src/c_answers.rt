@@ -1,4 +1,6 @@
-// Answers in numbers, as the C interface gives them: 0 and 0 and what was found, or a refusal's number and spot.
+// Answers in numbers, as the C interface gives them: 0 and 0 and what was found, or a refusal's number and spot. Each
+// type of answer is a struct of its own, as that interface has it. The conversions are functions: an `impl` of `From`
+// each, with the same match in it, is no plainer.
 ghost use Rattle.std.specs.Prelude.{◌≡◌};
 ghost use Rattle.contour.specs.{Numbers.{band_answer_of, judging_answer_of}, Foretellings.{foretold_answer_of}};
 ghost use Rattle.contour.specs.{Tightest.{tightest_answer_of}, Points.{points_answer_of}, Quotes.{quote_answer_of}};
@@ -7,13 +9,10 @@ ghost use Rattle.contour.specs.Answers.{outcome_answer_of};
 
 use band_banded::banding::Banded;
 use band_foretold::foretelling::Foretold;
-use band_tightest::tolerances::Tightest;
-use boxes_binary64::{Short, ShortAnswer, UnitsAnswer};
-use draw::drawing::Drawn;
+use boxes_binary64::{Short, StageBox};
 use engine::Outcome;
-use judge::judging::Judgement;
-use judge_points::answers::PointsJudged;
-use quote_price::quoting::Quoted;
+use judge::judging::Holder;
+use refusals::Refusal;
 
 // What banding answers, in numbers: a refusal's number and spot, or 0 and 0 and the report.
 #[repr(C)]
@@ -27,22 +26,18 @@ pub struct Answer {
 }
 
 // The numbers of an answer.
-pub fn in_numbers(banded: Banded) -> Answer
+pub fn in_numbers(banded: Result<Banded, Refusal>) -> Answer
     ensures { result ≡ band_answer_of banded }
 {
     match banded {
-        Banded::Done {
-            curves,
-            leaves,
-            nodes,
-        } => Answer {
+        Ok(report) => Answer {
             refusal: 0,
             spot: 0,
-            curves: curves as u64,
-            leaves: leaves as u64,
-            nodes: nodes as u64,
+            curves: report.curves as u64,
+            leaves: report.leaves as u64,
+            nodes: report.nodes as u64,
         },
-        Banded::Refused(refusal) => Answer {
+        Err(refusal) => Answer {
             refusal: refusal.number(),
             spot: refusal.spot() as u64,
             curves: 0,
@@ -64,17 +59,17 @@ pub struct ForetoldAnswer {
 }
 
 // The numbers of what is foretold.
-pub fn foretold_in_numbers(foretold: Foretold) -> ForetoldAnswer
+pub fn foretold_in_numbers(foretold: Result<Foretold, Refusal>) -> ForetoldAnswer
     ensures { result ≡ foretold_answer_of foretold }
 {
     match foretold {
-        Foretold::Done { leaves, nodes } => ForetoldAnswer {
+        Ok(most) => ForetoldAnswer {
             refusal: 0,
             spot: 0,
-            leaves: leaves as u64,
-            nodes: nodes as u64,
+            leaves: most.leaves as u64,
+            nodes: most.nodes as u64,
         },
-        Foretold::Refused(refusal) => ForetoldAnswer {
+        Err(refusal) => ForetoldAnswer {
             refusal: refusal.number(),
             spot: refusal.spot() as u64,
             leaves: 0,
@@ -94,21 +89,21 @@ pub struct TightestAnswer {
 }
 
 // The numbers of the answer for the tightest band.
-pub fn tightest_in_numbers(tightest: Tightest) -> TightestAnswer
+pub fn tightest_in_numbers(tightest: Result<Option<u32>, Refusal>) -> TightestAnswer
     ensures { result ≡ tightest_answer_of tightest }
 {
     match tightest {
-        Tightest::Least(tolerance) => TightestAnswer {
+        Ok(Some(tolerance)) => TightestAnswer {
             refusal: 0,
             spot: 0,
             tolerance,
         },
-        Tightest::Nothing => TightestAnswer {
+        Ok(None) => TightestAnswer {
             refusal: 0,
             spot: 0,
             tolerance: 0,
         },
-        Tightest::Refused(refusal) => TightestAnswer {
+        Err(refusal) => TightestAnswer {
             refusal: refusal.number(),
             spot: refusal.spot() as u64,
             tolerance: 0,
@@ -129,25 +124,25 @@ pub struct JudgingAnswer {
 }
 
 // The numbers of a judgement.
-pub fn judgement_in_numbers(judgement: Judgement) -> JudgingAnswer
+pub fn judgement_in_numbers(judgement: Result<Option<Holder>, Refusal>) -> JudgingAnswer
     ensures { result ≡ judging_answer_of judgement }
 {
     match judgement {
-        Judgement::On { leaf, cover } => JudgingAnswer {
+        Ok(Some(holder)) => JudgingAnswer {
             refusal: 0,
             spot: 0,
             on: 1,
-            leaf: leaf as u64,
-            cover: cover as u64,
+            leaf: holder.leaf as u64,
+            cover: holder.cover as u64,
         },
-        Judgement::Off => JudgingAnswer {
+        Ok(None) => JudgingAnswer {
             refusal: 0,
             spot: 0,
             on: 0,
             leaf: 0,
             cover: 0,
         },
-        Judgement::Refused(refusal) => JudgingAnswer {
+        Err(refusal) => JudgingAnswer {
             refusal: refusal.number(),
             spot: refusal.spot() as u64,
             on: 0,
@@ -173,11 +168,25 @@ pub struct OutcomeAnswer {
 }
 
 // The numbers of an outcome.
-pub fn outcome_in_numbers(outcome: Outcome) -> OutcomeAnswer
+pub fn outcome_in_numbers(outcome: Result<Outcome, Refusal>) -> OutcomeAnswer
     ensures { result ≡ outcome_answer_of outcome }
 {
     match outcome {
-        Outcome::Refused(refusal) => OutcomeAnswer {
+        Ok(outcome) => {
+            let report = outcome.banded;
+            let judged = judgement_in_numbers(Ok(outcome.holder));
+            OutcomeAnswer {
+                refusal: judged.refusal,
+                spot: judged.spot,
+                curves: report.curves as u64,
+                leaves: report.leaves as u64,
+                nodes: report.nodes as u64,
+                on: judged.on,
+                leaf: judged.leaf,
+                cover: judged.cover,
+            }
+        }
+        Err(refusal) => OutcomeAnswer {
             refusal: refusal.number(),
             spot: refusal.spot() as u64,
             curves: 0,
@@ -187,24 +196,6 @@ pub fn outcome_in_numbers(outcome: Outcome) -> OutcomeAnswer
             leaf: 0,
             cover: 0,
         },
-        Outcome::Judged {
-            curves,
-            leaves,
-            nodes,
-            judgement,
-        } => {
-            let judged = judgement_in_numbers(judgement);
-            OutcomeAnswer {
-                refusal: judged.refusal,
-                spot: judged.spot,
-                curves: curves as u64,
-                leaves: leaves as u64,
-                nodes: nodes as u64,
-                on: judged.on,
-                leaf: judged.leaf,
-                cover: judged.cover,
-            }
-        }
     }
 }
 
@@ -218,16 +209,16 @@ pub struct Drawing {
 }
 
 // The numbers of a drawing's answer.
-pub fn drawing_in_numbers(drawn: Drawn) -> Drawing
+pub fn drawing_in_numbers(drawn: Result<usize, Refusal>) -> Drawing
     ensures { result ≡ drawing_of drawn }
 {
     match drawn {
-        Drawn::Vertices(count) => Drawing {
+        Ok(count) => Drawing {
             refusal: 0,
             spot: 0,
             vertices: count as u64,
         },
-        Drawn::Refused(refusal) => Drawing {
+        Err(refusal) => Drawing {
             refusal: refusal.number(),
             spot: refusal.spot() as u64,
             vertices: 0,
@@ -245,16 +236,16 @@ pub struct PointsAnswer {
 }
 
 // The numbers of an answer for a list of points.
-pub fn points_in_numbers(answered: PointsJudged) -> PointsAnswer
+pub fn points_in_numbers(answered: Result<usize, Refusal>) -> PointsAnswer
     ensures { result ≡ points_answer_of answered }
 {
     match answered {
-        PointsJudged::Points(count) => PointsAnswer {
+        Ok(count) => PointsAnswer {
             refusal: 0,
             spot: 0,
             points: count as u64,
         },
-        PointsJudged::Refused(refusal) => PointsAnswer {
+        Err(refusal) => PointsAnswer {
             refusal: refusal.number(),
             spot: refusal.spot() as u64,
             points: 0,
@@ -272,16 +263,16 @@ pub struct QuoteAnswer {
 }
 
 // The numbers of a quote.
-pub fn quote_in_numbers(quoted: Quoted) -> QuoteAnswer
+pub fn quote_in_numbers(quoted: Result<u64, Refusal>) -> QuoteAnswer
     ensures { result ≡ quote_answer_of quoted }
 {
     match quoted {
-        Quoted::Cents(cents) => QuoteAnswer {
+        Ok(cents) => QuoteAnswer {
             refusal: 0,
             spot: 0,
             cents,
         },
-        Quoted::Refused(refusal) => QuoteAnswer {
+        Err(refusal) => QuoteAnswer {
             refusal: refusal.number(),
             spot: refusal.spot() as u64,
             cents: 0,
@@ -302,11 +293,11 @@ pub struct BoxUnits {
 }
 
 // The numbers of a box handed out.
-pub fn units_in_numbers(handed: UnitsAnswer) -> BoxUnits
+pub fn units_in_numbers(handed: Result<StageBox, Refusal>) -> BoxUnits
     ensures { result ≡ units_of handed }
 {
     match handed {
-        UnitsAnswer::Units(units) => BoxUnits {
+        Ok(units) => BoxUnits {
             refusal: 0,
             spot: 0,
             x_low: units.x_low,
@@ -314,7 +305,7 @@ pub fn units_in_numbers(handed: UnitsAnswer) -> BoxUnits
             y_low: units.y_low,
             y_high: units.y_high,
         },
-        UnitsAnswer::Refused(refusal) => BoxUnits {
+        Err(refusal) => BoxUnits {
             refusal: refusal.number(),
             spot: refusal.spot() as u64,
             x_low: 0.0,
@@ -371,12 +362,12 @@ fn form_in_numbers(short: Short) -> BoxShort
 }
 
 // The numbers of what the short form is answered with.
-pub fn short_in_numbers(shortened: ShortAnswer) -> BoxShort
+pub fn short_in_numbers(shortened: Result<Short, Refusal>) -> BoxShort
     ensures { result ≡ short_of shortened }
 {
     match shortened {
-        ShortAnswer::Form(short) => form_in_numbers(short),
-        ShortAnswer::Refused(refusal) => BoxShort {
+        Ok(short) => form_in_numbers(short),
+        Err(refusal) => BoxShort {
             refusal: refusal.number(),
             spot: refusal.spot() as u64,
             kind: 0,

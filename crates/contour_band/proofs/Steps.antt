@@ -1,30 +1,28 @@
 -- What a step is known to be, and what step after step moves: the front of a list, which a reader gave or a writer gets.
 use Rattle.std.proofs.Common.{◌≡◌, ℕ, ◌+◌, ◌≤◌, List, length, take, drop, sym, subst, ◌∙◌, le_refl, take_all}
 use lib.Seq.{take-add}
+use Rattle.std.specs.declared.io.Error.{Error}
 use Rattle.std.specs.declared.option.Option.{Option}
+use Rattle.std.specs.declared.option.Option.TheVariants.{Some, None}
 use Rattle.std.specs.declared.result.Result.{Result}
 use Rattle.std.specs.declared.result.Result.TheVariants.{Ok, Err}
 use Rattle.std.specs.Prelude.{OnOk, OnErr}
 use Rattle.std.specs.Io.KnownBytes.{Appends, Consumes, Keeps}
 use Rattle.std.proofs.KnownBytes.{Consumes-trans, Appends-trans, Appends-kept}
-use Rattle.contour_band.specs.declared.Step.{Step}
-use Rattle.contour_band.specs.declared.Step.TheVariants.{Moved, Again, Failed}
-use Rattle.contour_band.specs.declared.Input.{Input}
-use Rattle.contour_band.specs.declared.Input.TheVariants.{Text}
 use Rattle.contour_band.specs.Steps.{Fits, Idle, InputFits}
 use Rattle.contour_band.specs.Bytes.{AppendsFront}
 
 -- what is known of a step, and of a text, once it is known which kind it has
-pub idle_fits : (s : Step) (i n : ℕ) → Idle s → Fits s i n
-idle_fits (Moved _) i n idle = elim idle [ ]
-idle_fits Again i n idle = tt
-idle_fits (Failed error) i n idle = tt
+pub idle_fits : (s : Result (Option ℕ) Error) (i n : ℕ) → Idle s → Fits s i n
+idle_fits (Ok (Some _)) i n idle = elim idle [ ]
+idle_fits (Ok None) i n idle = tt
+idle_fits (Err error) i n idle = tt
 
-pub moved_fits : (s : Step) (k i n : ℕ) → s ≡ Moved k → Fits s i n → i + k ≤ n
-moved_fits s k i n e fits = subst (λ (x : Step). Fits x i n) e fits
+pub moved_fits : (s : Result (Option ℕ) Error) (k i n : ℕ) → s ≡ Ok (Some k) → Fits s i n → i + k ≤ n
+moved_fits s k i n e fits = subst (λ (x : Result (Option ℕ) Error). Fits x i n) e fits
 
-pub text_fits : (r : Input) (k n : ℕ) → r ≡ Text k → InputFits r n → k ≤ n
-text_fits r k n e holds = subst (λ (x : Input). InputFits x n) e holds
+pub text_fits : (r : Result ℕ Error) (k n : ℕ) → r ≡ Ok k → InputFits r n → k ≤ n
+text_fits r k n e holds = subst (λ (x : Result ℕ Error). InputFits x n) e holds
 
 -- a step that read moved k bytes to the places behind the first n, which it left
 pub reads_more : (a b c : Option (List ℕ)) (old new : List ℕ) (n k : ℕ) → take n new ≡ take n old → Consumes a b (take n old)

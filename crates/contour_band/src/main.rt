@@ -3,7 +3,7 @@
 // of those that say which bytes they have, the contracts say what is read and what is written.
 #![tactic(auto)]
 
-ghost use Rattle.std.specs.Prelude.{◌≡◌, ◌≤◌, length, take, drop, IfSome, OnOk, OnErr, IfErr};
+ghost use Rattle.std.specs.Prelude.{◌≡◌, ◌≤◌, length, take, drop, IfSome, OnOk, OnErr, IfErr, None, Ok, Err};
 ghost use Rattle.std.specs.Io.KnownBytes.{Appends};
 ghost use Rattle.contour_band.specs.Steps.{Fits, Idle, InputFits, IsRetried};
 ghost use Rattle.contour_band.specs.Bytes.{StepReads, StepWrites, IsFrontRead, AppendsFront, KeepsUnread};
@@ -12,21 +12,6 @@ ghost use Rattle.text_answers.specs.Answers.{answer_of};
 use std::io::{ErrorKind, Read, Write};
 use std::process::ExitCode;
 use std::{io, thread};
-
-// What one call of `read` or `write` did.
-#[derive(Clone, Copy)]
-enum Step {
-    Moved(usize),
-    Again,
-    Failed(io::Error),
-}
-
-// What was read.
-#[derive(Clone, Copy)]
-enum Input {
-    Text(usize),
-    Unreadable(io::Error),
-}
 
 // Why a text has no whole answer.
 #[derive(Clone, Copy)]
@@ -74,11 +59,11 @@ fn run<R: Read, W: Write>(input: &mut R, output: &mut W) -> Result<(), NoAnswer>
 {
     let mut text = [0u8; 16385];
     match read_text(input, &mut text) {
-        Input::Text(n) => match put_answer(output, &text[..n]) {
+        Ok(n) => match put_answer(output, &text[..n]) {
             Ok(()) => Ok(()),
             Err(error) => Err(NoAnswer::Unwritten(error)),
         },
-        Input::Unreadable(error) => Err(NoAnswer::Unread(error)),
+        Err(error) => Err(NoAnswer::Unread(error)),
     }
 }
 
@@ -97,7 +82,7 @@ fn put_answer<W: Write>(output: &mut W, text: &[u8]) -> io::Result<()>
 
 // Reads to the end of what a reader gives, or until the list is full. A proved loop has to end, and nothing says that
 // an input does, so the turns are counted down from a number that no run uses up.
-fn read_text<R: Read>(input: &mut R, text: &mut [u8]) -> Input
+fn read_text<R: Read>(input: &mut R, text: &mut [u8]) -> io::Result<usize>
     ensures fits { InputFits result (length text.new) }
     ensures front { IsFrontRead result (R.remaining input.old) text.new }
 {
@@ -105,28 +90,22 @@ fn read_text<R: Read>(input: &mut R, text: &mut [u8]) -> Input
     let mut turns = u64::MAX;
     while turns > 0 && n < text.len() {
         turns -= 1;
-        match read_from(input, text, n) {
-            Step::Moved(k) => {
-                if k == 0 {
-                    return Input::Text(n);
-                }
-                n += k;
+        if let Some(k) = read_from(input, text, n)? {
+            if k == 0 {
+                return Ok(n);
             }
-            Step::Again => {}
-            Step::Failed(error) => {
-                return Input::Unreadable(error);
-            }
+            n += k;
         }
     }
     if n < text.len() {
-        Input::Unreadable(io::Error::from(ErrorKind::TimedOut))
+        Err(io::Error::from(ErrorKind::TimedOut))
     } else {
-        Input::Text(n)
+        Ok(n)
     }
 }
 
-// One call of `read`, to the places from `at` on.
-fn read_from<R: Read>(input: &mut R, text: &mut [u8], at: usize) -> Step
+// One call of `read`, to the places from `at` on: how many bytes it moved, or `None` where it is made again.
+fn read_from<R: Read>(input: &mut R, text: &mut [u8], at: usize) -> io::Result<Option<usize>>
     requires { at ≤ length text.old }
     ensures fits { Fits result at (length text.new) }
     ensures before { take at text.new ≡ take at text.old }
@@ -134,7 +113,7 @@ fn read_from<R: Read>(input: &mut R, text: &mut [u8], at: usize) -> Step
 {
     let rest: &mut [u8] = &mut text[at..];
     match input.read(rest) {
-        Ok(k) => Step::Moved(k),
+        Ok(k) => Ok(Some(k)),
         Err(error) => trouble(error),
     }
 }
@@ -148,14 +127,8 @@ fn write_all<W: Write>(output: &mut W, bytes: &[u8]) -> io::Result<()>
     let mut turns = u64::MAX;
     while turns > 0 && n < bytes.len() {
         turns -= 1;
-        match write_from(output, bytes, n) {
-            Step::Moved(k) => {
-                n += k;
-            }
-            Step::Again => {}
-            Step::Failed(error) => {
-                return Err(error);
-            }
+        if let Some(k) = write_from(output, bytes, n)? {
+            n += k;
         }
     }
     if n == bytes.len() {
@@ -165,31 +138,31 @@ fn write_all<W: Write>(output: &mut W, bytes: &[u8]) -> io::Result<()>
     }
 }
 
-// One call of `write`, for the bytes from `at` on.
-fn write_from<W: Write>(output: &mut W, bytes: &[u8], at: usize) -> Step
+// One call of `write`, for the bytes from `at` on: how many it moved, or `None` where it is made again.
+fn write_from<W: Write>(output: &mut W, bytes: &[u8], at: usize) -> io::Result<Option<usize>>
     requires { at ≤ length bytes.now }
     ensures fits { Fits result at (length bytes.now) }
     ensures bytes { StepWrites result (W.contents output.old) (W.contents output.new) (drop at bytes.now) }
 {
     let rest: &[u8] = &bytes[at..];
     match output.write(rest) {
-        Ok(k) => Step::Moved(k),
+        Ok(k) => Ok(Some(k)),
         Err(error) => trouble(error),
     }
 }
 
 // After a call that failed: one that was interrupted, or for which the other end was not ready, is made again. There is
 // no call that waits for an end to become ready, so meanwhile others are let run.
-fn trouble(error: io::Error) -> Step
+fn trouble(error: io::Error) -> io::Result<Option<usize>>
     ensures idle { Idle result }
-    ensures again { IsRetried error → result ≡ Step.Again }
-    ensures failed { (IsRetried error → ⊥) → result ≡ Step.Failed error }
+    ensures again { IsRetried error → result ≡ Ok None }
+    ensures failed { (IsRetried error → ⊥) → result ≡ Err error }
 {
     let kind = error.kind();
     if kind == ErrorKind::WouldBlock {
         thread::yield_now();
     } else if kind != ErrorKind::Interrupted {
-        return Step::Failed(error);
+        return Err(error);
     }
-    Step::Again
+    Ok(None)
 }

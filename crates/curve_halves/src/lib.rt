@@ -18,6 +18,8 @@ pub fn left_values(degree: u32, c: [i64; 6]) -> [i64; 6]
 }
 
 // One coordinate of the left half of a curve of degree 1 to 3.
+// It stands apart from `left_values` for the loops of these degrees, which are slower with degrees 4 and 5 in them
+// (docs/landings/20).
 pub fn left_low(degree: u32, c: [i64; 6]) -> [i64; 6]
     requires { (1 ≤ degree) × (degree ≤ 3) × Each (2 ^ 44) c }
     ensures { result ≡ padded (left degree c) }
@@ -147,6 +149,7 @@ fn left_quintic(c: [i64; 6]) -> [i64; 6]
 }
 
 // A copy of the values, one by one.
+// It is `c` again, and no plain copy, for speed: what is handed on is then not the caller's array (`Curve::same`).
 pub fn same_values(c: [i64; 6]) -> [i64; 6]
     requires { Each (2 ^ 44) c }
     ensures { result ≡ c }

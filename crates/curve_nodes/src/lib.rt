@@ -47,6 +47,8 @@ impl Curve {
     }
 
     // The half from t = 0 to 1/2 of a curve of degree 1 to 3.
+    // It stands apart from `left` for the loops of these degrees, which are slower with degrees 4 and 5 in them
+    // (docs/landings/20).
     pub fn left_low(self) -> Curve
         requires { Halvable self × (self.degree ≤ 3) }
         ensures { result ≡ left_half self }
@@ -86,6 +88,8 @@ impl Curve {
     }
 
     // A curve of degree 1 to 3 carried on past its end, over a stretch of parameters 2^k times as long.
+    // It stands apart from `onward` for the loops of these degrees, which are slower with degrees 4 and 5 in them
+    // (docs/landings/20).
     pub fn onward_low(self, k: u32) -> Curve
         requires { Halvable self × (self.degree ≤ 3) × (k ≤ 7) }
         ensures { result ≡ onward_of k self }
@@ -122,14 +126,12 @@ pub fn node_curve(root: Curve, node: u32) -> Curve
     ensures { result ≡ node_curve root node }
 {
     let mut curve = root;
-    let mut i = depth(node);
-    while 0 < i {
-        i -= 1;
-        if (node >> i) % 2 == 0 {
-            curve = curve.left();
+    for i in (0..depth(node)).rev() {
+        curve = if (node >> i) % 2 == 0 {
+            curve.left()
         } else {
-            curve = curve.right();
-        }
+            curve.right()
+        };
     }
     curve
 }

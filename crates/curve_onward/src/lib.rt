@@ -19,6 +19,8 @@ pub fn onward_values(degree: u32, k: u32, c: [i64; 6]) -> [i64; 6]
 }
 
 // One coordinate of a curve of degree 1 to 3 carried on.
+// It stands apart from `onward_values` for the loops of these degrees, which are slower with degrees 4 and 5 in them
+// (docs/landings/20).
 pub fn onward_low(degree: u32, k: u32, c: [i64; 6]) -> [i64; 6]
     requires { (1 ≤ degree) × (degree ≤ 3) × (k ≤ 7) × Each (2 ^ 44) c }
     ensures { result ≡ padded (onward degree k c) }

@@ -2,7 +2,6 @@
 use mathlib.Core.Path.{◌≡◌, refl, sym, ◌∙◌, subst}
 use mathlib.Core.List.Memᴰ
 use mathlib.Core.List.{List, [], ◌∷◌, Memᴰ}
-use mathlib.Core.Option.{some}
 use Prim.Native.Nat.{ℕ, ◌+◌, ◌*◌, ◌^◌, ◌≤◌, ◌<◌}
 use native.Mathlib.Omega.{arith}
 use lib.Dec.{lit<}
@@ -32,13 +31,11 @@ use Rattle.outline.specs.Curves.{curve_at}
 use Rattle.outline.specs.Faults.{fault_at}
 use Rattle.outline.specs.Checks.{curves, outline_from, outlined}
 use Rattle.outline.proofs.Accepted.{outlined_from, accepted_all}
-use Rattle.band_banded.specs.declared.banding.Banded.TheVariants.{Done}
-use Rattle.band_banded.specs.Banding.{banded, written}
+use Rattle.band_banded.specs.Banding.{done, banded, written}
 use Rattle.walk_depths.specs.Premise.{Flat}
 use Rattle.walk_depths.proofs.Thirds.{FlatFrom}
 use Rattle.band_banded.proofs.Theorems.{done_exactly}
-use Rattle.judge.specs.declared.judging.Judgement.{Judgement}
-use Rattle.judge.specs.Judging.{Judged as JudgedSo}
+use Rattle.judge.specs.Judging.{Judgement, Judged as JudgedSo}
 use Rattle.demand_3.specs.Demand3.{CurveOf, IsOn, Somewhere, Shallow, OutlineDemand3}
 use Rattle.demand_3.specs.Meeting.{CoveredTwice}
 use Rattle.demand_3.specs.Starred.{A}
@@ -80,19 +77,19 @@ shallow_depth {j = j} s is = subst (λ m. depth m ≤ j) (natural_is (sym s.is �
     natural_is e = cc
 
 -- ---- an outline that is banded, and whatever judging answers to its leaves
-module _ (σ : Setting) (T : ℤ) (ns old : List ℤ) (a b c : ℕ) (done : banded σ T ns (length old) ≡ Done a b c) where
+module _ (σ : Setting) (T : ℤ) (ns old : List ℤ) (a b c : ℕ) (said : banded σ T ns (length old) ≡ done a b c) where
   abbrev leaves : List ℤ
   leaves = take (record_length σ * b) (written σ T ns old)
 
   module _ (x y : ℤ) (answer : Judgement) (judged : JudgedSo σ leaves x y answer) where
     claim : OutlineDemand3 σ T ns leaves x y answer
-    claim = demand_3 σ T ns old a b c done x y answer judged
+    claim = demand_3 σ T ns old a b c said x y answer judged
 
     -- a point beyond the reach is never judged on
     pub on_in_reach : IsOn answer → Reach T x × Reach T y
     on_in_reach on =
         let sized = accepted_all σ.most σ.pieces ns 0 claim.all (outlined_from σ.most σ.pieces ns claim.all claim.are) in
-        let least = between_low (pos 2) (pos 1048576) T ((done_exactly σ T ns (length old) a b c).0 done).1.tolerance in
+        let least = between_low (pos 2) (pos 1048576) T ((done_exactly σ T ns (length old) a b c).0 said).1.tolerance in
         somewhere_in_reach σ T claim.all sized x y (nonneg_by (T ∷ []) (gap least +₀ natural 2) (search sides depth 20) refl)
         (claim.demand_3.every_on_near on)
 
@@ -119,10 +116,10 @@ pub half_way : Equals 1 curve_a 1 1 (pos 240) (pos 360)
 unfolding value sum choose pow one
 half_way = record { in_x = refl; in_y = refl }
 
-pub half_way_on : (T : ℤ) (old : List ℤ) (a b c : ℕ) → banded standard T A (length old) ≡ Done a b c
+pub half_way_on : (T : ℤ) (old : List ℤ) (a b c : ℕ) → banded standard T A (length old) ≡ done a b c
     → (answer : Judgement) → JudgedSo standard (take (record_length standard * b) (written standard T A old)) (pos 240) (pos 360) answer → IsOn answer
-half_way_on T old a b c done answer judged =
-    let d = claim standard T A old a b c done (pos 240) (pos 360) answer judged in
+half_way_on T old a b c said answer judged =
+    let d = claim standard T A old a b c said (pos 240) (pos 360) answer judged in
     d.demand_3.every_point_on 0 curve_a (record { before = []; after = []; split = same_curves d.are of_a; number = refl }) 1 1 (lit< tt) half_way
 
 -- ---- the premise of the depth claim: y 0, 0, 125, 250 has M = 125. With three pieces G is 890, and 2 × (16 × 890 × 125 + 20000)² lies between
@@ -167,11 +164,11 @@ in_circle T x y p r nonzero w =
     let positive = pow_positive (pos_lt nonzero) 1 in
     *ℤ_cancel (times_positive positive positive) (le_by (W ∷ x ∷ y ∷ T ∷ []) (gap h) (search sides depth 40 fits 9999) refl)
 
-pub on_in_circle : (T : ℤ) (old : List ℤ) (a b c : ℕ) → banded standard T dotted (length old) ≡ Done a b c → (x y : ℤ) (answer : Judgement)
+pub on_in_circle : (T : ℤ) (old : List ℤ) (a b c : ℕ) → banded standard T dotted (length old) ≡ done a b c → (x y : ℤ) (answer : Judgement)
     → JudgedSo standard (take (record_length standard * b) (written standard T dotted old)) x y answer → IsOn answer
     → (squared x +ℤ squared y) ≤ℤ squared T
-on_in_circle T old a b c done x y answer judged on =
-    let d = claim standard T dotted old a b c done x y answer judged in
+on_in_circle T old a b c said x y answer judged on =
+    let d = claim standard T dotted old a b c said x y answer judged in
     let s = d.demand_3.every_on_near on in
     let one = Memᴰ.eq_of_singleton (subst (λ cs. Memᴰ s.curve cs) (same_curves d.are of_dotted) (of_member s.of)) in
     in_circle T x y s.p s.r s.some (subst (λ e. Within 1 T e s.p s.r x y) one s.near)

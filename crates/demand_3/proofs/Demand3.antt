@@ -12,6 +12,7 @@ use lib.Dec.{lit≤}
 use lib.ListN.{length, take}
 use lib.IntN.{ℤ, pos}
 use lib.Ieee.{Float}
+use Rattle.std.specs.Prelude.{Some, None, Ok, Err}
 use Rattle.integers.specs.Entry.{entry}
 use Rattle.curve_nodes.specs.declared.Curve.{Curve}
 use Rattle.curve_halves.specs.Sizes.{Each}
@@ -24,7 +25,7 @@ use Rattle.refusals.specs.declared.Refusal.{Refusal}
 use Rattle.outline.specs.Checks.{Outlined}
 use Rattle.walk_curve.specs.Walked.{node_meets}
 use Rattle.walk_tree.proofs.Leaves.{end_facts}
-use Rattle.band_banded.specs.declared.banding.Banded.TheVariants.{Done}
+use Rattle.band_banded.specs.Banding.{done}
 use Rattle.band_records.specs.Records.{record_of, all_records}
 use Rattle.band_banded.specs.Banding.{band_given, written_given, banded, written, banded_spline, written_spline}
 use Rattle.band_banded.specs.Banding.{banded_binary64, written_binary64}
@@ -41,10 +42,8 @@ use Rattle.band_banded.proofs.Station.{done_listed, written_listed}
 use Rattle.band_banded.proofs.Sound.{curves_leaves, curves_sound}
 use Rattle.walk_depths.proofs.Depths.{end_depth}
 use Rattle.judge_cover.specs.Covers.{Holds, CoverHolds}
-use Rattle.judge.specs.declared.judging.Judgement.{Judgement}
-use Rattle.judge.specs.declared.judging.Judgement.TheVariants.{On, Off, Refused}
 use Rattle.judge_list.specs.Checks.{number_fault}
-use Rattle.judge.specs.Judging.{judging_fault, Verdict, Judged}
+use Rattle.judge.specs.Judging.{Judgement, judging_fault, Verdict, Judged}
 use Rattle.judge.proofs.Judgements.{judged_on}
 use Rattle.demand_3.specs.Meeting.{HeldAt}
 use Rattle.demand_3.specs.Demand3.{CurveOf, IsOn, Somewhere, Shallow, Demand3, GivenDemand3, OutlineDemand3, Binary64Demand3, SplineDemand3}
@@ -57,9 +56,9 @@ module _ (σ : Setting) (rs : List ℤ) (x y : ℤ) where
   -- where a cover holds the point and nothing is refused, it is on
   held_on : (answer : Judgement) → Verdict σ none rs x y answer → (k i : ℕ) → record_length σ * k < length rs → i < covers σ
       → CoverHolds σ rs k i x y → IsOn answer
-  held_on (On leaf cover) v k i hk hi h = record { leaf = leaf; cover = cover; is = refl }
-  held_on Off v k i hk hi h = absurd (v k i hk hi h)
-  held_on (Refused r) v k i hk hi h = absurd v
+  held_on (Ok (Some held)) v k i hk hi h = record { leaf = held.leaf; cover = held.cover; is = refl }
+  held_on (Ok None) v k i hk hi h = absurd (v k i hk hi h)
+  held_on (Err r) v k i hk hi h = absurd v
 
 -- ---- one place of a list, one curve
 pub same_curve : (bs ds after rest : List Curve) {c d : Curve} → length bs ≡ length ds → bs ++ c ∷ after ≡ ds ++ d ∷ rest → c ≡ d
@@ -172,11 +171,11 @@ curves_demand_3 σ rows T cs t meet x y answer judged =
     }
 
 -- ---- demand 3 of what is given, in every setting: where it is accepted, there are rows for the number of pieces
-pub given_demand_3 : (σ : Setting) (T : ℤ) {o : Outlined} → Given σ o → (old : List ℤ) (a b c : ℕ) → band_given σ T o (length old) ≡ Done a b c
+pub given_demand_3 : (σ : Setting) (T : ℤ) {o : Outlined} → Given σ o → (old : List ℤ) (a b c : ℕ) → band_given σ T o (length old) ≡ done a b c
     → (x y : ℤ) (answer : Judgement) → Judged σ (take (record_length σ * b) (written_given σ T o old)) x y answer
     → GivenDemand3 σ T o (take (record_length σ * b) (written_given σ T o old)) x y answer
-given_demand_3 σ T given old a b c done x y answer judged =
-    let h = (done_given σ T given (length old) a b c).0 done in
+given_demand_3 σ T given old a b c said x y answer judged =
+    let h = (done_given σ T given (length old) a b c).0 said in
     let cs = h.0 in
     let is = records_given σ T given old h.1 h.2 in
     let said = subst (λ rs. Judged σ rs x y answer) is judged in
@@ -188,13 +187,13 @@ given_demand_3 σ T given old a b c done x y answer judged =
     }
 
 -- of an outline
-pub demand_3 : (σ : Setting) (T : ℤ) (ns old : List ℤ) (a b c : ℕ) → banded σ T ns (length old) ≡ Done a b c
+pub demand_3 : (σ : Setting) (T : ℤ) (ns old : List ℤ) (a b c : ℕ) → banded σ T ns (length old) ≡ done a b c
     → (x y : ℤ) (answer : Judgement) → Judged σ (take (record_length σ * b) (written σ T ns old)) x y answer
     → OutlineDemand3 σ T ns (take (record_length σ * b) (written σ T ns old)) x y answer
 demand_3 σ T ns = given_demand_3 σ T (outline_given σ ns)
 
 -- ---- of an outline in binary64
-pub binary64_demand_3 : (m : ℕ) (T : ℤ) (xs : List Float) (old : List ℤ) (a b c : ℕ) → banded_binary64 m T xs (length old) ≡ Done a b c
+pub binary64_demand_3 : (m : ℕ) (T : ℤ) (xs : List Float) (old : List ℤ) (a b c : ℕ) → banded_binary64 m T xs (length old) ≡ done a b c
     → (x y : ℤ) (answer : Judgement) → Judged (lists m) (take (record_length (lists m) * b) (written_binary64 m T xs old)) x y answer
     → Binary64Demand3 m T xs (take (record_length (lists m) * b) (written_binary64 m T xs old)) x y answer
 binary64_demand_3 m T xs = given_demand_3 (lists m) T (binary64_given m xs)
@@ -207,37 +206,37 @@ faults_same m rs x y = refl
 verdict_same : (m : ℕ) (o : Option Refusal) (rs : List ℤ) (x y : ℤ) (answer : Judgement) → Verdict (lists m) o rs x y answer
     → Verdict (splines m) o rs x y answer
 verdict_same m (some r) rs x y answer v = v
-verdict_same m none rs x y (On k i) v = record {
+verdict_same m none rs x y (Ok (Some h)) v = record {
   inside = v.inside;
   cover = v.cover;
   holds = v.holds;
   none_earlier = v.none_earlier;
   none_lower = v.none_lower;
 }
-verdict_same m none rs x y Off v = v
-verdict_same m none rs x y (Refused r) v = v
+verdict_same m none rs x y (Ok None) v = v
+verdict_same m none rs x y (Err r) v = v
 
-pub spline_demand_3 : (m : ℕ) (T : ℤ) (ns old : List ℤ) (a b c : ℕ) → banded_spline m T ns (length old) ≡ Done a b c
+pub spline_demand_3 : (m : ℕ) (T : ℤ) (ns old : List ℤ) (a b c : ℕ) → banded_spline m T ns (length old) ≡ done a b c
     → (x y : ℤ) (answer : Judgement) → Judged (lists m) (take (record_length (lists m) * b) (written_spline m T ns old)) x y answer
     → SplineDemand3 m T ns (take (record_length (lists m) * b) (written_spline m T ns old)) x y answer
-spline_demand_3 m T ns old a b c done x y answer judged =
+spline_demand_3 m T ns old a b c said x y answer judged =
     let rs = take (record_length (lists m) * b) (written_spline m T ns old) in
-    given_demand_3 (splines m) T (spline_given m ns) old a b c done x y answer
+    given_demand_3 (splines m) T (spline_given m ns) old a b c said x y answer
     (verdict_same m (judging_fault (splines m) rs x y) rs x y answer (rw (faults_same m rs x y) at judged))
 
 -- ---- demand 3 where fewer curves may stand than in lists: the leaves are judged as every leaf list is
 pub demand_3_listed : (σ : Setting) → σ.sixths ≡ false → σ.most ≤ (lists σ.pieces).most → (T : ℤ) (ns old : List ℤ) (a b c : ℕ)
-    → banded σ T ns (length old) ≡ Done a b c
+    → banded σ T ns (length old) ≡ done a b c
     → (x y : ℤ) (answer : Judgement) → Judged (lists σ.pieces) (take (record_length σ * b) (written σ T ns old)) x y answer
     → OutlineDemand3 (lists σ.pieces) T ns (take (record_length σ * b) (written σ T ns old)) x y answer
-demand_3_listed σ units few T ns old a b c done x y answer judged =
+demand_3_listed σ units few T ns old a b c said x y answer judged =
     let e : listed σ ≡ lists σ.pieces = ap (lists_of σ.pieces) units in
-    let same : written σ T ns old ≡ written (lists σ.pieces) T ns old = written_listed σ few T ns old done ∙ ap (λ τ. written τ T ns old) e in
-    let accepted = subst (λ τ. banded τ T ns (length old) ≡ Done a b c) e (done_listed σ few T ns (length old) done) in
+    let same : written σ T ns old ≡ written (lists σ.pieces) T ns old = written_listed σ few T ns old said ∙ ap (λ τ. written τ T ns old) e in
+    let accepted = subst (λ τ. banded τ T ns (length old) ≡ done a b c) e (done_listed σ few T ns (length old) said) in
     rw same (demand_3 (lists σ.pieces) T ns old a b c accepted x y answer (rw same at judged))
 
 -- so of the bands of the bench station
-pub station_demand_3 : (m : ℕ) (T : ℤ) (ns old : List ℤ) (a b c : ℕ) → banded (station m) T ns (length old) ≡ Done a b c
+pub station_demand_3 : (m : ℕ) (T : ℤ) (ns old : List ℤ) (a b c : ℕ) → banded (station m) T ns (length old) ≡ done a b c
     → (x y : ℤ) (answer : Judgement) → Judged (lists m) (take (record_length (station m) * b) (written (station m) T ns old)) x y answer
     → OutlineDemand3 (lists m) T ns (take (record_length (station m) * b) (written (station m) T ns old)) x y answer
 station_demand_3 m = demand_3_listed (station m) refl (lit≤ tt)

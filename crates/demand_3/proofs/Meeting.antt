@@ -16,11 +16,9 @@ use Rattle.outline.specs.Meeting.{CurvesMeet}
 use Rattle.outline.specs.Checks.{Outlined, curves, outlined}
 use Rattle.outline.proofs.Accepted.{outlined_from, accepted_all, accepted_pieces}
 use Rattle.outline.proofs.Meeting.{curves_meet}
-use Rattle.band_banded.specs.declared.banding.Banded.TheVariants.{Done}
-use Rattle.band_banded.specs.Banding.{banded, written}
+use Rattle.band_banded.specs.Banding.{done, banded, written}
 use Rattle.band_banded.proofs.Theorems.{done_exactly, faultless_rows, records_written}
-use Rattle.judge.specs.declared.judging.Judgement.{Judgement}
-use Rattle.judge.specs.Judging.{Judged}
+use Rattle.judge.specs.Judging.{Judgement, Judged}
 use Rattle.demand_3.specs.Demand3.{CurveOf}
 use Rattle.demand_3.specs.Meeting.{EndsAt, HeldAt, CoveredTwice}
 use Rattle.demand_3.proofs.Demand3.{held_at, demand_3}
@@ -62,19 +60,19 @@ numbers_meet most m ns cs o k c d first second =
     curves_meet most m ns first.before c d second.after (o ∙ ap curves (first.split ∙ ap (λ l. first.before ++ c ∷ l) after))
 
 -- ---- the point where curve k ends and curve k + 1 begins
-pub covered_twice : (σ : Setting) → σ.sixths ≡ false → (T : ℤ) (ns old : List ℤ) (a b n : ℕ) → banded σ T ns (length old) ≡ Done a b n
+pub covered_twice : (σ : Setting) → σ.sixths ≡ false → (T : ℤ) (ns old : List ℤ) (a b n : ℕ) → banded σ T ns (length old) ≡ done a b n
     → (cs : List Curve) → outlined σ.most σ.pieces ns ≡ curves cs
     → (k : ℕ) (c d : Curve) → CurveOf cs k c → CurveOf cs (suc k) d → (x y : ℤ) → EndsAt c x y
     → (answer : Judgement) → Judged σ (take (record_length σ * b) (written σ T ns old)) x y answer
     → CoveredTwice σ (take (record_length σ * b) (written σ T ns old)) k x y answer
-covered_twice σ units T ns old a b n done cs o k c d first second x y ends answer judged =
-    let h = (done_exactly σ T ns (length old) a b n).0 done in
+covered_twice σ units T ns old a b n said cs o k c d first second x y ends answer judged =
+    let h = (done_exactly σ T ns (length old) a b n).0 said in
     let same = same_curves h.1.outline o in
     let from = outlined_from σ.most σ.pieces ns h.0 h.1.outline in
     let sized = accepted_all σ.most σ.pieces ns 0 h.0 from in
     let takes = accepted_pieces σ.most σ.pieces ns 0 h.0 from in
     let held = held_at σ (faultless_rows h.1) T h.0 sized takes h.2.meet in
-    let d3 = demand_3 σ T ns old a b n done x y answer judged in
+    let d3 = demand_3 σ T ns old a b n said x y answer judged in
     let is = records_written σ T ns old h.1 h.2 in
     let next = at_next_start ends (numbers_meet σ.most σ.pieces ns cs o k c d first second) in
     record {

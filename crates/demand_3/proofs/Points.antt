@@ -9,6 +9,7 @@ use native.Mathlib.Omega.{arith}
 use lib.ListN.{length, take}
 use lib.IntN.{ℤ, pos}
 use lib.Ieee.{Float}
+use Rattle.std.specs.Prelude.{Some, None, Ok, Err}
 use Rattle.integers.specs.Entry.{entry}
 use Rattle.integers.proofs.Clash.{clash}
 use Rattle.curve_nodes.specs.declared.Curve.{Curve}
@@ -21,15 +22,11 @@ use Rattle.refusals.specs.declared.Refusal.{Refusal}
 use Rattle.refusals.specs.declared.Refusal.TheVariants.{PointX, PointY}
 use Rattle.refusals.specs.Refusals.{number_of}
 use Rattle.boxes.specs.Ranges.{in_range}
-use Rattle.band_banded.specs.declared.banding.Banded.TheVariants.{Done}
-use Rattle.band_banded.specs.Banding.{banded, written, banded_spline, written_spline}
+use Rattle.band_banded.specs.Banding.{done, banded, written, banded_spline, written_spline}
 use Rattle.band_banded.specs.Banding.{banded_binary64, written_binary64}
-use Rattle.judge.specs.declared.judging.Judgement.{Judgement}
-use Rattle.judge.specs.declared.judging.Judgement.TheVariants.{On, Off, Refused}
-use Rattle.judge.specs.Judging.{point_fault, list_fault, judging_fault, Judged}
+use Rattle.judge.specs.Judging.{Judgement, point_fault, list_fault, judging_fault, Judged}
 use Rattle.judge.specs.Judgements.{judgement}
 use Rattle.judge.proofs.Judgements.{is_judged, judged_fault}
-use Rattle.judge_points.specs.declared.answers.PointsJudged.TheVariants.{Points}
 use Rattle.judge_points.specs.Points.{judgement_numbers, points_judged, judged_into}
 use Rattle.judge_points.proofs.Faults.{points_fine_law, list_fine}
 use Rattle.judge_points.proofs.Consequences.{answer_of_point}
@@ -53,14 +50,14 @@ module _ (σ : Setting) (ns : List ℤ) (x y : ℤ) (fine : list_fault σ ns ≡
   only_point = rw (judging_fault, fine)
 
   one_on : (a : Judgement) → Judged σ ns x y a → entry (judgement_numbers a) 0 ≡ pos 1 → IsOn a
-  one_on (On k i) j e = record { leaf = k; cover = i; is = refl }
-  one_on Off j e = clash (cc)
-  one_on (Refused r) j e = let n = eleven x y (sym only_point ∙ judged_fault σ ns x y r j) in clash (cc)
+  one_on (Ok (Some h)) j e = record { leaf = h.leaf; cover = h.cover; is = refl }
+  one_on (Ok None) j e = clash (cc)
+  one_on (Err r) j e = let n = eleven x y (sym only_point ∙ judged_fault σ ns x y r j) in clash (cc)
 
 -- ---- leaves of which demand 3 holds, whatever judging answers: it holds of each point that is judged in one call
 module _ (σ : Setting) (T : ℤ) (o : Outlined) (leaves ps lent : List ℤ) (n : ℕ)
     (demand : (x y : ℤ) (answer : Judgement) → Judged (lists σ.pieces) leaves x y answer → GivenDemand3 σ T o leaves x y answer)
-    (all : points_judged (lists σ.pieces) leaves ps (length lent) ≡ Points n) where
+    (all : points_judged (lists σ.pieces) leaves ps (length lent) ≡ Ok n) where
   abbrev answers : List ℤ
   answers = judged_into (lists σ.pieces) leaves ps lent
 
@@ -98,28 +95,28 @@ module _ {σ : Setting} {T : ℤ} {o : Outlined} {rs ps answers : List ℤ} {i :
 -- ---- the leaves that banding wrote for an outline, in every setting of units with at most the curves of lists, so in that of lists and in the bench
 -- station's
 pub points_demand_3 : (σ : Setting) → σ.sixths ≡ false → σ.most ≤ (lists σ.pieces).most → (T : ℤ) (ns old : List ℤ) (a b c : ℕ)
-    → banded σ T ns (length old) ≡ Done a b c → (ps lent : List ℤ) (n : ℕ)
-    → let leaves = take (record_length σ * b) (written σ T ns old) in points_judged (lists σ.pieces) leaves ps (length lent) ≡ Points n
+    → banded σ T ns (length old) ≡ done a b c → (ps lent : List ℤ) (n : ℕ)
+    → let leaves = take (record_length σ * b) (written σ T ns old) in points_judged (lists σ.pieces) leaves ps (length lent) ≡ Ok n
     → (i : ℕ) → i < n → PointDemand3 (lists σ.pieces) T (outlined (lists σ.pieces).most σ.pieces ns) leaves ps
     (judged_into (lists σ.pieces) leaves ps lent) i
-points_demand_3 σ units few T ns old a b c done ps lent n =
+points_demand_3 σ units few T ns old a b c said ps lent n =
     each_point (lists σ.pieces) T (outlined (lists σ.pieces).most σ.pieces ns) (take (record_length σ * b) (written σ T ns old)) ps lent n
-    (demand_3_listed σ units few T ns old a b c done)
+    (demand_3_listed σ units few T ns old a b c said)
 
 -- ---- those that it wrote for an outline in binary64
-pub binary64_points_demand_3 : (m : ℕ) (T : ℤ) (xs : List Float) (old : List ℤ) (a b c : ℕ) → banded_binary64 m T xs (length old) ≡ Done a b c
+pub binary64_points_demand_3 : (m : ℕ) (T : ℤ) (xs : List Float) (old : List ℤ) (a b c : ℕ) → banded_binary64 m T xs (length old) ≡ done a b c
     → (ps lent : List ℤ) (n : ℕ)
-    → let leaves = take (record_length (lists m) * b) (written_binary64 m T xs old) in points_judged (lists m) leaves ps (length lent) ≡ Points n
+    → let leaves = take (record_length (lists m) * b) (written_binary64 m T xs old) in points_judged (lists m) leaves ps (length lent) ≡ Ok n
     → (i : ℕ) → i < n → PointDemand3 (lists m) T (outlined_binary64 4096 m xs) leaves ps (judged_into (lists m) leaves ps lent) i
-binary64_points_demand_3 m T xs old a b c done ps lent n =
+binary64_points_demand_3 m T xs old a b c said ps lent n =
     each_point (lists m) T (outlined_binary64 4096 m xs) (take (record_length (lists m) * b) (written_binary64 m T xs old)) ps lent n
-    (binary64_demand_3 m T xs old a b c done)
+    (binary64_demand_3 m T xs old a b c said)
 
 -- ---- and those that it wrote for a B-spline
-pub spline_points_demand_3 : (m : ℕ) (T : ℤ) (ns old : List ℤ) (a b c : ℕ) → banded_spline m T ns (length old) ≡ Done a b c
+pub spline_points_demand_3 : (m : ℕ) (T : ℤ) (ns old : List ℤ) (a b c : ℕ) → banded_spline m T ns (length old) ≡ done a b c
     → (ps lent : List ℤ) (n : ℕ)
-    → let leaves = take (record_length (lists m) * b) (written_spline m T ns old) in points_judged (lists m) leaves ps (length lent) ≡ Points n
+    → let leaves = take (record_length (lists m) * b) (written_spline m T ns old) in points_judged (lists m) leaves ps (length lent) ≡ Ok n
     → (i : ℕ) → i < n → PointDemand3 (splines m) T (splined ns) leaves ps (judged_into (lists m) leaves ps lent) i
-spline_points_demand_3 m T ns old a b c done ps lent n =
+spline_points_demand_3 m T ns old a b c said ps lent n =
     each_point (splines m) T (splined ns) (take (record_length (lists m) * b) (written_spline m T ns old)) ps lent n
-    (spline_demand_3 m T ns old a b c done)
+    (spline_demand_3 m T ns old a b c said)

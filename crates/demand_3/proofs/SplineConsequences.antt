@@ -15,11 +15,9 @@ use Rattle.curve_nodes.specs.Points.{Equals, Within}
 use Rattle.outline_splines.specs.Splines.{spline_at, splines_from, spline_count}
 use Rattle.outline_splines.proofs.Basis.{curve_number, curve_value}
 use Rattle.outline_splines.proofs.Accepted.{Splines, accepted, splines_length, spline_degree}
-use Rattle.band_banded.specs.declared.banding.Banded.TheVariants.{Done}
-use Rattle.band_banded.specs.Banding.{banded_spline, written_spline}
+use Rattle.band_banded.specs.Banding.{done, banded_spline, written_spline}
 use Rattle.walk_depths.specs.Premise.{Flat}
-use Rattle.judge.specs.declared.judging.Judgement.{Judgement}
-use Rattle.judge.specs.Judging.{Judged as JudgedSo}
+use Rattle.judge.specs.Judging.{Judgement, Judged as JudgedSo}
 use Rattle.demand_3.specs.Demand3.{CurveOf, IsOn, SplineDemand3}
 use Rattle.demand_3.specs.Splines.{SplinePlace, OnSpline, NearSpline}
 use Rattle.demand_3.proofs.Demand3.{same_curve, spline_demand_3}
@@ -68,13 +66,13 @@ module _ (ns : List ℤ) (k p r : ℕ) where
   }
 
 -- ---- a B-spline that is banded, and whatever judging answers to its leaves
-module _ (m : ℕ) (T : ℤ) (ns old : List ℤ) (a b c : ℕ) (done : banded_spline m T ns (length old) ≡ Done a b c) where
+module _ (m : ℕ) (T : ℤ) (ns old : List ℤ) (a b c : ℕ) (said : banded_spline m T ns (length old) ≡ done a b c) where
   abbrev leaves : List ℤ
   leaves = take (record_length (lists m) * b) (written_spline m T ns old)
 
   module _ (x y : ℤ) (answer : Judgement) (judged : JudgedSo (lists m) leaves x y answer) where
     claim : SplineDemand3 m T ns leaves x y answer
-    claim = spline_demand_3 m T ns old a b c done x y answer judged
+    claim = spline_demand_3 m T ns old a b c said x y answer judged
 
     given : Splines ns claim.all
     given = accepted ns claim.all claim.are
@@ -111,6 +109,6 @@ half_way : OnSpline A 0 1 1 (pos 240) (pos 460)
 unfolding pow one
 half_way = record { place = record { curve = lit< tt; some = lit< tt }; in_x = refl; in_y = refl }
 
-pub half_way_on : (m : ℕ) (T : ℤ) (old : List ℤ) (a b c : ℕ) → banded_spline m T A (length old) ≡ Done a b c
+pub half_way_on : (m : ℕ) (T : ℤ) (old : List ℤ) (a b c : ℕ) → banded_spline m T A (length old) ≡ done a b c
     → (answer : Judgement) → JudgedSo (lists m) (take (record_length (lists m) * b) (written_spline m T A old)) (pos 240) (pos 460) answer → IsOn answer
-half_way_on m T old a b c done answer judged = spline_point_on m T A old a b c done (pos 240) (pos 460) answer judged 0 1 1 half_way
+half_way_on m T old a b c said answer judged = spline_point_on m T A old a b c said (pos 240) (pos 460) answer judged 0 1 1 half_way

@@ -8,6 +8,7 @@ use borrow.Author.Tests.{le-ltb}
 use lib.ListN.{length, replicate, drop}
 use lib.IntN.{ℤ, pos}
 use lib.Signed.{lt_z, le_z, ≤ℤ_refl}
+use Rattle.std.specs.Prelude.{Ok}
 use Rattle.setting.specs.Setting.{standard}
 use Rattle.integers.specs.First.{first_bad}
 use Rattle.integers.proofs.Ranges.{yes_le, no_lt}
@@ -17,14 +18,11 @@ use Rattle.band_banded.proofs.Computing.{computing}
 use Rattle.boxes.specs.declared.Box.{Box}
 use Rattle.draw_polygon.specs.declared.Span.{Span}
 use Rattle.draw_polygon.specs.Polygon.{joined_span, reached, ends_of_spans, path_point, moves, vertices_of, path_of, vertices, numbers}
-use Rattle.draw.specs.declared.drawing.Drawn.TheVariants.{Vertices}
 use Rattle.draw.specs.Drawing.{two_boxes_fault, drawn, drawn_into}
 use Rattle.boxes.specs.Ranges.{in_range}
 use Rattle.judge_list.specs.Checks.{number_fault}
 use Rattle.judge_cover.specs.Deciding.{held}
-use Rattle.judge.specs.declared.judging.Judgement.{Judgement}
-use Rattle.judge.specs.declared.judging.Judgement.TheVariants.{On, Off}
-use Rattle.judge.specs.Judging.{judging_fault, Judged}
+use Rattle.judge.specs.Judging.{Judgement, on, off, judging_fault, Judged}
 use Rattle.judge.specs.Judgements.{first_held, judgement}
 use Rattle.judge.proofs.Judgements.{judged_is}
 use Rattle.demand_3.specs.Starred.{box, A, single, Starred}
@@ -42,11 +40,11 @@ a_44_leaf : written standard (pos 44) A (replicate 18 (pos 0)) ≡ leaf
 unfolding computing
 a_44_leaf = refl
 
-on_363 : judgement standard leaf (pos 240) (pos 363) ≡ On 0 1
+on_363 : judgement standard leaf (pos 240) (pos 363) ≡ on 0 1
 unfolding judgement judging_fault number_fault first_held first_bad held
 on_363 = refl
 
-off_364 : judgement standard leaf (pos 240) (pos 364) ≡ Off
+off_364 : judgement standard leaf (pos 240) (pos 364) ≡ off
 unfolding judgement judging_fault number_fault first_held first_bad held
 off_364 = refl
 
@@ -85,7 +83,7 @@ module _ (x y : ℤ) where
     unfolding first_bad
     no_fault = rw (in_x, at_most x, in_x, in_y, at_most y, in_y, in_x, at_most x, in_x, in_y, at_most y, in_y)
 
-    one_drawn : drawn (single x y) (single x y) (length old) ≡ Vertices 1
+    one_drawn : drawn (single x y) (single x y) (length old) ≡ Ok 1
     unfolding drawn
     one_drawn = rw (drawn, no_fault, le-ltb (length old) 16 enough, the_vertex)
 

@@ -10,8 +10,7 @@ use Rattle.outline.specs.Checks.{Outlined, curves, outlined}
 use Rattle.outline_binary64.specs.Lists.{outlined_binary64}
 use Rattle.outline_splines.specs.Splines.{splined}
 use Rattle.walk_depths.specs.Premise.{Flat}
-use Rattle.judge.specs.declared.judging.Judgement.{Judgement}
-use Rattle.judge.specs.declared.judging.Judgement.TheVariants.{On}
+use Rattle.judge.specs.Judging.{Judgement, on}
 
 -- number k of the curves cs, from 0, is c
 pub record CurveOf (cs : List Curve) (k : ℕ) (c : Curve) : Type 0 where
@@ -24,7 +23,7 @@ pub record CurveOf (cs : List Curve) (k : ℕ) (c : Curve) : Type 0 where
 pub record IsOn (answer : Judgement) : Type 0 where
   pub leaf : ℕ
   pub cover : ℕ
-  pub is : answer ≡ On leaf cover
+  pub is : answer ≡ on leaf cover
 
 -- one of the curves and one rational parameter p / (p + r) at which that curve is within T of the point: the square of
 -- their distance is at most T squared

@@ -5,7 +5,7 @@ use Rattle.curve_nodes.specs.declared.Curve.{Curve}
 use Rattle.setting.specs.Setting.{Setting, covers, record_length}
 use Rattle.walk_tree.specs.Leaves.{Spans}
 use Rattle.judge_cover.specs.Covers.{CoverHolds}
-use Rattle.judge.specs.declared.judging.Judgement.{Judgement}
+use Rattle.judge.specs.Judging.{Judgement}
 use Rattle.demand_3.specs.Demand3.{IsOn}
 
 -- (x, y) is the last control point of the curve, in sixteenths

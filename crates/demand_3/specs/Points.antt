@@ -3,8 +3,7 @@ use Rattle.std.specs.Prelude.{◌≡◌, List, ℕ, ◌+◌, ◌*◌, ◌<◌, �
 use Rattle.integers.specs.Entry.{entry}
 use Rattle.setting.specs.Setting.{Setting, lists}
 use Rattle.outline.specs.Checks.{Outlined}
-use Rattle.judge.specs.declared.judging.Judgement.{Judgement}
-use Rattle.judge.specs.Judging.{Judged}
+use Rattle.judge.specs.Judging.{Judgement, Judged}
 use Rattle.judge_points.specs.Points.{judgement_numbers}
 use Rattle.demand_3.specs.Demand3.{IsOn, GivenDemand3}
 

@@ -13,7 +13,7 @@ use Rattle.refusals.specs.declared.Refusal.TheVariants.{BoxNumber, TooFewVertice
 use Rattle.boxes.specs.declared.Box.{Box}
 use Rattle.draw_polygon.specs.Polygon.{path_of, vertices, numbers}
 use Rattle.draw_polygon.proofs.Vertices.{vertices_most}
-use Rattle.draw.specs.declared.drawing.Drawn.TheVariants.{Vertices, Refused}
+use Rattle.std.specs.Prelude.{Ok, Err}
 use Rattle.draw.specs.Drawing.{two_boxes_fault, drawn, list_after, drawn_into}
 use Rattle.draw.proofs.Writing.{numbers_length, in_front}
 
@@ -23,24 +23,24 @@ module _ (a b : Box) where
   few = vertices_most (path_of a b)
 
   module _ (old : List ℤ) where
-    refused : {r : Refusal} → drawn a b (length old) ≡ Refused r → (Refused r ≡ drawn a b (length old)) × (old ≡ drawn_into a b old)
+    refused : {r : Refusal} → drawn a b (length old) ≡ Err r → (Err r ≡ drawn a b (length old)) × (old ≡ drawn_into a b old)
     unfolding drawn_into
     refused e = (sym e, sym (ap (λ d. list_after d (numbers (vertices a b)) old) e))
 
-    pub at_fault : {place : ℕ} → two_boxes_fault a b ≡ some place → (Refused (BoxNumber place) ≡ drawn a b (length old)) × (old ≡ drawn_into a b old)
+    pub at_fault : {place : ℕ} → two_boxes_fault a b ≡ some place → (Err (BoxNumber place) ≡ drawn a b (length old)) × (old ≡ drawn_into a b old)
     unfolding drawn
     at_fault e = refused (rw (drawn, e))
 
     pub too_few : two_boxes_fault a b ≡ none → length old < 16
-        → (Refused (TooFewVertices (length old)) ≡ drawn a b (length old)) × (old ≡ drawn_into a b old)
+        → (Err (TooFewVertices (length old)) ≡ drawn a b (length old)) × (old ≡ drawn_into a b old)
     unfolding drawn
     too_few e h = refused (rw (drawn, e, lt-ltb (length old) 16 h))
 
     pub all_drawn : {n : ℕ} {list : List ℤ} → two_boxes_fault a b ≡ none → 16 ≤ length old → n ≡ length (vertices a b)
         → list ≡ sets old 0 (numbers (vertices a b))
-        → (Vertices n ≡ drawn a b (length old)) × (list ≡ drawn_into a b old)
+        → (Ok n ≡ drawn a b (length old)) × (list ≡ drawn_into a b old)
     unfolding drawn_into drawn
     all_drawn {n} e h f g =
-        let d : drawn a b (length old) ≡ Vertices (length (vertices a b)) = rw (drawn, e, le-ltb (length old) 16 h) in
+        let d : drawn a b (length old) ≡ Ok (length (vertices a b)) = rw (drawn, e, le-ltb (length old) 16 h) in
         let room : length (numbers (vertices a b)) ≤ length old = omega (arith, numbers_length (vertices a b), few) in
-        (ap Vertices f ∙ sym d, g ∙ in_front (numbers (vertices a b)) old room ∙ sym (ap (λ x. list_after x (numbers (vertices a b)) old) d))
+        (ap Ok f ∙ sym d, g ∙ in_front (numbers (vertices a b)) old room ∙ sym (ap (λ x. list_after x (numbers (vertices a b)) old) d))

@@ -1,16 +1,16 @@
 -- Check 12: the first bad number of two boxes is the first box's, or else the second's.
-use mathlib.Core.Path.{◌≡◌, refl, sym, ◌∙◌, ap, ap₂, subst}
+use mathlib.Core.Path.{◌≡◌, refl, ◌∙◌, ap, ap₂}
 use mathlib.Core.Bool.{Bool}
 use mathlib.Core.List.{◌++◌}
-use mathlib.Core.Option.{Option, none, some}
-use Prim.Native.Nat.{ℕ, zero, suc, ◌+◌, ◌≤◌, ◌<◌}
+use mathlib.Core.Option.{none, some}
+use Prim.Native.Nat.{ℕ, zero, suc, ◌+◌, ◌<◌}
 use native.Mathlib.Nat.{zero-add}
 use native.Mathlib.Omega.{arith}
 use Rattle.integers.specs.Entry.{entry}
 use Rattle.integers.proofs.First.{or_else, moved, bad_parts}
 use Rattle.boxes.specs.declared.Box.{Box}
-use Rattle.boxes.specs.Ranges.{box_number_fine, numbers_of, box_fault, place_or}
-use Rattle.boxes.proofs.Faults.{fault_at_law, place_some, place_none, box_none, place_most}
+use Rattle.boxes.specs.Ranges.{box_number_fine, numbers_of, box_fault}
+use Rattle.boxes.proofs.Faults.{fault_at_law, box_below}
 use Rattle.draw.specs.Drawing.{two_boxes_fault}
 
 -- the test of a box's own number at place p
@@ -38,28 +38,11 @@ module _ (a b : Box) where
       at_second : (p : ℕ) → p < 4 → fine (4 + p) ≡ own b p
       at_second = each_of_four (λ p. fine (4 + p)) (own b) refl refl refl refl
 
-  pub second_at_most : place_or 4 (box_fault b) ≤ 4
-  unfolding box_fault
-  second_at_most = place_most (own b) 4
+  pub second_below : (p : ℕ) → box_fault b ≡ some p → p < 4
+  second_below p e = box_below b p e
 
-  pub fault_of_first : {place : ℕ} → place ≡ place_or 4 (box_fault a) → place < 4 → place ≡ place_or 8 (two_boxes_fault a b)
-  fault_of_first e h =
-      let f = place_some 4 (box_fault a) (subst (λ n. n < 4) e h) in
-      e ∙ sym (zero-add (place_or 4 (box_fault a))) ∙ sym (ap (place_or 8) (two_faults ∙ ap (λ o. or_else (moved 0 o) (moved 4 (box_fault b))) f))
+  pub fault_of_first : (p : ℕ) → box_fault a ≡ some p → two_boxes_fault a b ≡ some p
+  fault_of_first p e = two_faults ∙ ap (λ o. or_else (moved 0 o) (moved 4 (box_fault b))) e ∙ ap some (zero-add p)
 
-  pub fault_of_second : {place beyond : ℕ} → place ≡ place_or 4 (box_fault a) → 4 ≤ place → beyond ≡ place_or 4 (box_fault b)
-      → 4 + beyond ≡ place_or 8 (two_boxes_fault a b)
-  fault_of_second e h f =
-      let g = box_none a (subst (λ n. 4 ≤ n) e h) in
-      ap (λ n. 4 + n) f ∙ behind (box_fault b) ∙ sym (ap (place_or 8) (two_faults ∙ ap (λ o. or_else (moved 0 o) (moved 4 (box_fault b))) g))
-    where
-      behind : (o : Option ℕ) → 4 + place_or 4 o ≡ place_or 8 (moved 4 o)
-      behind none = refl
-      behind (some p) = refl
-
-  -- ---- what a place says
-  pub fault_found : {place : ℕ} → place ≡ place_or 8 (two_boxes_fault a b) → place < 8 → two_boxes_fault a b ≡ some place
-  fault_found e h = place_some 8 (two_boxes_fault a b) (subst (λ n. n < 8) e h) ∙ ap some (sym e)
-
-  pub no_fault : {place : ℕ} → place ≡ place_or 8 (two_boxes_fault a b) → 8 ≤ place → two_boxes_fault a b ≡ none
-  no_fault e h = place_none fine 8 (subst (λ n. 8 ≤ n) e h)
+  pub fault_of_second : box_fault a ≡ none → two_boxes_fault a b ≡ moved 4 (box_fault b)
+  fault_of_second e = two_faults ∙ ap (λ o. or_else (moved 0 o) (moved 4 (box_fault b))) e

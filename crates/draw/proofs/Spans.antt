@@ -1,15 +1,20 @@
 -- What the functions on spans and points return: numbers are held in 32 bits, and comparisons choose.
 use mathlib.Core.Path.{◌≡◌, refl, sym, ◌∙◌, ap, ap₂}
-use mathlib.Core.Bool.{Bool, true, false}
+use mathlib.Core.Bool.{Bool, true, false, cond, ◌&&◌}
 use Prim.Native.Nat.{ℕ, zero, suc}
-use lib.Dec.{eqb}
 use lib.IntN.{ℤ}
 use lib.Signed.{lt_z}
 use mir.Syntax.{w32}
-use mir.Val.{SFits, of_z}
+use mir.Val.{SFits}
 use mir.Facts.{to_z-of_z}
-use Rattle.integers.proofs.Ranges.{stored}
-use Rattle.integers.proofs.Equal.{bits_equal, bits_differ, bits_test}
+use Rattle.std.proofs.Common.{int_eq}
+use Rattle.std.specs.Int.{int_min, int_max}
+use Rattle.std.proofs.lemmas.Bool.Decides.{Decides-int_eq}
+use Rattle.integers.specs.Equal.{equal}
+use Rattle.integers.proofs.Clash.{clash}
+use Rattle.integers.proofs.Equal.{equal-≡, ≡-equal}
+use Rattle.integers.proofs.Order.{≤ℤ_antisymm, lt_le}
+use Rattle.integers.proofs.Ranges.{stored, lt_yes, lt_no}
 use Rattle.boxes.specs.declared.Box.{Box}
 use Rattle.draw_polygon.specs.declared.Span.{Span}
 use Rattle.draw_polygon.specs.declared.Point.{Point}
@@ -17,21 +22,29 @@ use Rattle.draw_polygon.specs.declared.Ends.{Ends}
 use Rattle.draw_polygon.specs.Polygon.{lower, higher, joined_span, reached, ends_of_spans, across_of, upright_of, path_point, same, vertices_of, path_of}
 use Rattle.draw_polygon.specs.Polygon.{vertices}
 
+-- ---- the lesser and the greater as the machine takes them
+module _ (a b : ℤ) where
+  pub min_is : int_min a b ≡ lower a b
+  min_is = go (lt_z b a) (lt_z a b) refl refl
+    where
+      go : (s t : Bool) → lt_z b a ≡ s → lt_z a b ≡ t → cond s b a ≡ elim t [ true ↦ a | false ↦ b ]
+      go true true e f = ≤ℤ_antisymm (lt_le (lt_yes e)) (lt_le (lt_yes f))
+      go true false e f = refl
+      go false true e f = refl
+      go false false e f = ≤ℤ_antisymm (lt_no e) (lt_no f)
+
+  pub max_is : int_max a b ≡ higher a b
+  max_is = go (lt_z b a) (lt_z a b) refl refl
+    where
+      go : (s t : Bool) → lt_z b a ≡ s → lt_z a b ≡ t → cond s a b ≡ elim t [ true ↦ b | false ↦ a ]
+      go true true e f = ≤ℤ_antisymm (lt_le (lt_yes f)) (lt_le (lt_yes e))
+      go true false e f = refl
+      go false true e f = refl
+      go false false e f = ≤ℤ_antisymm (lt_no f) (lt_no e)
+
 module _ {a b : ℤ} (fa : SFits w32 a) (fb : SFits w32 b) where
   pub less : (t : Bool) → lt_z (stored w32 a) (stored w32 b) ≡ t → lt_z a b ≡ t
   less t e = rw (to_z-of_z fa, to_z-of_z fb) at e
-
-  pub lower_then : lt_z (stored w32 a) (stored w32 b) ≡ true → stored w32 a ≡ lower a b
-  lower_then e = to_z-of_z fa ∙ rw (less true e, lower)
-
-  pub lower_else : lt_z (stored w32 a) (stored w32 b) ≡ false → stored w32 b ≡ lower a b
-  lower_else e = to_z-of_z fb ∙ rw (less false e, lower)
-
-  pub higher_then : lt_z (stored w32 a) (stored w32 b) ≡ true → stored w32 b ≡ higher a b
-  higher_then e = to_z-of_z fb ∙ rw (less true e, higher)
-
-  pub higher_else : lt_z (stored w32 a) (stored w32 b) ≡ false → stored w32 a ≡ higher a b
-  higher_else e = to_z-of_z fa ∙ rw (less false e, higher)
 
   module _ (s t : Span) where
     pub reached_first : lt_z (stored w32 a) (stored w32 b) ≡ true → s ≡ reached a b s t
@@ -84,14 +97,18 @@ module _ (u v : Ends) where
   path_rest (suc (suc (suc (suc (suc (suc (suc zero))))))) a b c d e f g = absurd (g refl)
   path_rest (suc (suc (suc (suc (suc (suc (suc (suc k)))))))) a b c d e f g = refl
 
--- two points by their bits
-pub same_by_y : (p q : Point) → SFits w32 p.x → SFits w32 q.x → SFits w32 p.y → SFits w32 q.y
-    → of_z w32 p.x ≡ of_z w32 q.x → eqb (of_z w32 p.y) (of_z w32 q.y) ≡ same p q
-same_by_y p q px qx py qy e = bits_test py qy ∙ rw (bits_equal px qx e)
+-- two points compared
+numbers_equal : (a b : ℤ) → int_eq a b ≡ equal a b
+numbers_equal a b = go (int_eq a b) (equal a b) refl refl
+  where
+    go : (s t : Bool) → int_eq a b ≡ s → equal a b ≡ t → s ≡ t
+    go true true e f = refl
+    go true false e f = let h : a ≡ b = (Decides-int_eq a b).0 e in clash (cc (f, ≡-equal h))
+    go false true e f = let h = (Decides-int_eq a b).1 (equal-≡ f) in clash (cc (e, h))
+    go false false e f = refl
 
-pub same_by_x : (p q : Point) → SFits w32 p.x → SFits w32 q.x → (of_z w32 p.x ≡ of_z w32 q.x → ⊥)
-    → eqb (of_z w32 p.x) (of_z w32 q.x) ≡ same p q
-same_by_x p q px qx f = bits_test px qx ∙ rw (bits_differ px qx f)
+pub points_equal : (p q : Point) → (int_eq p.x q.x && int_eq p.y q.y) ≡ same p q
+points_equal p q = ap₂ ◌&&◌ (numbers_equal p.x q.x) (numbers_equal p.y q.y)
 
 -- ---- the path of two boxes, from what the code called
 pub vertices_are : (a b : Box) {x u y v : Span} {p q : Ends} → x ≡ across_of a → u ≡ across_of b → y ≡ upright_of a → v ≡ upright_of b

@@ -1,29 +1,17 @@
 // The points of the path round two boxes, computed; what the path is stands in the crate `draw_polygon`.
 ghost use Rattle.std.specs.Prelude.{◌≡◌};
-ghost use Rattle.draw_polygon.specs.Polygon.{lower, higher, joined_span, reached, ends_of_spans, across_of, upright_of};
-ghost use Rattle.draw_polygon.specs.Polygon.{path_point, same};
+ghost use Rattle.draw_polygon.specs.Polygon.{joined_span, reached, ends_of_spans, across_of, upright_of, path_point};
 
 use boxes::Box;
 use draw_polygon::{Ends, Point, Span};
-
-fn lower(a: i32, b: i32) -> i32
-    ensures { result ≡ lower a b }
-{
-    if a < b { a } else { b }
-}
-
-fn higher(a: i32, b: i32) -> i32
-    ensures { result ≡ higher a b }
-{
-    if a < b { b } else { a }
-}
+use std::cmp::Ordering;
 
 // The span from the lower low to the higher high.
 fn joined_span(first: Span, second: Span) -> Span
     ensures { result ≡ joined_span first second }
 {
-    let low = lower(first.low, second.low);
-    let high = higher(first.high, second.high);
+    let low = first.low.min(second.low);
+    let high = first.high.max(second.high);
     Span { low, high }
 }
 
@@ -31,13 +19,11 @@ fn joined_span(first: Span, second: Span) -> Span
 fn reached(a: i32, b: i32, first: Span, second: Span) -> Span
     ensures { result ≡ reached a b first second }
 {
-    if a < b {
-        return first;
+    match a.cmp(&b) {
+        Ordering::Less => first,
+        Ordering::Greater => second,
+        Ordering::Equal => joined_span(first, second),
     }
-    if b < a {
-        return second;
-    }
-    joined_span(first, second)
 }
 
 // The x that a box covers.
@@ -111,11 +97,4 @@ pub fn path_point(upright: Ends, across: Ends, k: usize) -> Point
             y: upright.levels.low,
         },
     }
-}
-
-// Whether two points are the same.
-pub fn is_same(p: Point, q: Point) -> bool
-    ensures { result ≡ same p q }
-{
-    p.x == q.x && p.y == q.y
 }

@@ -3,7 +3,7 @@ ghost use Rattle.std.specs.Prelude.{◌≡◌, [], ◌∷◌, ◌+◌, ◌*◌, 
 ghost use lib.{ListN.{length}, Seq.{sets}};
 ghost use Rattle.draw_polygon.specs.Polygon.{path_point, unless_same, vertices_of, vertices, numbers};
 
-use crate::path_points::{across, ends_of_spans, is_same, path_point, upright};
+use crate::path_points::{across, ends_of_spans, path_point, upright};
 use boxes::Box;
 use draw_polygon::{Ends, Point};
 
@@ -25,7 +25,7 @@ fn put_unless(list: &mut [i32], count: usize, p: Point, q: Point) -> usize
     ensures value { result ≡ count + length (unless_same p q) }
     ensures list_after { list.new ≡ sets list.old (2 * count) (numbers (unless_same p q)) }
 {
-    if is_same(p, q) {
+    if p == q {
         return count;
     }
     put_point(list, count, p);
@@ -39,12 +39,10 @@ fn put_path(list: &mut [i32], upright: Ends, across: Ends) -> usize
     ensures list_after { list.new ≡ sets list.old 0 (numbers (vertices_of (path_point upright across))) }
 {
     let mut count: usize = 0;
-    let mut k: usize = 0;
-    while k < 8 {
+    for k in 0..8 {
         let p = path_point(upright, across, k);
         let q = path_point(upright, across, k + 1);
         count = put_unless(list, count, p, q);
-        k += 1;
     }
     if count == 0 {
         put_point(list, 0, path_point(upright, across, 0));

@@ -19,9 +19,8 @@ use Rattle.boxes.specs.Ranges.{in_range, low_fine, box_number_fine, numbers_of}
 use Rattle.boxes.specs.Records.{box_index, box_at_index}
 use Rattle.judge_list.specs.Inside.{fine_at, record_fault_at}
 use Rattle.judge_cover.specs.Covers.{CoverHolds}
-use Rattle.judge.specs.declared.judging.Judgement.{Judgement}
-use Rattle.judge.specs.declared.judging.Judgement.TheVariants.{On, Off, Refused}
-use Rattle.judge.specs.Judging.{point_fault, list_fault, judging_fault, Passed, Verdict, Judged}
+use Rattle.std.specs.Prelude.{Some, None, Ok, Err}
+use Rattle.judge.specs.Judging.{Judgement, off, point_fault, list_fault, judging_fault, Passed, Verdict, Judged}
 use Rattle.judge.specs.Judgements.{judgement}
 use Rattle.judge.specs.Inside.{RecordAt}
 use Rattle.judge.proofs.Answers.{list_passed}
@@ -117,29 +116,29 @@ module _ (σ : Setting) (ns lent : List ℤ) (enough : 16 ≤ length lent) where
         }
 
     -- no cover holds a point that is judged off
-    off_drawn : Judged σ ns p.x p.y Off → InSomePolygon σ ns lent p → ⊥
-    off_drawn off s =
-        subst (λ o. Verdict σ o ns p.x p.y Off) fine off s.leaf s.cover s.inside s.few
+    off_drawn : Judged σ ns p.x p.y off → InSomePolygon σ ns lent p → ⊥
+    off_drawn j s =
+        subst (λ o. Verdict σ o ns p.x p.y off) fine j s.leaf s.cover s.inside s.few
         ((cover_exactly_drawn passed s.leaf s.cover s.inside s.few p).1 s.holds)
 
     drawn_on : InSomePolygon σ ns lent p → JudgedOn σ ns p
     drawn_on s = go (judgement σ ns p.x p.y) (is_judged σ ns p.x p.y)
       where
         go : (a : Judgement) → Judged σ ns p.x p.y a → JudgedOn σ ns p
-        go (On k i) j = record { leaf = k; cover = i; judged = j }
-        go Off j = absurd (off_drawn j s)
-        go (Refused r) j = absurd (subst (λ o. Verdict σ o ns p.x p.y (Refused r)) fine j)
+        go (Ok (Some h)) j = record { leaf = h.leaf; cover = h.cover; judged = j }
+        go (Ok None) j = absurd (off_drawn j s)
+        go (Err r) j = absurd (subst (λ o. Verdict σ o ns p.x p.y (Err r)) fine j)
 
     pub on_exactly_drawn : JudgedOn σ ns p ↔ InSomePolygon σ ns lent p
     on_exactly_drawn = (on_drawn, drawn_on)
 
-    pub off_exactly_drawn : Judged σ ns p.x p.y Off ↔ (InSomePolygon σ ns lent p → ⊥)
+    pub off_exactly_drawn : Judged σ ns p.x p.y off ↔ (InSomePolygon σ ns lent p → ⊥)
     off_exactly_drawn = (off_drawn, none_off)
       where
-        none_off : (InSomePolygon σ ns lent p → ⊥) → Judged σ ns p.x p.y Off
+        none_off : (InSomePolygon σ ns lent p → ⊥) → Judged σ ns p.x p.y off
         none_off n = go (judgement σ ns p.x p.y) (is_judged σ ns p.x p.y)
           where
-            go : (a : Judgement) → Judged σ ns p.x p.y a → Judged σ ns p.x p.y Off
-            go (On k i) j = absurd (n (on_drawn (record { leaf = k; cover = i; judged = j })))
-            go Off j = j
-            go (Refused r) j = absurd (subst (λ o. Verdict σ o ns p.x p.y (Refused r)) fine j)
+            go : (a : Judgement) → Judged σ ns p.x p.y a → Judged σ ns p.x p.y off
+            go (Ok (Some h)) j = absurd (n (on_drawn (record { leaf = h.leaf; cover = h.cover; judged = j })))
+            go (Ok None) j = j
+            go (Err r) j = absurd (subst (λ o. Verdict σ o ns p.x p.y (Err r)) fine j)

@@ -18,7 +18,7 @@ use Rattle.draw_polygon.specs.Polygon.{vertices, numbers}
 use Rattle.draw_polygon.specs.Hull.{Ordered, OfBoxes, round, Hull}
 use Rattle.draw_polygon.proofs.Edges.{turn_swap, opposite_zero, edge_stay}
 use Rattle.draw_polygon.proofs.Boxes.{hull_of_points}
-use Rattle.draw.specs.declared.drawing.Drawn.TheVariants.{Vertices, Refused}
+use Rattle.std.specs.Prelude.{Ok, Err}
 use Rattle.draw.specs.Drawing.{two_boxes_fault, drawn, list_after, drawn_into}
 use Rattle.draw.proofs.Theorems.{ordered}
 use Rattle.draw_holds.specs.InPolygon.{LeftOfEdges, InPolygon}
@@ -69,7 +69,7 @@ points_back (p ∷ ps) ns = ap (λ l. p ∷ l) (points_back ps ns)
 
 -- for boxes that check 12 accepts, and a list that check 13 accepts
 module _ (a b : Box) (lent : List ℤ) (accepted : two_boxes_fault a b ≡ none) (enough : 16 ≤ length lent) where
-  answered : drawn a b (length lent) ≡ Vertices (length (vertices a b))
+  answered : drawn a b (length lent) ≡ Ok (length (vertices a b))
   unfolding drawn
   answered = rw (drawn, accepted, le-ltb (length lent) 16 enough)
 
@@ -83,6 +83,6 @@ module _ (a b : Box) (lent : List ℤ) (accepted : two_boxes_fault a b ≡ none)
   held_exactly_drawn p = let o = ordered a b accepted in rw polygon_drawn (held_exactly_inside o.0 o.1 p)
 
 -- where drawing refuses, its polygon holds nothing
-pub refused_holds_nothing : (a b : Box) (lent : List ℤ) {r : Refusal} → drawn a b (length lent) ≡ Refused r → (p : Point)
+pub refused_holds_nothing : (a b : Box) (lent : List ℤ) {r : Refusal} → drawn a b (length lent) ≡ Err r → (p : Point)
     → InPolygon (drawn_polygon a b lent) p → ⊥
 refused_holds_nothing a b lent e p i = subst (λ d. InPolygon (points_said d (drawn_into a b lent)) p) e i

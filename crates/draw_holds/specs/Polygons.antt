@@ -1,15 +1,13 @@
 -- The polygons that drawing gives for two boxes and for the covers of a leaf list, and when one of these holds a point
 -- (document 02, request 14).
-use Rattle.std.specs.Prelude.{List, [], ◌∷◌, ℕ, zero, suc, ◌+◌, ◌*◌, ◌<◌, length, ℤ}
+use Rattle.std.specs.Prelude.{List, [], ◌∷◌, ℕ, zero, suc, ◌+◌, ◌*◌, ◌<◌, length, ℤ, Result, Ok, Err}
 use Rattle.integers.specs.Entry.{entry}
 use Rattle.setting.specs.Setting.{Setting, covers, record_length}
+use Rattle.refusals.specs.declared.Refusal.{Refusal}
 use Rattle.boxes.specs.declared.Box.{Box}
 use Rattle.boxes.specs.Records.{box_index, box_at_index}
-use Rattle.judge.specs.declared.judging.Judgement.TheVariants.{On}
-use Rattle.judge.specs.Judging.{Judged}
+use Rattle.judge.specs.Judging.{on, Judged}
 use Rattle.draw_polygon.specs.declared.Point.{Point}
-use Rattle.draw.specs.declared.drawing.Drawn.{Drawn}
-use Rattle.draw.specs.declared.drawing.Drawn.TheVariants.{Vertices, Refused}
 use Rattle.draw.specs.Drawing.{drawn, drawn_into}
 use Rattle.draw_holds.specs.InPolygon.{InPolygon}
 
@@ -25,9 +23,9 @@ abbrev pub point_at : List ℤ → ℕ → Point
 point_at ps i = record { x = entry ps (2 * i); y = entry ps (2 * i + 1) }
 
 -- as many points as drawing answers; where it refuses there is no polygon
-abbrev pub points_said : Drawn → List ℤ → List Point
-points_said (Vertices n) ns = points_of n ns
-points_said (Refused r) ns = []
+abbrev pub points_said : Result ℕ Refusal → List ℤ → List Point
+points_said (Ok n) ns = points_of n ns
+points_said (Err r) ns = []
 
 -- the polygon that drawing two boxes writes into a list that is lent
 abbrev pub drawn_polygon : Box → Box → List ℤ → List Point
@@ -50,4 +48,4 @@ pub record InSomePolygon (σ : Setting) (ns lent : List ℤ) (p : Point) : Type 
 pub record JudgedOn (σ : Setting) (ns : List ℤ) (p : Point) : Type 0 where
   pub leaf : ℕ
   pub cover : ℕ
-  pub judged : Judged σ ns p.x p.y (On leaf cover)
+  pub judged : Judged σ ns p.x p.y (on leaf cover)

@@ -7,20 +7,15 @@ ghost use Rattle.band_banded.specs.Banding.{banded};
 ghost use Rattle.engine.specs.{Outcomes.{written_for, Answered}, Inside.{refusal_or}};
 
 use band_banded::banding::Banded;
-use judge::judging::Judgement;
+use judge::judging::Holder;
 use refusals::Refusal;
 
-// What banding an outline and judging a point answers: the first refusal, the point's after those of banding; or
-// banding's report and the judgement.
+// What banding an outline and judging a point answers: banding's report, and the first record and cover that hold the
+// point, where it is on.
 #[derive(Clone, Copy)]
-pub enum Outcome {
-    Refused(Refusal),
-    Judged {
-        curves: usize,
-        leaves: usize,
-        nodes: usize,
-        judgement: Judgement,
-    },
+pub struct Outcome {
+    pub banded: Banded,
+    pub holder: Option<Holder>,
 }
 
 // Puts a band of m pieces a leaf round an outline, writes the leaves' records to the front of the list, and judges the
@@ -32,35 +27,21 @@ pub fn band_and_judge(
     records: &mut [i32],
     x: i32,
     y: i32,
-) -> Outcome
+) -> Result<Outcome, Refusal>
     ensures records_after { records.new
         ≡ written_for (lists m) tolerance outline.now x y records.old }
     ensures answered { Answered (lists m) tolerance outline.now x y records.old result }
 {
     if !boxes::in_range(x) {
-        return Outcome::Refused(refusal_or(outline, tolerance, m, records, Refusal::PointX));
+        return Err(refusal_or(outline, tolerance, m, records, Refusal::PointX));
     }
     if !boxes::in_range(y) {
-        return Outcome::Refused(refusal_or(outline, tolerance, m, records, Refusal::PointY));
+        return Err(refusal_or(outline, tolerance, m, records, Refusal::PointY));
     }
-    let banded = band::band(outline, tolerance, m, records);
-    match banded {
-        Banded::Refused(refusal) => Outcome::Refused(refusal),
-        Banded::Done {
-            curves,
-            leaves,
-            nodes,
-        } => {
-            let record_length = 6 + 4 * (m as usize);
-            let judgement = judge::judge(&records[..record_length * leaves], m, x, y);
-            Outcome::Judged {
-                curves,
-                leaves,
-                nodes,
-                judgement,
-            }
-        }
-    }
+    let banded = band::band(outline, tolerance, m, records)?;
+    let record_length = 6 + 4 * (m as usize);
+    let holder = judge::judge(&records[..record_length * banded.leaves], m, x, y)?;
+    Ok(Outcome { banded, holder })
 }
 
 // What a point out of range gets: banding's refusal, or where there is none that of the point. Banding is lent no
@@ -71,23 +52,16 @@ fn refusal_or(ns: &[i32], tolerance: i32, m: u32, records: &mut [i32], point: Re
         ≡ refusal_or point (banded (lists m) tolerance ns.now (length records.old)) }
 {
     let room = records.len();
-    let banded = band::band(ns, tolerance, m, &mut records[..0]);
-    match banded {
-        Banded::Refused(refusal) => match refusal {
-            Refusal::TooFewRecords(leaves) => {
-                let record_length = 6 + 4 * (m as usize);
-                if room / record_length < leaves {
-                    refusal
-                } else {
-                    point
-                }
-            }
-            _ => refusal,
-        },
-        Banded::Done {
-            curves: _,
-            leaves: _,
-            nodes: _,
-        } => point,
+    let Err(refusal) = band::band(ns, tolerance, m, &mut records[..0]) else {
+        return point;
+    };
+    let Refusal::TooFewRecords(leaves) = refusal else {
+        return refusal;
+    };
+    let record_length = 6 + 4 * (m as usize);
+    if room / record_length < leaves {
+        refusal
+    } else {
+        point
     }
 }

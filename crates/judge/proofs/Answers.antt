@@ -1,9 +1,9 @@
 -- What judging answers, check by check.
-use mathlib.Core.Path.{◌≡◌, refl, sym, ◌∙◌, ap, subst}
+use mathlib.Core.Path.{◌≡◌, refl, sym, ◌∙◌, subst}
 use mathlib.Core.Bool.{Bool, true, false, not}
 use mathlib.Core.List.{List}
 use mathlib.Core.Option.{Option, none, some}
-use Prim.Native.Nat.{ℕ, ◌%◌, ◌≤◌, ◌<◌}
+use Prim.Native.Nat.{ℕ, ◌%◌, ◌<◌}
 use borrow.Author.Tests.{not-true, not-false, lt-leb}
 use lib.Dec.{T, eqb, leb, eqb→eq, eqb_refl}
 use lib.ListN.{length}
@@ -11,18 +11,14 @@ use lib.IntN.{ℤ}
 use mir.Syntax.{w32}
 use mir.Val.{SFits}
 use mir.Facts.{to_z-of_z}
+use Rattle.std.specs.Prelude.{Ok, Err}
 use Rattle.refusals.specs.declared.Refusal.{Refusal}
 use Rattle.refusals.specs.declared.Refusal.TheVariants.{Pieces, LeafListLength, LeafListNumber, PointX, PointY}
-use Rattle.boxes.specs.Ranges.{in_range, place_or}
+use Rattle.boxes.specs.Ranges.{in_range}
 use Rattle.setting.specs.Setting.{Setting, pieces_fine, HasRows, record_length}
 use Rattle.setting.proofs.Pieces.{fine_has_rows, has_rows_fine}
-use Rattle.boxes.proofs.Faults.{place_some, place_none}
 use Rattle.judge_list.specs.Checks.{length_fine, number_fault}
-use Rattle.judge_list.proofs.Numbers.{in_list}
-use Rattle.judge.specs.declared.judging.Judgement.{Judgement}
-use Rattle.judge.specs.declared.judging.Judgement.TheVariants.{Refused}
-use Rattle.judge.specs.declared.judging.Checked.TheVariants.{Fine, Refused as NotChecked}
-use Rattle.judge.specs.Judging.{list_fault, judging_fault, Passed, Verdict, Judged}
+use Rattle.judge.specs.Judging.{Judgement, list_fault, judging_fault, Passed, Verdict, Judged}
 use Rattle.judge.specs.Inside.{checked_of}
 use Rattle.integers.proofs.Clash.{clash}
 use Rattle.integers.proofs.Both.{and_false}
@@ -70,14 +66,11 @@ module _ (σ : Setting) (ns : List ℤ) where
       length_fine_law = rw (eqb_not (length ns) 0 some-numbers, eqb_is (length ns % record_length σ) 0 whole)
 
       -- ---- 10
-      pub number_bad : (i : ℕ) → i ≡ place_or (length ns) (number_fault σ ns) → i < length ns → list_fault σ ns ≡ some (LeafListNumber i)
-      number_bad i e h =
-          let f = place_some (length ns) (number_fault σ ns) (subst (λ k. k < length ns) e h) ∙ ap some (sym e) in
-          rw (list_fault, has_rows_fine σ.pieces has, length_fine_law, f)
+      pub number_bad : (i : ℕ) → number_fault σ ns ≡ some i → list_fault σ ns ≡ some (LeafListNumber i)
+      number_bad i e = rw (list_fault, has_rows_fine σ.pieces has, length_fine_law, e)
 
-      pub list_fine : length ns ≤ place_or (length ns) (number_fault σ ns) → list_fault σ ns ≡ none
-      unfolding number_fault
-      list_fine all = let f = place_none (in_list σ ns) (length ns) all in rw (list_fault, has_rows_fine σ.pieces has, length_fine_law, f)
+      pub list_fine : number_fault σ ns ≡ none → list_fault σ ns ≡ none
+      list_fine e = rw (list_fault, has_rows_fine σ.pieces has, length_fine_law, e)
 
   -- ---- a list that passed
   pub list_passed : list_fault σ ns ≡ none → HasRows σ.pieces × Passed σ ns
@@ -96,17 +89,17 @@ module _ (σ : Setting) (ns : List ℤ) where
       go true false o p l n f = clash (cc)
       go false b o p l n f = clash (cc)
 
-  pub checked_fine : Fine ≡ checked_of (list_fault σ ns) → list_fault σ ns ≡ none
+  pub checked_fine : Ok tt ≡ checked_of (list_fault σ ns) → list_fault σ ns ≡ none
   checked_fine e = go (list_fault σ ns) e
     where
-      go : (o : Option Refusal) → Fine ≡ checked_of o → o ≡ none
+      go : (o : Option Refusal) → Ok tt ≡ checked_of o → o ≡ none
       go none f = refl
       go (some r) f = clash (cc)
 
-  pub checked_refused : {r : Refusal} → NotChecked r ≡ checked_of (list_fault σ ns) → list_fault σ ns ≡ some r
+  pub checked_refused : {r : Refusal} → Err r ≡ checked_of (list_fault σ ns) → list_fault σ ns ≡ some r
   checked_refused {r} e = go (list_fault σ ns) e
     where
-      go : (o : Option Refusal) → NotChecked r ≡ checked_of o → o ≡ some r
+      go : (o : Option Refusal) → Err r ≡ checked_of o → o ≡ some r
       go none f = clash (cc)
       go (some q) f = cc
 
@@ -139,8 +132,8 @@ module _ (σ : Setting) (ns : List ℤ) (x y : ℤ) where
     none_bad e f = rw (judging_fault, list_fault, has_rows_fine σ.pieces has, p.whole, p.numbers, e, f)
 
   -- ---- the answer
-  pub judged_refused : (r : Refusal) → judging_fault σ ns x y ≡ some r → Judged σ ns x y (Refused r)
-  judged_refused r e = subst (λ o. Verdict σ o ns x y (Refused r)) (sym e) refl
+  pub judged_refused : (r : Refusal) → judging_fault σ ns x y ≡ some r → Judged σ ns x y (Err r)
+  judged_refused r e = subst (λ o. Verdict σ o ns x y (Err r)) (sym e) refl
 
   pub judged_found : (a : Judgement) → judging_fault σ ns x y ≡ none → Verdict σ none ns x y a → Judged σ ns x y a
   judged_found a e v = subst (λ o. Verdict σ o ns x y a) (sym e) v

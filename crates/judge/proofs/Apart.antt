@@ -3,10 +3,11 @@ use mathlib.Core.Path.{◌≡◌, refl, sym, subst}
 use mathlib.Core.Logic.{⊎_elim}
 use mathlib.Core.Bool.{Bool, true, false, ◌||◌}
 use mathlib.Core.List.{List, [], ◌∷◌}
-use Prim.Native.Nat.{ℕ, suc, ◌+◌, ◌*◌, ◌%◌, ◌<◌}
+use Prim.Native.Nat.{ℕ, suc, ◌+◌, ◌*◌, ◌%◌, ◌≤◌, ◌<◌}
 use native.Mathlib.Omega.{arith}
 use lib.IntN.{ℤ, pos, ◌-ℤ◌}
 use lib.Signed.{lt_z}
+use Rattle.std.specs.Prelude.{None}
 use Rattle.integers.specs.Entry.{entry}
 use Rattle.integers.proofs.Ring.{sides}
 use Rattle.integers.proofs.Order.{gap<, lt_by, lt_or_ge}
@@ -18,7 +19,7 @@ use Rattle.boxes.proofs.Records.{record_next, one_record}
 use Rattle.judge_cover.specs.Deciding.{sides_of, sides_x, outside, apart, held}
 use Rattle.judge_cover.proofs.Cuts.{apart_x, apart_y}
 use Rattle.judge.proofs.Passing.{pass_each}
-use Rattle.judge.specs.Inside.{held_at, below_all, above_all, beyond, record_apart, ApartTo}
+use Rattle.judge.specs.Inside.{held_at, below_all, above_all, beyond, record_apart, ApartTo, NextNear}
 
 -- ---- a cover
 below_out : (z a : ℤ) → lt_z z a ≡ true → lt_z (z -ℤ a) (pos 0) ≡ true
@@ -85,3 +86,7 @@ module _ {σ : Setting} {ns : List ℤ} {x y : ℤ} {from : ℕ} where
         (λ m. subst (λ n. record_apart σ x y ns n ≡ true) (sym (one_record (record_length σ) k a.whole m l)) e)
         (lt_or_ge (record_length σ * k) at);
   }
+
+  -- past the last record the point is apart from each
+  pub apart_all : {at to : ℕ} → ApartTo σ x y ns from at → to ≤ at → NextNear σ x y ns from to None
+  apart_all a h k l m = a.each k l (omega arith)

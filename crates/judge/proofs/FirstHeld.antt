@@ -16,8 +16,7 @@ use Rattle.boxes.specs.Records.{box_index, box_at_index}
 use Rattle.boxes.proofs.Records.{begins_among, among_begins, place_is, record_is, comes_before, place_below, record_below}
 use Rattle.judge_cover.specs.Covers.{CoverHolds}
 use Rattle.judge_cover.proofs.Deciding.{held_exactly}
-use Rattle.judge.specs.declared.judging.Judgement.TheVariants.{Off}
-use Rattle.judge.specs.Judging.{FirstHolder, Verdict}
+use Rattle.judge.specs.Judging.{off, FirstHolder, Verdict}
 use Rattle.judge.specs.Judgements.{cover_held, first_held}
 
 module _ (σ : Setting) (ns : List ℤ) (x y : ℤ) (whole : length ns % record_length σ ≡ 0) where
@@ -56,7 +55,7 @@ module _ (σ : Setting) (ns : List ℤ) (x y : ℤ) (whole : length ns % record_
         none_lower = λ q h. not_held k q (omega arith) (bad_first missed n 0 j e (covers σ * k + q) (omega arith) (omega arith));
       }
 
-  pub first_off : first_held σ ns x y ≡ none → Verdict σ none ns x y Off
+  pub first_off : first_held σ ns x y ≡ none → Verdict σ none ns x y off
   unfolding first_held
   first_off e k i h l =
       let z : 0 + (covers σ * k + i) ≡ covers σ * k + i = omega arith in

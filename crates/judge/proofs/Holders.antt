@@ -22,14 +22,14 @@ use Rattle.integers.proofs.Clash.{clash}
 use Rattle.integers.proofs.Order.{lt_or_ge}
 use Rattle.integers.proofs.Size.{abs_within}
 use Rattle.integers.proofs.Between.{between_low, between_high}
-use Rattle.integers.proofs.First.{none_bad, bad_none, bad_is, bad_first}
+use Rattle.integers.proofs.First.{none_bad, bad_none, bad_below, bad_is, bad_first}
 use Rattle.integers.proofs.Both.{both_true}
+use Rattle.std.specs.Prelude.{None}
 use Rattle.boxes.specs.declared.Box.{Box}
-use Rattle.boxes.specs.Ranges.{farthest, in_range, low_fine, box_number_fine, place_or}
+use Rattle.boxes.specs.Ranges.{farthest, in_range, low_fine, box_number_fine}
 use Rattle.setting.specs.Setting.{Setting, break_points, covers, record_length}
 use Rattle.boxes.specs.Records.{box_index, box_at_index}
 use Rattle.boxes.proofs.Records.{record_left, record_next, one_record, whole_is}
-use Rattle.boxes.proofs.Faults.{place_some, place_none}
 use Rattle.judge_list.specs.Checks.{number_fault}
 use Rattle.judge_list.specs.Inside.{fine_at, record_fault_at}
 use Rattle.judge_list.proofs.Numbers.{gone_on, found_first, in_list, in_record}
@@ -37,10 +37,8 @@ use Rattle.judge_cover.specs.Covers.{CoverHolds}
 use Rattle.judge_cover.specs.Deciding.{held}
 use Rattle.judge_cover.specs.Inside.{BoxInRange}
 use Rattle.judge_cover.proofs.Deciding.{held_exactly}
-use Rattle.judge.specs.declared.judging.Judgement.TheVariants.{Off}
-use Rattle.judge.specs.declared.holder.Holder.{Holder}
-use Rattle.judge.specs.Judging.{Passed, FirstHolder, Verdict}
-use Rattle.judge.specs.Inside.{InRange, RecordAt, held_at, holder_at, ApartTo, Searched, FoundTo}
+use Rattle.judge.specs.Judging.{off, Passed, FirstHolder, Verdict}
+use Rattle.judge.specs.Inside.{InRange, RecordAt, held_at, holder_at, ApartTo, NextNear, Searched}
 use Rattle.judge.proofs.Apart.{apart_held}
 use Rattle.judge.proofs.Judgements.{whole_of}
 
@@ -103,38 +101,38 @@ module _ (σ : Setting) (ns : List ℤ) (x y : ℤ) (at : ℕ) where
     unfolding first_bad
     missed_more e = record { few = omega arith; none_holds = one_more ∙ rw (first_bad, e) }
 
-    pub cover_found : held_at ns x y at i ≡ true → i ≡ place_or (covers σ) (holder_at σ ns x y at)
+    pub cover_found : held_at ns x y at i ≡ true → holder_at σ ns x y at ≡ some i
     unfolding first_bad holder_at
     cover_found e =
         let f : first_bad missed 1 i ≡ some i = rw (first_bad, e) in
         let g = found_first missed (i + 1) (covers σ - (i + 1)) i (one_more ∙ f) in
         let n : covers σ ≡ i + 1 + (covers σ - (i + 1)) = omega arith in
-        sym (ap (λ k. place_or (covers σ) (first_bad missed k 0)) n ∙ ap (place_or (covers σ)) g)
+        ap (λ k. first_bad missed k 0) n ∙ g
 
-  pub all_missed : (i : ℕ) → Missed i → covers σ ≤ i → covers σ ≡ place_or (covers σ) (holder_at σ ns x y at)
+  pub all_missed : (i : ℕ) → Missed i → covers σ ≤ i → holder_at σ ns x y at ≡ none
   unfolding holder_at
   all_missed i m h =
       let f = m.few in
       let e : i ≡ covers σ = omega arith in
-      sym (ap (place_or (covers σ)) (rw e at m.none_holds))
+      rw e at m.none_holds
 
-  pub holder_holds : (i : ℕ) → i ≡ place_or (covers σ) (holder_at σ ns x y at) → i < covers σ → held_at ns x y at i ≡ true
+  pub holder_below : (i : ℕ) → holder_at σ ns x y at ≡ some i → i < covers σ
   unfolding holder_at
-  holder_holds i e h =
-      let s = place_some (covers σ) (holder_at σ ns x y at) (subst (λ k. k < covers σ) e h) in
-      not-false (held_at ns x y at i) (bad_is missed (covers σ) 0 i (s ∙ ap some (sym e)))
+  holder_below i e = omega (arith, bad_below missed (covers σ) 0 i e)
+
+  pub holder_holds : (i : ℕ) → holder_at σ ns x y at ≡ some i → held_at ns x y at i ≡ true
+  unfolding holder_at
+  holder_holds i e = not-false (held_at ns x y at i) (bad_is missed (covers σ) 0 i e)
 
   -- no lower cover does
-  pub holder_first : (i : ℕ) → i ≡ place_or (covers σ) (holder_at σ ns x y at) → i < covers σ → (q : ℕ) → q < i → held_at ns x y at q ≡ false
+  pub holder_first : (i : ℕ) → holder_at σ ns x y at ≡ some i → (q : ℕ) → q < i → held_at ns x y at q ≡ false
   unfolding holder_at
-  holder_first i e h q l =
-      let s = place_some (covers σ) (holder_at σ ns x y at) (subst (λ k. k < covers σ) e h) in
-      not-true (held_at ns x y at q) (bad_first missed (covers σ) 0 i (s ∙ ap some (sym e)) q (omega arith) l)
+  holder_first i e q l = not-true (held_at ns x y at q) (bad_first missed (covers σ) 0 i e q (omega arith) l)
 
-  pub holder_none : covers σ ≤ place_or (covers σ) (holder_at σ ns x y at) → (i : ℕ) → i < covers σ → held_at ns x y at i ≡ false
+  pub holder_none : holder_at σ ns x y at ≡ none → (i : ℕ) → i < covers σ → held_at ns x y at i ≡ false
   unfolding holder_at
   holder_none h i l =
-      let e = none_bad missed (covers σ) 0 (place_none missed (covers σ) h) i l in
+      let e = none_bad missed (covers σ) 0 h i l in
       let n : 0 + i ≡ i = omega arith in
       not-true (held_at ns x y at i) (rw n at e)
 
@@ -161,7 +159,7 @@ module _ {σ : Setting} {ns : List ℤ} {x y : ℤ} {at : ℕ} (s : Searched σ 
       both : {b : Bool} → b ≡ false → b ≡ true → ⊥
       both f t = clash (cc)
 
-  pub searched_more : covers σ ≤ place_or (covers σ) (holder_at σ ns x y at) → Searched σ ns x y (at + record_length σ)
+  pub searched_more : holder_at σ ns x y at ≡ none → Searched σ ns x y (at + record_length σ)
   searched_more h = record {
     begins = record_next (record_length σ) at s.begins;
     no_cover = λ k i l r m. ⊎_elim (λ n. s.no_cover k i n r m) (λ n. last k i m (one_record (record_length σ) k s.begins n l))
@@ -170,7 +168,7 @@ module _ {σ : Setting} {ns : List ℤ} {x y : ℤ} {at : ℕ} (s : Searched σ 
     where
       last : (k i : ℕ) → i < covers σ → record_length σ * k ≡ at → held_at ns x y (record_length σ * k) i ≡ false
       last k i m e =
-          holder_none σ ns x y (record_length σ * k) (subst (λ b. covers σ ≤ place_or (covers σ) (holder_at σ ns x y b)) (sym e) h) i m
+          holder_none σ ns x y (record_length σ * k) (subst (λ b. holder_at σ ns x y b ≡ none) (sym e) h) i m
 
   -- records that the point is apart from are searched as well
   pub searched_over : {to : ℕ} → ApartTo σ x y ns at to → Searched σ ns x y to
@@ -179,6 +177,16 @@ module _ {σ : Setting} {ns : List ℤ} {x y : ℤ} {at : ℕ} (s : Searched σ 
     no_cover = λ k i l r m. ⊎_elim
         (λ n. s.no_cover k i n r m)
         (λ n. apart_held σ ns x y (record_length σ * k) (a.each k n l) i m)
+        (lt_or_ge (record_length σ * k) at);
+  }
+
+  -- and so is the rest, where the point is apart from each
+  pub searched_rest : {to : ℕ} → NextNear σ x y ns at to None → to % record_length σ ≡ 0 → Searched σ ns x y to
+  searched_rest {to} a e = record {
+    begins = e;
+    no_cover = λ k i l r m. ⊎_elim
+        (λ n. s.no_cover k i n r m)
+        (λ n. apart_held σ ns x y (record_length σ * k) (a k n l) i m)
         (lt_or_ge (record_length σ * k) at);
   }
 
@@ -191,19 +199,18 @@ module _ {σ : Setting} {ns : List ℤ} {x y : ℤ} {at : ℕ} (s : Searched σ 
   searched_past e h = record { begins = e; no_cover = λ k i l r m. s.no_cover k i (omega arith) r m }
 
   -- the record at index `at` is the first that holds the point
-  pub found_on : (i : ℕ) → at < length ns → i ≡ place_or (covers σ) (holder_at σ ns x y at) → i < covers σ
-      → FirstHolder σ ns x y (at / record_length σ) i
-  found_on i h e l =
+  pub found_on : (i : ℕ) → at < length ns → holder_at σ ns x y at ≡ some i → FirstHolder σ ns x y (at / record_length σ) i
+  found_on i h e =
       let leaf = at / record_length σ in
       let b : at ≡ record_length σ * leaf = whole_is (record_length σ) at s.begins in
       record {
         inside = omega arith;
-        cover = l;
+        cover = holder_below σ ns x y at i e;
         holds =
             (held_exactly (box_at_index ns (box_index σ leaf i)) (box_at_index ns (box_index σ leaf (suc i))) x y).0
-            (subst (λ n. held_at ns x y n i ≡ true) b (holder_holds σ ns x y at i e l));
+            (subst (λ n. held_at ns x y n i ≡ true) b (holder_holds σ ns x y at i e));
         none_earlier = λ k q m n. not_held k q (let l = before k m b in s.no_cover k q l (omega arith) n);
-        none_lower = λ q m. not_held leaf q (subst (λ n. held_at ns x y n q ≡ false) b (holder_first σ ns x y at i e l q m));
+        none_lower = λ q m. not_held leaf q (subst (λ n. held_at ns x y n q ≡ false) b (holder_first σ ns x y at i e q m));
       }
     where
       before : (k : ℕ) → k < at / record_length σ → at ≡ record_length σ * (at / record_length σ) → record_length σ * k < at
@@ -211,16 +218,5 @@ module _ {σ : Setting} {ns : List ℤ} {x y : ℤ} {at : ℕ} (s : Searched σ 
           let p : 0 < record_length σ = omega arith in
           omega (arith, mul-lt-mul_of_pos_left {m = k} {n = at / record_length σ} l p)
 
-  pub found_off : length ns ≤ at → Verdict σ none ns x y Off
+  pub found_off : length ns ≤ at → Verdict σ none ns x y off
   found_off h k i l m = not_held k i (s.no_cover k i (omega arith) l m)
-
--- ---- the answer of a search
-module _ {σ : Setting} {ns : List ℤ} {x y : ℤ} {to : ℕ} {h : Holder} where
-  pub held_found : (i : ℕ) → h.cover ≡ i → i < covers σ → FirstHolder σ ns x y h.leaf i → FoundTo σ ns x y to h
-  held_found i e l f = record {
-    on = λ m. subst (λ n. FirstHolder σ ns x y h.leaf n) (sym e) f;
-    off = λ m. absurd (omega arith);
-  }
-
-  pub none_found : h.cover ≡ covers σ → Searched σ ns x y to → FoundTo σ ns x y to h
-  none_found e s = record { on = λ m. absurd (omega arith); off = λ m. s }

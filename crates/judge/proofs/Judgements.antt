@@ -11,9 +11,8 @@ use Rattle.integers.proofs.Clash.{clash}
 use Rattle.setting.specs.Setting.{Setting, record_length}
 use Rattle.refusals.specs.declared.Refusal.{Refusal}
 use Rattle.judge_list.specs.Checks.{length_fine}
-use Rattle.judge.specs.declared.judging.Judgement.{Judgement}
-use Rattle.judge.specs.declared.judging.Judgement.TheVariants.{On, Refused}
-use Rattle.judge.specs.Judging.{point_fault, list_fault, judging_fault, FirstHolder, Verdict, Judged}
+use Rattle.std.specs.Prelude.{Err}
+use Rattle.judge.specs.Judging.{Judgement, on, point_fault, list_fault, judging_fault, FirstHolder, Verdict, Judged}
 use Rattle.judge.specs.Judgements.{first_held, named, judgement}
 use Rattle.judge.proofs.Answers.{list_passed}
 use Rattle.judge.proofs.FirstHeld.{first_on, first_off}
@@ -49,7 +48,7 @@ module _ (σ : Setting) (ns : List ℤ) (x y : ℤ) where
   unfolding judgement
   is_judged = go (judging_fault σ ns x y) refl
     where
-      go : (o : Option Refusal) → judging_fault σ ns x y ≡ o → Verdict σ o ns x y (elim o [ some r ↦ Refused r | none ↦ named σ (first_held σ ns x y) ])
+      go : (o : Option Refusal) → judging_fault σ ns x y ≡ o → Verdict σ o ns x y (elim o [ some r ↦ Err r | none ↦ named σ (first_held σ ns x y) ])
       go (some r) e = refl
       go none e = named_first σ ns x y (none_whole e)
 
@@ -57,16 +56,16 @@ module _ (σ : Setting) (ns : List ℤ) (x y : ℤ) where
   judged_is a j = one_judgement σ ns x y a (judgement σ ns x y) j is_judged
 
   -- what an answer says of the checks
-  pub judged_on : (k i : ℕ) → Judged σ ns x y (On k i) → FirstHolder σ ns x y k i
+  pub judged_on : (k i : ℕ) → Judged σ ns x y (on k i) → FirstHolder σ ns x y k i
   judged_on k i = go (judging_fault σ ns x y)
     where
-      go : (o : Option Refusal) → Verdict σ o ns x y (On k i) → FirstHolder σ ns x y k i
+      go : (o : Option Refusal) → Verdict σ o ns x y (on k i) → FirstHolder σ ns x y k i
       go none v = v
       go (some r) v = clash (cc)
 
-  pub judged_fault : (q : Refusal) → Judged σ ns x y (Refused q) → judging_fault σ ns x y ≡ some q
+  pub judged_fault : (q : Refusal) → Judged σ ns x y (Err q) → judging_fault σ ns x y ≡ some q
   judged_fault q = go (judging_fault σ ns x y)
     where
-      go : (o : Option Refusal) → Verdict σ o ns x y (Refused q) → o ≡ some q
+      go : (o : Option Refusal) → Verdict σ o ns x y (Err q) → o ≡ some q
       go none v = absurd v
       go (some r) v = cc

@@ -6,4 +6,3 @@ pub mod Judgements
 pub mod Apart
 pub mod Holders
 pub mod Answers
-mod Either

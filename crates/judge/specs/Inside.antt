@@ -2,6 +2,7 @@
 -- that holds a point. Places are counted from the index `at` where a record begins.
 use Rattle.std.specs.Prelude.{Bool, true, false, not, ◌&&◌, ◌||◌, List, ◌≡◌, ℕ, zero, suc, ◌+◌, ◌*◌, ◌%◌, ◌≤◌}
 use Rattle.std.specs.Prelude.{◌<◌, length, ℤ, nat_abs}
+use Rattle.std.specs.Prelude.{Option as Maybe, Some, None, Result, Ok, Err}
 use Rattle.std.proofs.Math.Option.{Option, none, some}
 use Rattle.std.specs.Int.Signed.{lt_z}
 use Rattle.integers.specs.Entry.{entry}
@@ -12,9 +13,7 @@ use Rattle.boxes.specs.Records.{box_at_index}
 use Rattle.judge_list.specs.Inside.{record_fault_at}
 use Rattle.judge_cover.specs.Deciding.{held}
 use Rattle.refusals.specs.declared.Refusal.{Refusal}
-use Rattle.judge.specs.declared.holder.Holder.{Holder}
-use Rattle.judge.specs.declared.judging.Checked.{Checked}
-use Rattle.judge.specs.declared.judging.Checked.TheVariants.{Fine, Refused}
+use Rattle.judge.specs.declared.judging.Holder.{Holder}
 use Rattle.judge.specs.Judging.{FirstHolder}
 
 -- a point that passes check 11
@@ -62,6 +61,14 @@ pub record ApartTo (σ : Setting) (x y : ℤ) (ns : List ℤ) (from to : ℕ) : 
   pub each : (k : ℕ) → from ≤ record_length σ * k → record_length σ * k < to
       → record_apart σ x y ns (record_length σ * k) ≡ true
 
+-- what is found from index `from` to before index `to`: the first record that the point is not apart from; or that it
+-- is apart from each
+abbrev pub NextNear : Setting → (x y : ℤ) → (ns : List ℤ) → (from to : ℕ) → Maybe ℕ → Type 0
+NextNear σ x y ns from to (Some at) = (at < to) × ApartTo σ x y ns from at
+NextNear σ x y ns from to None =
+    (k : ℕ) → from ≤ record_length σ * k → record_length σ * k < to
+    → record_apart σ x y ns (record_length σ * k) ≡ true
+
 -- a record begins at index `to` of the list, or the list ends there
 pub record EndsAt (σ : Setting) (ns : List ℤ) (to : ℕ) : Type 0 where
   pub whole : to % record_length σ ≡ 0
@@ -74,13 +81,13 @@ pub record Searched (σ : Setting) (ns : List ℤ) (x y : ℤ) (at : ℕ) : Type
   pub no_cover : (k i : ℕ) → record_length σ * k < at → record_length σ * k < length ns → i < covers σ
       → held_at ns x y (record_length σ * k) i ≡ false
 
--- what a search as far as index `to` found: the first holder of the whole list; or, with a cover that no record has,
--- that no record before `to` holds the point
-pub record FoundTo (σ : Setting) (ns : List ℤ) (x y : ℤ) (to : ℕ) (h : Holder) : Type 0 where
-  pub on : h.cover < covers σ → FirstHolder σ ns x y h.leaf h.cover
-  pub off : covers σ ≤ h.cover → Searched σ ns x y to
+-- what a search as far as index `to` found: the first holder of the whole list; or that no record before `to` holds the
+-- point
+abbrev pub FoundTo : Setting → List ℤ → (x y : ℤ) → ℕ → Maybe Holder → Type 0
+FoundTo σ ns x y to (Some h) = FirstHolder σ ns x y h.leaf h.cover
+FoundTo σ ns x y to None = Searched σ ns x y to
 
 -- ---- the checks of a leaf list, as the code hands on what they find
-abbrev pub checked_of : Option Refusal → Checked
-checked_of (some r) = Refused r
-checked_of none = Fine
+abbrev pub checked_of : Option Refusal → Result (Unit {0}) Refusal
+checked_of (some r) = Err r
+checked_of none = Ok tt

@@ -1,14 +1,12 @@
 -- The answer of judging as a function: the covers of all records are tried in turn. `is_judged` and `judged_is` of
 -- crates/judge/proofs/Judgements.antt say that it is the one answer that `Judged` allows.
-use Rattle.std.specs.Prelude.{Bool, not, List, ℕ, suc, ◌*◌, ◌/◌, ◌%◌, length, ℤ}
+use Rattle.std.specs.Prelude.{Bool, not, List, ℕ, suc, ◌*◌, ◌/◌, ◌%◌, length, ℤ, Err}
 use Rattle.std.proofs.Math.Option.{Option, none, some}
 use Rattle.integers.specs.First.{first_bad}
 use Rattle.setting.specs.Setting.{Setting, covers, record_length}
 use Rattle.boxes.specs.Records.{box_index, box_at_index}
 use Rattle.judge_cover.specs.Deciding.{held}
-use Rattle.judge.specs.declared.judging.Judgement.{Judgement}
-use Rattle.judge.specs.declared.judging.Judgement.TheVariants.{On, Off, Refused}
-use Rattle.judge.specs.Judging.{judging_fault}
+use Rattle.judge.specs.Judging.{Judgement, on, off, judging_fault}
 
 -- whether cover i of record k holds the point: `CoverHolds` of crates/judge_cover, decided, as `held_exactly` there
 -- says
@@ -22,8 +20,8 @@ first_held σ ns x y =
     (covers σ * (length ns / record_length σ)) 0
 
 abbrev pub named : Setting → Option ℕ → Judgement
-named σ (some j) = On (j / covers σ) (j % covers σ)
-named σ none = Off
+named σ (some j) = on (j / covers σ) (j % covers σ)
+named σ none = off
 
 unfoldable pub judgement : Setting → List ℤ → (x y : ℤ) → Judgement
-judgement σ ns x y = elim (judging_fault σ ns x y) [ some r ↦ Refused r | none ↦ named σ (first_held σ ns x y) ]
+judgement σ ns x y = elim (judging_fault σ ns x y) [ some r ↦ Err r | none ↦ named σ (first_held σ ns x y) ]

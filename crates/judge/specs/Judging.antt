@@ -1,6 +1,7 @@
 -- The checks of a leaf list and a point in document 01's order ("Place of each check"), and what judging answers
 -- ("Judging").
 use Rattle.std.specs.Prelude.{◌≡◌, true, false, List, ℕ, ◌*◌, ◌<◌, length, ℤ}
+use Rattle.std.specs.Prelude.{Option as Maybe, Some, None, Result, Ok, Err}
 use Rattle.std.proofs.Math.Option.{Option, none, some}
 use Rattle.refusals.specs.declared.Refusal.{Refusal}
 use Rattle.refusals.specs.declared.Refusal.TheVariants.{Pieces, LeafListLength, LeafListNumber, PointX, PointY}
@@ -8,8 +9,7 @@ use Rattle.boxes.specs.Ranges.{in_range}
 use Rattle.setting.specs.Setting.{Setting, pieces_fine, covers, record_length}
 use Rattle.judge_list.specs.Checks.{length_fine, number_fault}
 use Rattle.judge_cover.specs.Covers.{CoverHolds}
-use Rattle.judge.specs.declared.judging.Judgement.{Judgement}
-use Rattle.judge.specs.declared.judging.Judgement.TheVariants.{On, Off, Refused}
+use Rattle.judge.specs.declared.judging.Holder.{Holder}
 
 -- ---- 11: x, then y
 abbrev pub point_fault : ℤ → ℤ → Option Refusal
@@ -49,12 +49,21 @@ pub record FirstHolder (σ : Setting) (ns : List ℤ) (x y : ℤ) (k i : ℕ) : 
   pub none_lower : (q : ℕ) → q < i → CoverHolds σ ns k q x y → ⊥
 
 -- ---- what the answer says: on names the first holder of the point; off says that no cover of any record holds it
+abbrev pub Judgement : Type 0
+Judgement = Result (Maybe Holder) Refusal
+
+abbrev pub on : (leaf cover : ℕ) → Judgement
+on k i = Ok (Some (record { leaf = k; cover = i }))
+
+abbrev pub off : Judgement
+off = Ok None
+
 abbrev pub Verdict : Setting → Option Refusal → List ℤ → (x y : ℤ) → Judgement → Type 0
-Verdict σ (some r) ns x y answer = answer ≡ Refused r
-Verdict σ none ns x y (On k i) = FirstHolder σ ns x y k i
-Verdict σ none ns x y Off =
+Verdict σ (some r) ns x y answer = answer ≡ Err r
+Verdict σ none ns x y (Ok (Some h)) = FirstHolder σ ns x y h.leaf h.cover
+Verdict σ none ns x y (Ok None) =
     (k i : ℕ) → record_length σ * k < length ns → i < covers σ → CoverHolds σ ns k i x y → ⊥
-Verdict σ none ns x y (Refused r) = ⊥
+Verdict σ none ns x y (Err r) = ⊥
 
 abbrev pub Judged : Setting → List ℤ → (x y : ℤ) → Judgement → Type 0
 Judged σ ns x y answer = Verdict σ (judging_fault σ ns x y) ns x y answer

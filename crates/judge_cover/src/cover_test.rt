@@ -80,10 +80,7 @@ fn apart(sides: Sides) -> bool
     requires { SmallSides sides }
     ensures { result ≡ apart sides }
 {
-    if outside(sides.low_first, sides.low_second) {
-        return true;
-    }
-    outside(sides.high_first, sides.high_second)
+    outside(sides.low_first, sides.low_second) || outside(sides.high_first, sides.high_second)
 }
 
 // Whether a coordinate lies outside of a side at both boxes.
@@ -117,8 +114,5 @@ pub fn holds(first: Box, second: Box, x: i64, y: i64) -> bool
         return false;
     }
     let in_y = sides(first.y_low, first.y_high, second.y_low, second.y_high, y);
-    if apart(in_y) {
-        return false;
-    }
-    held_by(in_x, in_y)
+    !apart(in_y) && held_by(in_x, in_y)
 }

@@ -1,6 +1,6 @@
 -- Check 10, box by box and record by record: the search for the first bad number in parts.
 use mathlib.Core.Path.{◌≡◌, refl, sym, ◌∙◌, ap, subst}
-use mathlib.Core.Bool.{Bool, true, false, not, ◌&&◌}
+use mathlib.Core.Bool.{Bool, true, false, ◌&&◌}
 use mathlib.Core.Logic.{⊎_elim}
 use mathlib.Core.List.{List}
 use mathlib.Core.Option.{Option, none, some}
@@ -8,26 +8,23 @@ use Prim.Native.Nat.{ℕ, zero, suc, ◌+◌, ◌*◌, ◌-◌, ◌/◌, ◌%◌
 use native.Mathlib.Nat.{zero-add, zero-mod, div-add-mod, mod-lt, mul-mod_right, eq-or-lt_of_le, le_of_suc-le-suc}
 use native.Mathlib.Omega.{arith}
 use lib.ListN.{length}
-use lib.IntN.{ℤ, pos}
-use lib.Signed.{le_z, lt_z}
-use mir.Syntax.{w32}
-use mir.Val.{SFits}
-use mir.Facts.{to_z-of_z}
+use lib.IntN.{ℤ}
+use Rattle.std.specs.Prelude.{Some, None}
+use Rattle.std.proofs.lemmas.Option.{none-some, same_Some}
 use Rattle.integers.specs.Entry.{entry}
 use Rattle.integers.specs.First.{first_bad}
-use Rattle.integers.proofs.Ranges.{stored, lt_yes, lt_no, le_yes, le_no, yes_lt, no_lt, yes_le, no_le}
 use Rattle.integers.proofs.Clash.{clash}
 use Rattle.integers.proofs.Order.{lt_or_ge}
 use Rattle.integers.proofs.First.{or_else, moved, bad_parts, bad_moved, none_bad, bad_none, bad_below, bad_is, bad_first}
-use Rattle.integers.proofs.Both.{and_false, both_true}
+use Rattle.integers.proofs.Both.{both_true}
 use Rattle.setting.specs.Setting.{Setting, break_points, record_length}
-use Rattle.boxes.specs.Ranges.{low_fine, in_range, box_number_fine, numbers_of, box_fault, place_or}
+use Rattle.boxes.specs.Ranges.{low_fine, in_range, box_number_fine, numbers_of, box_fault}
 use Rattle.boxes.specs.Inside.{side_fine}
 use Rattle.boxes.specs.Records.{box_at_index}
 use Rattle.boxes.proofs.Records.{whole_is, record_left, record_next, place_in, record_is}
-use Rattle.boxes.proofs.Faults.{fault_at_law, place_some, place_none, box_none, interval, interval_low, interval_high, side_interval, interval_side}
+use Rattle.boxes.proofs.Faults.{fault_at_law, interval, interval_low, interval_high, side_interval, interval_side}
 use Rattle.judge_list.specs.Checks.{number_fine, number_fault}
-use Rattle.judge_list.specs.Inside.{in_boxes, box_fine_at, boxes_fault_at, fine_at, record_fault_at, sides_fine, record_fine}
+use Rattle.judge_list.specs.Inside.{in_boxes, box_fine_at, boxes_fault_at, fine_at, record_fault_at, sides_fine, record_fine, record_start}
 
 -- ---- a search that found nothing among the first a places goes on with the next b
 module _ (fine : ℕ → Bool) (a b : ℕ) (e : first_bad fine a 0 ≡ none) where
@@ -66,45 +63,21 @@ module _ (ns : List ℤ) (at : ℕ) where
       each (suc (suc (suc (suc p)))) h = absurd (omega arith)
 
   module _ (i : ℕ) (e : boxes_fault_at ns at (4 * i) ≡ none) where
-    abbrev box : ℕ
-    box = place_or 4 (box_fault (box_at_index ns (at + 4 * i)))
-
     with_box : boxes_fault_at ns at (4 * i + 4) ≡ moved (4 * i) (box_fault (box_at_index ns (at + 4 * i)))
     with_box = gone_on box_number (4 * i) 4 e ∙ ap (first_bad box_number 4) {x = 0 + 4 * i} {y = 4 * i} (omega arith) ∙ box_part i
 
-    pub box_fine : 4 ≤ box → boxes_fault_at ns at (4 * (i + 1)) ≡ none
-    box_fine h =
-        ap (boxes_fault_at ns at) {x = 4 * (i + 1)} {y = 4 * i + 4} (omega arith)
-        ∙ with_box ∙ ap (moved (4 * i)) (box_none (box_at_index ns (at + 4 * i)) h)
+    pub box_fine : box_fault (box_at_index ns (at + 4 * i)) ≡ none → boxes_fault_at ns at (4 * (i + 1)) ≡ none
+    box_fine b =
+        ap (boxes_fault_at ns at) {x = 4 * (i + 1)} {y = 4 * i + 4} (omega arith) ∙ with_box ∙ ap (moved (4 * i)) b
 
-    pub box_bad : (n : ℕ) → i < n → box < 4 → 4 * i + box ≡ place_or (4 * n) (boxes_fault_at ns at (4 * n))
-    box_bad n h l =
-        let f = with_box ∙ ap (moved (4 * i)) (place_some 4 (box_fault (box_at_index ns (at + 4 * i))) l) in
-        let g = found_first box_number (4 * i + 4) (4 * n - (4 * i + 4)) (4 * i + box) f in
+    pub box_bad : (n p : ℕ) → i < n → box_fault (box_at_index ns (at + 4 * i)) ≡ some p → boxes_fault_at ns at (4 * n) ≡ some (4 * i + p)
+    box_bad n p h b =
+        let g = found_first box_number (4 * i + 4) (4 * n - (4 * i + 4)) (4 * i + p) (with_box ∙ ap (moved (4 * i)) b) in
         let m : 4 * n ≡ 4 * i + 4 + (4 * n - (4 * i + 4)) = omega arith in
-        sym (ap (λ m. place_or (4 * n) (boxes_fault_at ns at m)) m ∙ ap (place_or (4 * n)) g)
+        ap (boxes_fault_at ns at) m ∙ g
 
-  pub boxes_fine : (n : ℕ) → boxes_fault_at ns at n ≡ none → n ≡ place_or n (boxes_fault_at ns at n)
-  boxes_fine n e = sym (ap (place_or n) e)
-
--- ---- what the tests of a curve number say
-module _ (most : ℕ) {z : ℤ} (next : ℤ) (fits : SFits w32 z) where
-  from_zero : (t : Bool) → lt_z (stored w32 z) (pos 0) ≡ t → le_z (pos 0) z ≡ not t
-  from_zero true e = no_le (lt_yes {a = z} (rw (to_z-of_z fits) at e))
-  from_zero false e = yes_le (lt_no {a = z} (rw (to_z-of_z fits) at e))
-
-  to_most : (t : Bool) → le_z (pos most) (stored w32 z) ≡ t → lt_z z (pos most) ≡ not t
-  to_most true e = no_lt {a = z} (le_yes {a = pos most} {b = z} (rw (to_z-of_z fits) at e))
-  to_most false e = yes_lt {a = z} (le_no {a = pos most} {b = z} (rw (to_z-of_z fits) at e))
-
-  pub curve_negative : lt_z (stored w32 z) (pos 0) ≡ true → number_fine most 0 z next ≡ false
-  curve_negative e = rw (from_zero true e)
-
-  pub curve_past : le_z (pos most) (stored w32 z) ≡ true → number_fine most 0 z next ≡ false
-  curve_past e = rw (to_most true e) (and_false (le_z (pos 0) z))
-
-  pub curve_fine : lt_z (stored w32 z) (pos 0) ≡ false → le_z (pos most) (stored w32 z) ≡ false → number_fine most 0 z next ≡ true
-  curve_fine e f = rw (from_zero false e, to_most false f)
+pub boxes_below : (ns : List ℤ) (at n p : ℕ) → boxes_fault_at ns at n ≡ some p → p < n
+boxes_below ns at n p e = omega (arith, bad_below (box_fine_at ns at) n 0 p e)
 
 -- ---- a record: its curve, its node, its boxes
 module _ (σ : Setting) (ns : List ℤ) (at : ℕ) where
@@ -121,7 +94,7 @@ module _ (σ : Setting) (ns : List ℤ) (at : ℕ) where
   two_more : record_length σ ≡ suc (suc (in_boxes σ))
   two_more = omega arith
 
-  pub curve_bad : number 0 ≡ false → 0 ≡ place_or (record_length σ) (record_fault_at σ ns at)
+  pub curve_bad : number 0 ≡ false → record_fault_at σ ns at ≡ some 0
   unfolding record_fault_at first_bad
   curve_bad e = rw (record_fault_at, two_more, first_bad, e)
 
@@ -130,23 +103,17 @@ module _ (σ : Setting) (ns : List ℤ) (at : ℕ) where
     unfolding record_fault_at first_bad
     after_curve = rw (record_fault_at, two_more, first_bad, curve)
 
-    pub node_bad : number 1 ≡ false → 1 ≡ place_or (record_length σ) (record_fault_at σ ns at)
+    pub node_bad : number 1 ≡ false → record_fault_at σ ns at ≡ some 1
     unfolding first_bad
-    node_bad e = sym (ap (place_or (record_length σ)) after_curve ∙ rw (first_bad, e))
+    node_bad e = after_curve ∙ rw (first_bad, e)
 
     module _ (node : number 1 ≡ true) where
       after_node : first_bad number (suc (in_boxes σ)) 1 ≡ first_bad number (in_boxes σ) 2
       unfolding first_bad
       after_node = rw (first_bad, node)
 
-      shifted : (n : ℕ) (o : Option ℕ) → place_or (2 + n) (moved 2 o) ≡ 2 + place_or n o
-      shifted n (some p) = refl
-      shifted n none = refl
-
-      pub boxes_next : 2 + place_or (in_boxes σ) (boxes_fault_at ns (at + 2) (in_boxes σ)) ≡ place_or (record_length σ) (record_fault_at σ ns at)
-      boxes_next = sym
-          (ap (place_or (record_length σ)) (after_curve ∙ after_node ∙ bad_moved number 2 (box_fine_at ns (at + 2)) (in_boxes σ) (λ k h. box_number_law k))
-          ∙ shifted (in_boxes σ) (boxes_fault_at ns (at + 2) (in_boxes σ)))
+      pub boxes_next : record_fault_at σ ns at ≡ moved 2 (boxes_fault_at ns (at + 2) (in_boxes σ))
+      boxes_next = after_curve ∙ after_node ∙ bad_moved number 2 (box_fine_at ns (at + 2)) (in_boxes σ) (λ k h. box_number_law k)
 
 -- ---- a record at once
 in_turn : (a b c : Bool) → (a && (b && c)) ≡ ((a && b) && c)
@@ -211,24 +178,27 @@ module _ (σ : Setting) (ns : List ℤ) (at : ℕ) where
   abbrev each : ℕ → Bool
   each = fine_at σ.most ns at
 
-  pub record_fine_law : record_fine σ ns at ≡ true → record_length σ ≤ place_or (record_length σ) (record_fault_at σ ns at)
+  pub record_fine_law : record_fine σ ns at ≡ true → record_fault_at σ ns at ≡ none
   record_fine_law e =
       let n = in_boxes σ in
       let a = both_true (each 0 && each 1) (sides_fine ns (at + 2) (2 * break_points σ)) e in
       let b = both_true (each 0) (each 1) a.0 in
       let f = bad_none (box_fine_at ns (at + 2)) n 0 (λ k h. rw zero-add (sides_boxes ns (at + 2) (break_points σ) a.1 k h)) in
-      omega (arith, boxes_next σ ns at b.0 b.1, ap (place_or n) f)
+      boxes_next σ ns at b.0 b.1 ∙ ap (moved 2) f
 
-  pub record_unfine : record_fine σ ns at ≡ false → place_or (record_length σ) (record_fault_at σ ns at) < record_length σ
+  pub record_unfine : record_fine σ ns at ≡ false → record_fault_at σ ns at ≡ none → ⊥
   unfolding record_fault_at
-  record_unfine e = ⊎_elim (λ l. l) (λ l. clash (cc (e, fine (place_none each (record_length σ) l))))
-      (lt_or_ge (place_or (record_length σ) (record_fault_at σ ns at)) (record_length σ))
+  record_unfine e l = clash (cc (e, fine l))
     where
       fine : first_bad each (record_length σ) 0 ≡ none → record_fine σ ns at ≡ true
       fine n =
           let all : (k : ℕ) → k < record_length σ → each k ≡ true = λ k h. rw (zero-add k) at (none_bad each (record_length σ) 0 n k h) in
           rw (all 0 (omega arith), all 1 (omega arith))
           (boxes_sides ns (at + 2) (break_points σ) (λ k h. sym (box_number_law σ ns at k) ∙ all (2 + k) (omega arith)))
+
+  pub record_below : (p : ℕ) → record_fault_at σ ns at ≡ some p → p < record_length σ
+  unfolding record_fault_at
+  record_below p e = omega (arith, bad_below each (record_length σ) 0 p e)
 
 -- ---- a list of records
 module _ (σ : Setting) (ns : List ℤ) where
@@ -264,108 +234,102 @@ module _ (σ : Setting) (ns : List ℤ) where
   turn_at r e h = record { read = r; more = record_left (record_length σ) r.whole e h }
 
   module _ (at : ℕ) (t : Turn at) where
-    abbrev place : ℕ
-    place = place_or (record_length σ) (record_fault_at σ ns at)
-
     with_record : first_bad in_list (at + record_length σ) 0 ≡ moved at (record_fault_at σ ns at)
     with_record =
         gone_on in_list at (record_length σ) t.read.fine ∙ ap (first_bad in_list (record_length σ)) {x = 0 + at} {y = at} (omega arith)
         ∙ record_part at t.read.whole
 
-    record_none : record_length σ ≤ place → record_fault_at σ ns at ≡ none
-    unfolding record_fault_at
-    record_none l = place_none (fine_at σ.most ns at) (record_length σ) l
+    pub read_more : record_fault_at σ ns at ≡ none → ReadTo (at + record_length σ)
+    read_more e =
+        record { whole = record_next (record_length σ) at t.read.whole; inside = t.more; fine = with_record ∙ ap (moved at) e }
 
-    pub read_more : record_length σ ≤ place → ReadTo (at + record_length σ)
-    read_more l =
-        record { whole = record_next (record_length σ) at t.read.whole; inside = t.more; fine = with_record ∙ ap (moved at) (record_none l) }
-
-    pub record_bad : place < record_length σ → at + place ≡ place_or (length ns) (number_fault σ ns)
+    pub record_bad : (p : ℕ) → record_fault_at σ ns at ≡ some p → number_fault σ ns ≡ some (at + p)
     unfolding number_fault
-    record_bad l =
+    record_bad p e =
         let h = t.more in
-        let f = with_record ∙ ap (moved at) (place_some (record_length σ) (record_fault_at σ ns at) l) in
-        let g = found_first in_list (at + record_length σ) (length ns - (at + record_length σ)) (at + place) f in
+        let g = found_first in_list (at + record_length σ) (length ns - (at + record_length σ)) (at + p) (with_record ∙ ap (moved at) e) in
         let n : length ns ≡ at + record_length σ + (length ns - (at + record_length σ)) = omega arith in
-        sym (ap (λ m. place_or (length ns) (first_bad in_list m 0)) n ∙ ap (place_or (length ns)) g)
+        ap (λ m. first_bad in_list m 0) n ∙ g
 
-  read_whole : (at : ℕ) → ReadTo at → length ns ≤ at → number_fault σ ns ≡ none
+  pub read_whole : (at : ℕ) → ReadTo at → length ns ≤ at → number_fault σ ns ≡ none
   unfolding number_fault
   read_whole at r l =
       let i = r.inside in
       let e : at ≡ length ns = omega arith in
       rw e at r.fine
 
-  pub read_all : (at : ℕ) → ReadTo at → length ns ≤ at → length ns ≡ place_or (length ns) (number_fault σ ns)
-  read_all at r l = sym (ap (place_or (length ns)) (read_whole at r l))
-
   -- ---- the record of the first bad number
-  abbrev found : ℕ
-  found = place_or (length ns) (number_fault σ ns)
+  start_is : (at p : ℕ) → at % record_length σ ≡ 0 → p < record_length σ → record_length σ * ((at + p) / record_length σ) ≡ at
+  start_is at p e l =
+      let w = whole_is (record_length σ) at e in
+      ap (λ n. record_length σ * ((n + p) / record_length σ)) w
+      ∙ ap (λ k. record_length σ * k) (record_is (record_length σ) l (at / record_length σ)) ∙ sym w
 
-  pub begins_bad : (at : ℕ) → Turn at → place_or (record_length σ) (record_fault_at σ ns at) < record_length σ → at ≡ record_length σ * (found / record_length σ)
-  begins_bad at t l =
-      let w = whole_is (record_length σ) at t.read.whole in
-      let p = place_or (record_length σ) (record_fault_at σ ns at) in
-      let e : found ≡ record_length σ * (at / record_length σ) + p = omega (arith, record_bad at t l) in
-      w ∙ ap (λ k. record_length σ * k) (sym (ap (λ n. n / record_length σ) e ∙ record_is (record_length σ) l (at / record_length σ)))
-
-  pub begins_nowhere : length ns % record_length σ ≡ 0 → (at : ℕ) → ReadTo at → length ns ≤ at → at ≡ record_length σ * (found / record_length σ)
-  begins_nowhere w at r l =
-      let e : at ≡ length ns = omega (arith, r.inside) in
-      e ∙ whole_is (record_length σ) (length ns) w ∙ ap (λ n. record_length σ * (n / record_length σ)) (read_all at r l)
-
-  fine_before : (k : ℕ) → k < found → in_list k ≡ true
-  unfolding number_fault
-  fine_before k h = go (first_bad in_list (length ns) 0) refl h
+  pub begins_bad : (at : ℕ) → Turn at → record_fine σ ns at ≡ false → Some at ≡ record_start σ (number_fault σ ns)
+  begins_bad at t b = go (record_fault_at σ ns at) refl
     where
-      go : (o : Option ℕ) → first_bad in_list (length ns) 0 ≡ o → k < place_or (length ns) o → in_list k ≡ true
-      go none f l = rw (zero-add k) at (none_bad in_list (length ns) 0 f k l)
-      go (some n) f l = bad_first in_list (length ns) 0 n f k (omega arith) l
+      go : (o : Option ℕ) → record_fault_at σ ns at ≡ o → Some at ≡ record_start σ (number_fault σ ns)
+      go none e = absurd (record_unfine σ ns at b e)
+      go (some p) e = sym
+          (ap (record_start σ) (record_bad at t p e) ∙ ap Some (start_is at p t.read.whole (record_below σ ns at p e)))
 
-  found_bad : found < length ns → in_list found ≡ false
-  unfolding number_fault
-  found_bad h = go (first_bad in_list (length ns) 0) refl h
+  pub begins_nowhere : (at : ℕ) → ReadTo at → length ns ≤ at → None ≡ record_start σ (number_fault σ ns)
+  begins_nowhere at r l = sym (ap (record_start σ) (read_whole at r l))
+
+  pub starts_none : None ≡ record_start σ (number_fault σ ns) → number_fault σ ns ≡ none
+  starts_none e = go (number_fault σ ns) e
     where
-      go : (o : Option ℕ) → first_bad in_list (length ns) 0 ≡ o → place_or (length ns) o < length ns → in_list (place_or (length ns) o) ≡ false
-      go none f l = absurd (omega arith)
-      go (some n) f l = bad_is in_list (length ns) 0 n f
+      go : (o : Option ℕ) → None ≡ record_start σ o → o ≡ none
+      go none f = refl
+      go (some i) f = absurd (none-some _ f)
 
-  found_within : found ≤ length ns
+  fault_below : (f : ℕ) → number_fault σ ns ≡ some f → f < length ns
   unfolding number_fault
-  found_within = go (first_bad in_list (length ns) 0) refl
-    where
-      go : (o : Option ℕ) → first_bad in_list (length ns) 0 ≡ o → place_or (length ns) o ≤ length ns
-      go none f = omega arith
-      go (some n) f = omega (arith, bad_below in_list (length ns) 0 n f)
+  fault_below f e = omega (arith, bad_below in_list (length ns) 0 f e)
 
-  module _ (w : length ns % record_length σ ≡ 0) {at : ℕ} (e : at ≡ record_length σ * (found / record_length σ)) where
-    after : at ≤ found
-    after = omega (arith, e, div-add-mod found (record_length σ))
+  fine_before : (f : ℕ) → number_fault σ ns ≡ some f → (k : ℕ) → k < f → in_list k ≡ true
+  unfolding number_fault
+  fine_before f e k h = bad_first in_list (length ns) 0 f e k (omega arith) h
+
+  found_bad : (f : ℕ) → number_fault σ ns ≡ some f → in_list f ≡ false
+  unfolding number_fault
+  found_bad f e = bad_is in_list (length ns) 0 f e
+
+  module _ (w : length ns % record_length σ ≡ 0) {at : ℕ} (s : Some at ≡ record_start σ (number_fault σ ns)) where
+    record Begins : Type 0 where
+      found : ℕ
+      is : number_fault σ ns ≡ some found
+      start : at ≡ record_length σ * (found / record_length σ)
+
+    begins : Begins
+    begins = go (number_fault σ ns) refl s
+      where
+        go : (o : Option ℕ) → number_fault σ ns ≡ o → Some at ≡ record_start σ o → Begins
+        go none e f = absurd (none-some at (sym f))
+        go (some i) e f = record { found = i; is = e; start = same_Some at _ f }
+
+    after : at ≤ begins.found
+    after = let b = begins in omega (arith, b.start, div-add-mod b.found (record_length σ))
 
     -- the first bad number is one of the record that begins there
-    pub bad_turn : at < length ns → Turn at
-    bad_turn h = turn_at (record {
-      whole = subst (λ n. n % record_length σ ≡ 0) (sym e) (mul-mod_right (record_length σ) (found / record_length σ));
-      inside = omega arith;
-      fine = bad_none in_list at 0 (λ k l. fine_before (0 + k) (omega (arith, after)));
-    }) w h
+    pub bad_turn : Turn at
+    bad_turn = let b = begins in turn_at (record {
+      whole = subst (λ n. n % record_length σ ≡ 0) (sym b.start) (mul-mod_right (record_length σ) (b.found / record_length σ));
+      inside = omega (arith, after, fault_below b.found b.is);
+      fine = bad_none in_list at 0 (λ k l. fine_before b.found b.is (0 + k) (omega (arith, after)));
+    }) w (omega (arith, after, fault_below b.found b.is))
 
-    pub bad_there : at < length ns → at + place_or (record_length σ) (record_fault_at σ ns at) ≡ found
-    bad_there h = let t = bad_turn h in ⊎_elim (record_bad at t) (λ l. absurd (none_there t (read_more at t l)))
-        (lt_or_ge (place_or (record_length σ) (record_fault_at σ ns at)) (record_length σ))
-      where
-        within : found < at + record_length σ
-        within = omega (arith, e, div-add-mod found (record_length σ), mod-lt found {m = record_length σ} (omega arith))
+    pub bad_there : (p : ℕ) → record_fault_at σ ns at ≡ some p → number_fault σ ns ≡ some (at + p)
+    bad_there p e = record_bad at bad_turn p e
 
-        none_there : Turn at → ReadTo (at + record_length σ) → ⊥
-        none_there t r =
-            let f = rw (zero-add found) at (none_bad in_list (at + record_length σ) 0 r.fine found within) in
-            let b = found_bad (omega (arith, within, t.more)) in
-            clash (cc (f, b))
+    pub bad_within : (p : ℕ) → record_fault_at σ ns at ≡ some p → at + p < length ns
+    bad_within p e = fault_below (at + p) (bad_there p e)
 
-    pub bad_within : at < length ns → at + place_or (record_length σ) (record_fault_at σ ns at) ≤ length ns
-    bad_within h = omega (arith, bad_there h, found_within)
-
-    pub bad_nowhere : length ns ≤ at → at ≡ found
-    bad_nowhere h = omega (arith, after, found_within)
+    pub bad_somewhere : record_fault_at σ ns at ≡ none → ⊥
+    bad_somewhere e =
+        let b = begins in
+        let t = bad_turn in
+        let within : b.found < at + record_length σ
+        = omega (arith, b.start, div-add-mod b.found (record_length σ), mod-lt b.found {m = record_length σ} (omega arith)) in
+        let f = rw (zero-add b.found) at (none_bad in_list (at + record_length σ) 0 (read_more at t e).fine b.found within) in
+        clash (cc (f, found_bad b.found b.is))

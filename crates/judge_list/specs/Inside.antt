@@ -1,7 +1,8 @@
 -- For contracts of private functions: how the code goes through a leaf list, number by number and side by side. Places
 -- are counted from the index `at` where a record, or its boxes, begin.
-use Rattle.std.specs.Prelude.{Bool, true, ◌&&◌, List, ℕ, zero, suc, ◌+◌, ◌*◌, ℤ}
-use Rattle.std.proofs.Math.Option.{Option}
+use Rattle.std.specs.Prelude.{Bool, true, ◌&&◌, List, ℕ, zero, suc, ◌+◌, ◌*◌, ◌/◌, ℤ}
+use Rattle.std.specs.Prelude.{Option as Maybe, Some, None}
+use Rattle.std.proofs.Math.Option.{Option, none, some}
 use Rattle.integers.specs.Entry.{entry}
 use Rattle.integers.specs.First.{first_bad}
 use Rattle.setting.specs.Setting.{Setting, break_points, record_length}
@@ -35,3 +36,8 @@ sides_fine ns at (suc n) = sides_fine ns at n && side_fine (entry ns (at + 2 * n
 abbrev pub record_fine : Setting → List ℤ → ℕ → Bool
 record_fine σ ns at =
     fine_at σ.most ns at 0 && fine_at σ.most ns at 1 && sides_fine ns (at + 2) (2 * break_points σ)
+
+-- where the record begins that has the first bad number of a list
+abbrev pub record_start : Setting → Option ℕ → Maybe ℕ
+record_start σ (some i) = Some (record_length σ * (i / record_length σ))
+record_start σ none = None

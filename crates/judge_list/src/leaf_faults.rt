@@ -1,7 +1,7 @@
 // Check 10 of a leaf list: its first bad number.
 ghost use Rattle.std.specs.Prelude.{◌≡◌, ◌+◌, ◌≤◌, ◌%◌, length};
 ghost use Rattle.setting.specs.Setting.{lists, HasRows, record_length};
-ghost use Rattle.boxes.specs.{Ranges.{place_or}, Records.{box_at_index}};
+ghost use Rattle.boxes.specs.{Ranges.{place_of}, Records.{box_at_index}};
 ghost use Rattle.judge_list.specs.{Checks.{number_fault}, Inside.{in_boxes, boxes_fault_at, record_fault_at}};
 
 use crate::leaf_list::bad_record;
@@ -24,53 +24,43 @@ pub fn box_in(leaves: &[i32], at: usize) -> Box
     }
 }
 
-// The place of the first bad number of the m + 1 boxes from index `at` on, or 4m + 4.
-fn boxes_fault(leaves: &[i32], m: usize, at: usize) -> usize
+// The place of the first bad number of the m + 1 boxes from index `at` on.
+fn boxes_fault(leaves: &[i32], m: usize, at: usize) -> Option<usize>
     requires { at + in_boxes (lists m) ≤ length leaves.now }
-    ensures { result ≡ place_or (in_boxes (lists m)) (boxes_fault_at leaves.now at (in_boxes (lists m))) }
+    ensures { result ≡ place_of (boxes_fault_at leaves.now at (in_boxes (lists m))) }
 {
-    let mut i: usize = 0;
-    while i <= m {
-        let place = box_in(leaves, at + 4 * i).fault();
-        if place < 4 {
-            return 4 * i + place;
+    for i in 0..m + 1 {
+        if let Some(place) = box_in(leaves, at + 4 * i).fault() {
+            return Some(4 * i + place);
         }
-        i += 1;
     }
-    4 * m + 4
+    None
 }
 
-// The place of the first bad number of the record of m pieces that begins at index `at`, or 4m + 6.
-fn record_fault(leaves: &[i32], m: usize, at: usize) -> usize
+// The place of the first bad number of the record of m pieces that begins at index `at`.
+fn record_fault(leaves: &[i32], m: usize, at: usize) -> Option<usize>
     requires { at + record_length (lists m) ≤ length leaves.now }
-    ensures { result ≡ place_or (record_length (lists m)) (record_fault_at (lists m) leaves.now at) }
+    ensures { result ≡ place_of (record_fault_at (lists m) leaves.now at) }
 {
     let curve = leaves[at];
-    if curve < 0 {
-        return 0;
-    }
-    if 4096 <= curve {
-        return 0;
+    if !(0..4096).contains(&curve) {
+        return Some(0);
     }
     let node = leaves[at + 1];
-    if node < 1 {
-        return 1;
+    if !(1..=511).contains(&node) {
+        return Some(1);
     }
-    if 511 < node {
-        return 1;
-    }
-    2 + boxes_fault(leaves, m, at + 2)
+    let place = boxes_fault(leaves, m, at + 2)?;
+    Some(2 + place)
 }
 
-// The index of the first bad number of a list of whole records of m pieces, or the list's length. Numbers are looked at
-// one by one only in the first record that has a bad one.
-pub fn number_fault(leaves: &[i32], m: usize) -> usize
+// The index of the first bad number of a list of whole records of m pieces. Numbers are looked at one by one only in
+// the first record that has a bad one.
+pub fn number_fault(leaves: &[i32], m: usize) -> Option<usize>
     requires { (HasRows m) × (length leaves.now % record_length (lists m) ≡ 0) }
-    ensures { result ≡ place_or (length leaves.now) (number_fault (lists m) leaves.now) }
+    ensures { result ≡ place_of (number_fault (lists m) leaves.now) }
 {
-    let at = bad_record(leaves, m);
-    if at < leaves.len() {
-        return at + record_fault(leaves, m, at);
-    }
-    at
+    let at = bad_record(leaves, m)?;
+    let place = record_fault(leaves, m, at)?;
+    Some(at + place)
 }

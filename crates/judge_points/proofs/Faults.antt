@@ -13,8 +13,7 @@ use Rattle.setting.specs.Setting.{Setting}
 use Rattle.refusals.specs.declared.Refusal.{Refusal}
 use Rattle.refusals.specs.declared.Refusal.TheVariants.{TooFewRecords, OddPoints}
 use Rattle.judge.specs.Judging.{list_fault}
-use Rattle.judge_points.specs.declared.answers.PointsJudged.{PointsJudged}
-use Rattle.judge_points.specs.declared.answers.PointsJudged.TheVariants.{Points, Refused}
+use Rattle.std.specs.Prelude.{Result, Ok, Err}
 use Rattle.judge_points.specs.Points.{numbers_to, points_fault, points_judged, judged_into}
 use Rattle.judge_points.proofs.PointNumbers.{in_front}
 
@@ -42,12 +41,12 @@ module _ (σ : Setting) (ns ps : List ℤ) (room : ℕ) where
 
 -- ---- what an answer says of the checks
 module _ (σ : Setting) (ns ps : List ℤ) (room : ℕ) where
-  pub points_fine_law : {n : ℕ} → points_judged σ ns ps room ≡ Points n → (points_fault σ ns ps room ≡ none) × (n ≡ length ps / 2)
+  pub points_fine_law : {n : ℕ} → points_judged σ ns ps room ≡ Ok n → (points_fault σ ns ps room ≡ none) × (n ≡ length ps / 2)
   unfolding points_judged
   points_fine_law {n} = go (points_fault σ ns ps room) refl
     where
       go : (o : Option Refusal) → points_fault σ ns ps room ≡ o
-          → ◌≡◌ {A = PointsJudged} (elim o [ some r ↦ Refused r | none ↦ Points (length ps / 2) ]) (Points n)
+          → ◌≡◌ {A = Result ℕ Refusal} (elim o [ some r ↦ Err r | none ↦ Ok (length ps / 2) ]) (Ok n)
           → (points_fault σ ns ps room ≡ none) × (n ≡ length ps / 2)
       go none e f = (e, cc)
       go (some r) e f = clash (cc)
@@ -62,12 +61,12 @@ module _ (σ : Setting) (ns ps : List ℤ) (room : ℕ) where
 -- ---- the answer and the caller's list, of a fault and of none
 module _ (σ : Setting) (ns ps old : List ℤ) where
   pub refused : {r : Refusal} → points_fault σ ns ps (length old) ≡ some r
-      → (Refused r ≡ points_judged σ ns ps (length old)) × (old ≡ judged_into σ ns ps old)
+      → (Err r ≡ points_judged σ ns ps (length old)) × (old ≡ judged_into σ ns ps old)
   unfolding points_judged judged_into
   refused e = (rw (points_judged, e), rw (judged_into, e))
 
   pub accepted : {l : List ℤ} → points_fault σ ns ps (length old) ≡ none → 3 * (length ps / 2) ≤ length old
       → l ≡ sets old 0 (numbers_to σ ns ps (length ps / 2))
-      → (Points (length ps / 2) ≡ points_judged σ ns ps (length old)) × (l ≡ judged_into σ ns ps old)
+      → (Ok (length ps / 2) ≡ points_judged σ ns ps (length old)) × (l ≡ judged_into σ ns ps old)
   unfolding points_judged judged_into
   accepted e h f = (rw (points_judged, e), rw (judged_into, e) (f ∙ in_front σ ns ps old (length ps / 2) h))

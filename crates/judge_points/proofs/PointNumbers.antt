@@ -12,9 +12,8 @@ use lib.IntN.{ℤ}
 use Rattle.integers.proofs.Stores.{sets_append}
 use Rattle.setting.specs.Setting.{Setting, record_length}
 use Rattle.refusals.specs.declared.Refusal.{Refusal}
-use Rattle.judge.specs.declared.judging.Judgement.{Judgement}
-use Rattle.judge.specs.declared.judging.Judgement.TheVariants.{On, Off, Refused}
-use Rattle.judge.specs.Judging.{judging_fault, FirstHolder, Verdict, Judged}
+use Rattle.std.specs.Prelude.{Some, None, Ok, Err}
+use Rattle.judge.specs.Judging.{Judgement, judging_fault, FirstHolder, Verdict, Judged}
 use Rattle.judge.specs.Judgements.{judgement}
 use Rattle.judge.proofs.Answers.{judged_refused, judged_found}
 use Rattle.judge.proofs.Judgements.{judged_is}
@@ -25,8 +24,8 @@ pub numbers_judged : (σ : Setting) (ns : List ℤ) (x y : ℤ) (a : Judgement) 
 numbers_judged σ ns x y a j = ap judgement_numbers (judged_is σ ns x y a j)
 
 module _ (σ : Setting) (ns : List ℤ) (x y : ℤ) where
-  pub numbers_refused : (r : Refusal) → judging_fault σ ns x y ≡ some r → judgement_numbers (Refused r) ≡ judgement_numbers (judgement σ ns x y)
-  numbers_refused r e = numbers_judged σ ns x y (Refused r) (judged_refused σ ns x y r e)
+  pub numbers_refused : (r : Refusal) → judging_fault σ ns x y ≡ some r → judgement_numbers (Err r) ≡ judgement_numbers (judgement σ ns x y)
+  numbers_refused r e = numbers_judged σ ns x y (Err r) (judged_refused σ ns x y r e)
 
   pub numbers_found : (a : Judgement) → judging_fault σ ns x y ≡ none → Verdict σ none ns x y a
       → judgement_numbers a ≡ judgement_numbers (judgement σ ns x y)
@@ -37,9 +36,9 @@ pub leaf_below : {σ : Setting} {ns : List ℤ} {x y : ℤ} {k i : ℕ} → Firs
 leaf_below {σ} {k} f = let h = f.inside in omega (arith, mul-le-mul_right {m = 1} {n = record_length σ} k (omega arith))
 
 three_numbers_law : (a : Judgement) → length (judgement_numbers a) ≡ 3
-three_numbers_law (On k i) = refl
-three_numbers_law Off = refl
-three_numbers_law (Refused r) = refl
+three_numbers_law (Ok (Some h)) = refl
+three_numbers_law (Ok None) = refl
+three_numbers_law (Err r) = refl
 
 -- ---- the numbers of the first n points
 module _ (σ : Setting) (ns ps : List ℤ) where

@@ -1,26 +1,22 @@
 -- Judging a list of points: what it answers, and what it leaves in the caller's list, which is what judging says of
 -- each point.
 use Rattle.std.specs.Prelude.{true, false, List, [], ◌∷◌, ◌++◌, ℕ, zero, suc, ◌+◌, ◌*◌, ◌/◌, ◌%◌, eqb, ltb}
-use Rattle.std.specs.Prelude.{length, drop, ℤ, pos}
+use Rattle.std.specs.Prelude.{length, drop, ℤ, pos, Some, None, Result, Ok, Err}
 use Rattle.std.proofs.Math.Option.{Option, none, some}
 use Rattle.integers.specs.Entry.{entry}
 use Rattle.setting.specs.Setting.{Setting}
 use Rattle.refusals.specs.declared.Refusal.{Refusal}
 use Rattle.refusals.specs.declared.Refusal.TheVariants.{TooFewRecords, OddPoints}
 use Rattle.refusals.specs.Refusals.{number_of, spot_of}
-use Rattle.judge.specs.declared.judging.Judgement.{Judgement}
-use Rattle.judge.specs.declared.judging.Judgement.TheVariants.{On, Off, Refused}
-use Rattle.judge.specs.Judging.{list_fault}
+use Rattle.judge.specs.Judging.{Judgement, list_fault}
 use Rattle.judge.specs.Judgements.{judgement}
-use Rattle.judge_points.specs.declared.answers.PointsJudged.{PointsJudged}
-use Rattle.judge_points.specs.declared.answers.PointsJudged.TheVariants.{Points, Refused as Rejected}
 
 -- ---- what judging says of a point, in three numbers: 1, record and cover where it is on; 0, 0, 0 where it is off; a
 -- refusal's number and spot, and 0
 abbrev pub judgement_numbers : Judgement → List ℤ
-judgement_numbers (On k i) = pos 1 ∷ pos k ∷ pos i ∷ []
-judgement_numbers Off = pos 0 ∷ pos 0 ∷ pos 0 ∷ []
-judgement_numbers (Refused r) = pos (number_of r) ∷ pos (spot_of r) ∷ pos 0 ∷ []
+judgement_numbers (Ok (Some h)) = pos 1 ∷ pos h.leaf ∷ pos h.cover ∷ []
+judgement_numbers (Ok None) = pos 0 ∷ pos 0 ∷ pos 0 ∷ []
+judgement_numbers (Err r) = pos (number_of r) ∷ pos (spot_of r) ∷ pos 0 ∷ []
 
 -- ---- what judging says of point i of the list ps, from 0: its x stands at index 2i, its y at 2i + 1
 abbrev pub point_judgement : Setting → (ns ps : List ℤ) → ℕ → Judgement
@@ -48,9 +44,9 @@ points_fault σ ns ps room =
     ]
 
 -- ---- the answer: how many points there are, or the first fault
-unfoldable pub points_judged : Setting → (ns ps : List ℤ) → (room : ℕ) → PointsJudged
+unfoldable pub points_judged : Setting → (ns ps : List ℤ) → (room : ℕ) → Result ℕ Refusal
 points_judged σ ns ps room =
-    elim (points_fault σ ns ps room) [ some r ↦ Rejected r | none ↦ Points (length ps / 2) ]
+    elim (points_fault σ ns ps room) [ some r ↦ Err r | none ↦ Ok (length ps / 2) ]
 
 -- ---- the caller's list afterwards, which was `old`: the numbers of all points, then what stood behind them; a fault
 -- alters nothing

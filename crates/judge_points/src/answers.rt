@@ -8,14 +8,6 @@ ghost use Rattle.judge_points.specs.{Points.{judgement_numbers, numbers_to}, Ins
 
 use judge_runs::boxing::{Cut, box_list};
 use judge_runs::searching::find_groups;
-use refusals::Refusal;
-
-// What judging a list of points answers: how many points there are; or the first fault.
-#[derive(Clone, Copy)]
-pub enum PointsJudged {
-    Points(usize),
-    Refused(Refusal),
-}
 
 // The three numbers that answer a point.
 #[derive(Clone, Copy)]
@@ -53,20 +45,17 @@ fn three_of(
             third: 0,
         };
     }
-    let holder = find_groups(leaves, m, cut, runs, groups, x, y);
-    let leaf = holder.leaf;
-    let cover = holder.cover;
-    if cover < m {
-        return Three {
+    match find_groups(leaves, m, cut, runs, groups, x, y) {
+        Some(holder) => Three {
             first: 1,
-            second: leaf as i64,
-            third: cover as i64,
-        };
-    }
-    Three {
-        first: 0,
-        second: 0,
-        third: 0,
+            second: holder.leaf as i64,
+            third: holder.cover as i64,
+        },
+        None => Three {
+            first: 0,
+            second: 0,
+            third: 0,
+        },
     }
 }
 
@@ -100,13 +89,11 @@ fn put_points(
         (numbers_to (lists m) leaves.now points.now (length points.now / 2)) }
 {
     let total = points.len() / 2;
-    let mut i: usize = 0;
-    while i < total {
+    for i in 0..total {
         let x = points[2 * i];
         let y = points[2 * i + 1];
         let three = three_of(leaves, m, cut, runs, groups, x, y);
         put_three(answers, 3 * i, three);
-        i += 1;
     }
 }
 
@@ -137,8 +124,8 @@ pub fn put_all(leaves: &[i32], m: usize, points: &[i32], answers: &mut [i64])
     ensures { answers.new ≡ sets answers.old 0
         (numbers_to (lists m) leaves.now points.now (length points.now / 2)) }
 {
-    // What the lists begin with is never read. It is not 0, for which the compiler would call the C library's memset.
-    let mut runs = [1i32; 8192];
-    let mut groups = [1i32; 128];
+    // What the lists begin with is never read.
+    let mut runs = [0i32; 8192];
+    let mut groups = [0i32; 128];
     put_by_boxes(leaves, m, points, &mut runs, &mut groups, answers);
 }

@@ -12,6 +12,7 @@ use lib.Signed.{lt_z, ◌≤ℤ◌, ≤ℤ_refl}
 use mir.Syntax.{w32}
 use mir.Val.{SFits}
 use mir.Facts.{to_z-of_z}
+use Rattle.std.specs.Int.{int_min, int_max}
 use Rattle.integers.proofs.Order.{≤ℤ_trans, lt_le, lt_or_ge}
 use Rattle.integers.proofs.Ranges.{stored, lt_yes, lt_no}
 use Rattle.setting.specs.Setting.{Setting, break_points, record_length}
@@ -19,7 +20,7 @@ use Rattle.boxes.specs.declared.Box.{Box}
 use Rattle.boxes.specs.Inside.{box_of}
 use Rattle.boxes.specs.Records.{box_index, box_at_index}
 use Rattle.boxes.proofs.Records.{one_record}
-use Rattle.judge_runs.specs.Inside.{lesser, greater, round_both, round_boxes, LiesIn, Around}
+use Rattle.judge_runs.specs.Inside.{round_both, round_boxes, LiesIn, Around}
 
 -- ---- numbers of 32 bits as they are kept, and a box made of four
 pub kept_by : (op : ℤ → ℤ → ℤ) {u v r : ℤ} → SFits w32 u → SFits w32 v → SFits w32 r → r ≡ op (stored w32 u) (stored w32 v) → stored w32 r ≡ op u v
@@ -30,19 +31,19 @@ same_box {c} {d} {a'} {b'} ea eb ec ed = ap₂ (λ x y. box_of x y c d) ea eb �
 
 -- ---- the lesser and the greater of two numbers
 module _ (a b : ℤ) where
-  lesser_le : (lesser a b ≤ℤ a) × (lesser a b ≤ℤ b)
+  lesser_le : (int_min a b ≤ℤ a) × (int_min a b ≤ℤ b)
   lesser_le = go (lt_z b a) refl
     where
       go : (t : Bool) → lt_z b a ≡ t → (cond t b a ≤ℤ a) × (cond t b a ≤ℤ b)
       go true e = (lt_le (lt_yes e), ≤ℤ_refl b)
       go false e = (≤ℤ_refl a, lt_no e)
 
-  greater_ge : (a ≤ℤ greater a b) × (b ≤ℤ greater a b)
-  greater_ge = go (lt_z a b) refl
+  greater_ge : (a ≤ℤ int_max a b) × (b ≤ℤ int_max a b)
+  greater_ge = go (lt_z b a) refl
     where
-      go : (t : Bool) → lt_z a b ≡ t → (a ≤ℤ cond t b a) × (b ≤ℤ cond t b a)
-      go true e = (lt_le (lt_yes e), ≤ℤ_refl b)
-      go false e = (≤ℤ_refl a, lt_no e)
+      go : (t : Bool) → lt_z b a ≡ t → (a ≤ℤ cond t a b) × (b ≤ℤ cond t a b)
+      go true e = (≤ℤ_refl a, lt_le (lt_yes e))
+      go false e = (lt_no e, ≤ℤ_refl b)
 
 -- ---- boxes in boxes
 pub lies_on : {a b c : Box} → LiesIn a b → LiesIn b c → LiesIn a c
@@ -55,7 +56,7 @@ lies_on p q = record {
 
 module _ (a b : Box) where
   -- a box of numbers that lie between those of the two
-  between_lies : (pick : ℤ → ℤ → ℤ) → ((u v : ℤ) → (lesser u v ≤ℤ pick u v) × (pick u v ≤ℤ greater u v))
+  between_lies : (pick : ℤ → ℤ → ℤ) → ((u v : ℤ) → (int_min u v ≤ℤ pick u v) × (pick u v ≤ℤ int_max u v))
       → LiesIn (box_of (pick a.x_low b.x_low) (pick a.x_high b.x_high) (pick a.y_low b.y_low) (pick a.y_high b.y_high))
       (round_both a b)
   unfolding round_both

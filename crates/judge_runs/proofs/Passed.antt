@@ -15,16 +15,18 @@ use mir.Val.{SFits}
 use mir.Facts.{to_z-of_z}
 use Rattle.integers.specs.Entry.{entry}
 use Rattle.integers.proofs.Ring.{sides}
+use Rattle.integers.proofs.Clash.{clash}
 use Rattle.integers.proofs.Order.{gap, gap<, lt_by, ◌+₀◌, lt_or_ge}
 use Rattle.integers.proofs.Ranges.{stored, lt_yes, yes_lt}
-use Rattle.setting.specs.Setting.{Setting, break_points, covers, record_length}
+use Rattle.setting.specs.Setting.{Setting, break_points, record_length}
 use Rattle.boxes.specs.declared.Box.{Box}
 use Rattle.boxes.specs.Records.{box_index, box_at_index}
-use Rattle.judge.specs.declared.holder.Holder.{Holder}
+use Rattle.std.specs.Prelude.{Option, Some, None, is_some}
+use Rattle.judge.specs.declared.judging.Holder.{Holder}
 use Rattle.judge.specs.Inside.{all_pass, below_all, above_all, beyond, record_apart, Searched, FoundTo}
 use Rattle.judge.proofs.Apart.{apart_held}
-use Rattle.judge.proofs.Holders.{searched_past, held_found}
-use Rattle.judge_runs.specs.Inside.{LiesIn, RunEnd, RunBox, RunsTo, outside, OutsideTo}
+use Rattle.judge.proofs.Holders.{searched_past}
+use Rattle.judge_runs.specs.Inside.{LiesIn, RunEnd, RunBox, RunsTo, outside, OutsideTo, NextBox}
 
 -- ---- a number below a low is below every low that is no less
 low_below : (z a b : ℤ) → lt_z z a ≡ true → a ≤ℤ b → lt_z z b ≡ true
@@ -170,25 +172,46 @@ pub record SearchedRuns (σ : Setting) (ns : List ℤ) (x y : ℤ) (run from to 
   pub searched : Searched σ ns x y (run * k)
 
 module _ {σ : Setting} {ns : List ℤ} {x y : ℤ} {run from to : ℕ} {boxes : List ℤ} (rs : RunsTo σ ns run boxes from to) where
-  pub search_begun : {r : ℕ} → Searched σ ns x y (run * from) → OutsideTo boxes x y from to r → SearchedRuns σ ns x y run from to r
-  search_begun {r} s o = record { after = o.after; before = o.before; searched = runs_passed run boxes from to r s rs o }
-
-  pub search_on : {k r : ℕ} → SearchedRuns σ ns x y run from to k → k < to → Searched σ ns x y (run * (k + 1)) → OutsideTo boxes x y (k + 1) to r
-      → SearchedRuns σ ns x y run from to r
-  search_on {k} {r} i h s o = record {
+  pub search_on : {k r : ℕ} → SearchedRuns σ ns x y run from to k → OutsideTo boxes x y k to r → SearchedRuns σ ns x y run from to r
+  search_on {k} {r} i o = record {
     after = omega (arith, i.after, o.after);
     before = o.before;
-    searched = runs_passed run boxes (k + 1) to r s (runs_from (k + 1) rs (omega (arith, i.after)) (omega arith)) o;
+    searched = runs_passed run boxes k to r i.searched (runs_from k rs i.after i.before) o;
   }
 
-pub search_less : {boxes : List ℤ} {x y : ℤ} {k to r : ℕ} → OutsideTo boxes x y (k + 1) to r → k < to → to - r < to - k
-search_less o h = omega (arith, o.after, o.before)
+pub search_begun : {σ : Setting} {ns : List ℤ} {x y : ℤ} {run from to : ℕ} → from ≤ to → Searched σ ns x y (run * from)
+    → SearchedRuns σ ns x y run from to from
+search_begun h s = record { after = omega arith; before = h; searched = s }
 
-pub search_done : {σ : Setting} {ns : List ℤ} {x y : ℤ} {run from to k : ℕ} → SearchedRuns σ ns x y run from to k → to ≤ k
-    → Searched σ ns x y (run * to)
-search_done {to} {k} i h = let e : k ≡ to = omega (arith, i.before) in rw e at i.searched
+pub search_next : {σ : Setting} {ns : List ℤ} {x y : ℤ} {run from to k : ℕ} → SearchedRuns σ ns x y run from to k → k < to
+    → Searched σ ns x y (run * (k + 1)) → SearchedRuns σ ns x y run from to (k + 1)
+search_next i h s = record { after = omega (arith, i.after); before = omega arith; searched = s }
+
+-- ---- where the search stands once the next box is looked for: at it, or behind all
+abbrev pub SearchedTo : Setting → List ℤ → (x y : ℤ) → (run from to : ℕ) → Option ℕ → Type 0
+SearchedTo σ ns x y run from to (Some k) = (k < to) × SearchedRuns σ ns x y run from to k
+SearchedTo σ ns x y run from to None = SearchedRuns σ ns x y run from to to
+
+-- how much is left
+abbrev pub left : ℕ → Option ℕ → ℕ
+left to (Some k) = suc (to - k)
+left to None = 0
+
+module _ {σ : Setting} {ns : List ℤ} {x y : ℤ} {run from to : ℕ} {boxes : List ℤ} (rs : RunsTo σ ns run boxes from to) where
+  pub search_to : {k : ℕ} (o : Option ℕ) → SearchedRuns σ ns x y run from to k → NextBox boxes x y k to o → SearchedTo σ ns x y run from to o
+  search_to (Some g) i n = (n.0, search_on rs i n.1)
+  search_to None i n = search_on rs i n
+
+pub left_less : (boxes : List ℤ) (x y : ℤ) (k to : ℕ) (o : Option ℕ) → NextBox boxes x y (k + 1) to o → k < to → left to o < left to (Some k)
+left_less boxes x y k to (Some g) n h = omega (arith, n.0, n.1.after)
+left_less boxes x y k to None n h = omega arith
 
 -- ---- a holder that is found is the first, however far the search was to go
-pub found_farther : {σ : Setting} {ns : List ℤ} {x y : ℤ} {a : ℕ} {h : Holder} → FoundTo σ ns x y a h → h.cover < covers σ → (b : ℕ)
-    → FoundTo σ ns x y b h
-found_farther {h} f l b = held_found h.cover refl l (f.on l)
+pub found_farther : (σ : Setting) (ns : List ℤ) (x y : ℤ) (a : ℕ) (o : Option Holder) → FoundTo σ ns x y a o → is_some o ≡ true → (b : ℕ)
+    → FoundTo σ ns x y b o
+found_farther σ ns x y a (Some h) f l b = f
+found_farther σ ns x y a None f l b = clash (cc)
+
+pub found_none : (σ : Setting) (ns : List ℤ) (x y : ℤ) (a : ℕ) (o : Option Holder) → FoundTo σ ns x y a o → is_some o ≡ false → Searched σ ns x y a
+found_none σ ns x y a (Some h) f l = clash (cc)
+found_none σ ns x y a None f l = f

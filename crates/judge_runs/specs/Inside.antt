@@ -1,7 +1,9 @@
 -- For contracts of functions that only the engine calls: boxes round runs of records, and the search among them. A run
 -- is a stretch of a leaf list, whole records; each run of a list has as many numbers, the last may have fewer. 64 runs
 -- are a group, the last may be smaller. Runs and groups are counted from 0, and so are boxes, four numbers each.
-use Rattle.std.specs.Prelude.{Bool, true, cond, ◌||◌, List, ◌≡◌, ℕ, zero, suc, ◌+◌, ◌*◌, ◌%◌, ◌≤◌, ◌<◌, length, ℤ, ◌≤ℤ◌}
+use Rattle.std.specs.Prelude.{Bool, true, ◌||◌, List, ◌≡◌, ℕ, zero, suc, ◌+◌, ◌*◌, ◌%◌, ◌≤◌, ◌<◌, length, ℤ, ◌≤ℤ◌}
+use Rattle.std.specs.Prelude.{Option, Some, None}
+use Rattle.std.specs.Int.{int_min, int_max}
 use Rattle.std.specs.Int.Signed.{lt_z}
 use Rattle.setting.specs.Setting.{Setting, break_points, record_length}
 use Rattle.boxes.specs.declared.Box.{Box}
@@ -9,21 +11,13 @@ use Rattle.boxes.specs.Records.{box_index, box_at_index}
 use Rattle.judge_runs.specs.declared.boxing.Cut.{Cut}
 
 -- ---- boxes round boxes
--- the lesser of two numbers
-abbrev pub lesser : ℤ → ℤ → ℤ
-lesser a b = cond (lt_z b a) b a
-
--- the greater of two numbers
-abbrev pub greater : ℤ → ℤ → ℤ
-greater a b = cond (lt_z a b) b a
-
 -- the box round two boxes
 unfoldable pub round_both : Box → Box → Box
 round_both a b = record {
-  x_low = lesser a.x_low b.x_low;
-  x_high = greater a.x_high b.x_high;
-  y_low = lesser a.y_low b.y_low;
-  y_high = greater a.y_high b.y_high;
+  x_low = int_min a.x_low b.x_low;
+  x_high = int_max a.x_high b.x_high;
+  y_low = int_min a.y_low b.y_low;
+  y_high = int_max a.y_high b.y_high;
 }
 
 -- the box round b and n boxes of a list, the first of which begins at index `at`
@@ -107,3 +101,8 @@ pub record OutsideTo (boxes : List ℤ) (x y : ℤ) (from to r : ℕ) : Type 0 w
   pub after : from ≤ r
   pub before : r ≤ to
   pub each : (g : ℕ) → from ≤ g → g < r → outside (box_at_index boxes (4 * g)) x y ≡ true
+
+-- what is found among boxes `from` to before `to`: the first that the point (x, y) does not lie outside, or none
+abbrev pub NextBox : (boxes : List ℤ) (x y : ℤ) (from to : ℕ) → Option ℕ → Type 0
+NextBox boxes x y from to (Some g) = (g < to) × OutsideTo boxes x y from to g
+NextBox boxes x y from to None = OutsideTo boxes x y from to to

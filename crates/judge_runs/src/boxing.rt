@@ -5,7 +5,7 @@ ghost use Rattle.setting.specs.Setting.{lists, HasRows, record_length};
 ghost use Rattle.boxes.specs.Ranges.{numbers_of};
 ghost use Rattle.judge_list.specs.Checks.{length_fine};
 ghost use Rattle.judge.specs.Inside.{EndsAt};
-ghost use Rattle.judge_runs.specs.Inside.{lesser, greater, round_both, round_boxes, Around, RunEnd, RunLength};
+ghost use Rattle.judge_runs.specs.Inside.{round_both, round_boxes, Around, RunEnd, RunLength};
 ghost use Rattle.judge_runs.specs.Inside.{Runs, Groups, Boxed};
 
 use boxes::Box;
@@ -19,28 +19,14 @@ pub struct Cut {
     pub groups: usize,
 }
 
-// The lesser of two numbers.
-fn lesser(a: i32, b: i32) -> i32
-    ensures { result ≡ lesser a b }
-{
-    if b < a { b } else { a }
-}
-
-// The greater of two numbers.
-fn greater(a: i32, b: i32) -> i32
-    ensures { result ≡ greater a b }
-{
-    if a < b { b } else { a }
-}
-
 // The box round two boxes.
 fn round_both(a: Box, b: Box) -> Box
     ensures { result ≡ round_both a b }
 {
-    let x_low = lesser(a.x_low, b.x_low);
-    let x_high = greater(a.x_high, b.x_high);
-    let y_low = lesser(a.y_low, b.y_low);
-    let y_high = greater(a.y_high, b.y_high);
+    let x_low = a.x_low.min(b.x_low);
+    let x_high = a.x_high.max(b.x_high);
+    let y_low = a.y_low.min(b.y_low);
+    let y_high = a.y_high.max(b.y_high);
     Box {
         x_low,
         x_high,
@@ -55,10 +41,8 @@ fn round_boxes(list: &[i32], at: usize, count: usize, first: Box) -> Box
     ensures { result ≡ round_boxes first list.now at count }
 {
     let mut around = first;
-    let mut i: usize = 0;
-    while i < count {
+    for i in 0..count {
         around = round_both(around, box_in(list, at + 4 * i));
-        i += 1;
     }
     around
 }
@@ -80,10 +64,8 @@ fn round_run(leaves: &[i32], m: usize, from: usize, to: usize) -> Box
 {
     let record_length = 6 + 4 * m;
     let mut around = nowhere();
-    let mut at = from;
-    while at < to {
+    for at in (from..to).step_by(record_length) {
         around = round_boxes(leaves, at + 2, m + 1, around);
-        at += record_length;
     }
     around
 }
@@ -108,10 +90,7 @@ pub fn run_end(numbers: usize, from: usize, run: usize) -> usize
     requires { from ≤ numbers }
     ensures { RunEnd numbers from run result }
 {
-    if numbers - from < run {
-        return numbers;
-    }
-    from + run
+    from + run.min(numbers - from)
 }
 
 // How many numbers a run has: whole records of m pieces, so many that a list of so many numbers has at most 2,048 runs.
@@ -131,6 +110,7 @@ fn box_runs(leaves: &[i32], m: usize, run: usize, boxes: &mut [i32]) -> usize
 {
     let mut count: usize = 0;
     let mut at: usize = 0;
+    // A `for` is no plainer: where a run ends the next begins, and the runs are counted.
     while at < leaves.len() {
         let to = run_end(leaves.len(), at, run);
         put_box(boxes, 4 * count, round_run(leaves, m, at, to));
@@ -147,6 +127,7 @@ fn box_groups(runs: &[i32], count: usize, groups: &mut [i32]) -> usize
 {
     let mut number: usize = 0;
     let mut first: usize = 0;
+    // A `for` is no plainer: where a group ends the next begins, and the groups are counted.
     while first < count {
         let next = run_end(count, first, 64);
         let around = round_boxes(runs, 4 * first, next - first, nowhere());

@@ -3,10 +3,11 @@ ghost use Rattle.std.specs.Prelude.{◌≡◌, ◌+◌, ◌*◌, ◌≤◌, leng
 ghost use Rattle.setting.specs.Setting.{lists, HasRows};
 ghost use Rattle.boxes.specs.Records.{box_at_index};
 ghost use Rattle.judge.specs.{Judging.{Passed}, Inside.{InRange, Searched, FoundTo}};
-ghost use Rattle.judge_runs.specs.Inside.{outside, OutsideTo, RunsTo, Boxed};
+ghost use Rattle.judge_runs.specs.Inside.{outside, NextBox, RunsTo, Boxed};
 
 use crate::boxing::{Cut, run_end};
-use judge::holder::{Holder, find_to};
+use judge::holder::find_to;
+use judge::judging::Holder;
 
 // Whether the point (x, y) lies outside the box whose four numbers begin at index `at`.
 fn is_outside(list: &[i32], at: usize, x: i32, y: i32) -> bool
@@ -14,34 +15,26 @@ fn is_outside(list: &[i32], at: usize, x: i32, y: i32) -> bool
     ensures { result ≡ outside (box_at_index list.now at) x y }
 {
     let x_low = list[at];
-    if x < x_low {
-        return true;
-    }
     let x_high = list[at + 1];
-    if x_high < x {
+    if x < x_low || x_high < x {
         return true;
     }
     let y_low = list[at + 2];
-    if y < y_low {
-        return true;
-    }
     let y_high = list[at + 3];
-    y_high < y
+    y < y_low || y_high < y
 }
 
-// The first of boxes `from` to before `to` that the point (x, y) does not lie outside, or `to` where there is none.
-fn next_box(boxes: &[i32], from: usize, to: usize, x: i32, y: i32) -> usize
+// The first of boxes `from` to before `to` that the point (x, y) does not lie outside.
+fn next_box(boxes: &[i32], from: usize, to: usize, x: i32, y: i32) -> Option<usize>
     requires { (4 * to ≤ length boxes.now) × (from ≤ to) }
-    ensures { OutsideTo boxes.now x y from to result }
+    ensures { NextBox boxes.now x y from to result }
 {
-    let mut k = from;
-    while k < to {
+    for k in from..to {
         if !is_outside(boxes, 4 * k, x, y) {
-            return k;
+            return Some(k);
         }
-        k += 1;
     }
-    k
+    None
 }
 
 // The first record of m pieces and its first cover that hold the point (x, y), looked for in runs `from` to before
@@ -55,22 +48,23 @@ fn find_runs(
     to: usize,
     x: i32,
     y: i32,
-) -> Holder
+) -> Option<Holder>
     requires { (HasRows m) × (Passed (lists m) leaves.now) × (InRange x y)
         × (RunsTo (lists m) leaves.now run boxes.now from to)
         × (Searched (lists m) leaves.now x y (run * from)) }
     ensures { FoundTo (lists m) leaves.now x y (run * to) result }
 {
-    let mut k = next_box(boxes, from, to, x, y);
-    while k < to {
+    // The next box is looked for in two places: in one, a box passed over takes twice the instructions.
+    let mut next = next_box(boxes, from, to, x, y);
+    while let Some(k) = next {
         let at = run * k;
         let holder = find_to(leaves, m, at, run_end(leaves.len(), at, run), x, y);
-        if holder.cover < m {
+        if holder.is_some() {
             return holder;
         }
-        k = next_box(boxes, k + 1, to, x, y);
+        next = next_box(boxes, k + 1, to, x, y);
     }
-    Holder { leaf: 0, cover: m }
+    None
 }
 
 // The first record of m pieces and its first cover that hold the point (x, y), looked for in the groups of runs whose
@@ -83,7 +77,7 @@ pub fn find_groups(
     groups: &[i32],
     x: i32,
     y: i32,
-) -> Holder
+) -> Option<Holder>
     requires { (HasRows m) × (Passed (lists m) leaves.now) × (InRange x y)
         × (Boxed (lists m) leaves.now cut runs.now groups.now) }
     ensures { FoundTo (lists m) leaves.now x y (length leaves.now) result }
@@ -91,15 +85,16 @@ pub fn find_groups(
     let run = cut.run;
     let count = cut.runs;
     let number = cut.groups;
-    let mut c = next_box(groups, 0, number, x, y);
-    while c < number {
+    // In two places, as in `find_runs`.
+    let mut next = next_box(groups, 0, number, x, y);
+    while let Some(c) = next {
         let from = 64 * c;
         let to = run_end(count, from, 64);
         let holder = find_runs(leaves, m, run, runs, from, to, x, y);
-        if holder.cover < m {
+        if holder.is_some() {
             return holder;
         }
-        c = next_box(groups, c + 1, number, x, y);
+        next = next_box(groups, c + 1, number, x, y);
     }
-    Holder { leaf: 0, cover: m }
+    None
 }

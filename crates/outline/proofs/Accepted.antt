@@ -11,11 +11,11 @@ use native.Mathlib.Nat.{not-suc-le-zero, le_of_suc-le-suc}
 use native.Mathlib.Omega.{arith}
 use lib.ListN.{length, get_or}
 use lib.IntN.{ℤ}
+use Rattle.std.specs.Prelude.{Ok, Err}
 use Rattle.setting.specs.Setting.{degree_pieces}
 use Rattle.refusals.specs.declared.Refusal.{Refusal}
 use Rattle.curve_nodes.specs.declared.Curve.{Curve}
 use Rattle.curve_nodes.specs.Bounds.{Sized}
-use Rattle.outline.specs.declared.Checked.TheVariants.{Curves, Faulty}
 use Rattle.outline.specs.Curves.{next_at, curve_at}
 use Rattle.outline.specs.Faults.{fault_at}
 use Rattle.outline.specs.Checks.{Outlined, curves, faulty, with_curve, outline_from, outlined}
@@ -95,10 +95,10 @@ pub record Accepted (o : Outlined) (n : ℕ) : Type 0 where
   pub is : o ≡ curves cs
   pub count : length cs ≡ n
 
-pub checked_curves : (o : Outlined) (n : ℕ) → checked_of o ≡ Curves n → Accepted o n
+pub checked_curves : (o : Outlined) (n : ℕ) → checked_of o ≡ Ok n → Accepted o n
 checked_curves (curves cs) n e = record { cs = cs; is = refl; count = cc }
 checked_curves (faulty r) n e = clash (cc)
 
-pub checked_refused : (o : Outlined) (r : Refusal) → checked_of o ≡ Faulty r → o ≡ faulty r
+pub checked_refused : (o : Outlined) (r : Refusal) → checked_of o ≡ Err r → o ≡ faulty r
 checked_refused (curves cs) r e = clash (cc)
 checked_refused (faulty q) r e = cc

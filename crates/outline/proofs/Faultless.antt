@@ -11,6 +11,7 @@ use borrow.Author.Tests.{lt-ltb, le-ltb, ltb-false, leb-true, lt-leb}
 use lib.Dec.{leb, ltb, lit≤}
 use lib.ListN.{length}
 use lib.IntN.{ℤ, pos, neg_ℤ, nat_abs}
+use Rattle.std.specs.Prelude.{Some, None, Result, Ok, Err}
 use Rattle.setting.specs.Setting.{control_values, degree_pieces}
 use Rattle.integers.specs.Entry.{entry}
 use Rattle.integers.proofs.Size.{abs_within}
@@ -22,10 +23,6 @@ use Rattle.curve_halves.specs.Sizes.{Each}
 use Rattle.curve_nodes.specs.Bounds.{Sized}
 use Rattle.curve_halves.proofs.Sizes.{listed_under}
 use Rattle.outline.specs.Curves.{degree_fine, coordinates, degree_at, next_at, values, curve_at}
-use Rattle.outline.specs.declared.curve_faults.Found.{Found}
-use Rattle.outline.specs.declared.curve_faults.Found.TheVariants.{At, Nowhere}
-use Rattle.outline.specs.declared.curve_faults.Fault.{Fault}
-use Rattle.outline.specs.declared.curve_faults.Fault.TheVariants.{Is, NoFault}
 use Rattle.outline.specs.Faults.{coordinate_fine, first_beyond, meets_before, fault_at}
 use Rattle.outline.specs.Inside.{found_of, fault_of}
 use Rattle.integers.proofs.Between.{between_low, between_high}
@@ -33,10 +30,10 @@ use Rattle.integers.proofs.First.{none_bad, bad_below}
 use Rattle.outline.proofs.Degrees.{degree_least, degree_most}
 
 -- ---- the checks one after the other; the last two as the code has their answers
-abbrev pub last_fault : ℕ → Bool → Found → Fault
-last_fault at meet (At i) = Is (Coordinate i)
-last_fault at true Nowhere = NoFault
-last_fault at false Nowhere = Is (Gap at)
+abbrev pub last_fault : ℕ → Bool → Rattle.std.specs.Prelude.Option ℕ → Result (Unit {0}) Refusal
+last_fault at meet (Some i) = Err (Coordinate i)
+last_fault at true None = Ok tt
+last_fault at false None = Err (Gap at)
 
 module _ (m : ℕ) (ns : List ℤ) (at : ℕ) where
   pub fault_degree : degree_fine (entry ns at) ≡ false → fault_at m ns at ≡ some (Degree at)

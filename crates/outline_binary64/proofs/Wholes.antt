@@ -26,7 +26,7 @@ use Rattle.binary64.proofs.Meaning.{read_number}
 use Rattle.outline_binary64.specs.Lists.{number_for, wholes, named, with_named, outlined_binary64}
 use Rattle.outline_binary64.specs.Wholes.{Numbers, none as no_numbers, more}
 use Rattle.outline_binary64.proofs.Numbers.{wholes_length}
-use Rattle.outline_binary64.proofs.Named.{NamedFault, whole_fault}
+use Rattle.outline_binary64.proofs.Named.{whole_fault}
 
 wholes_are : {xs : List Float} {zs : List ℤ} → Numbers xs zs → wholes xs ≡ zs
 wholes_are no_numbers = refl

@@ -1,8 +1,7 @@
 -- For contracts inside the engine alone, no part of a public promise: a curve that can be read, and the fault of one.
-use Rattle.std.specs.Prelude.{◌≡◌, true, List, ℕ, ◌+◌, ◌*◌, ◌≤◌, ◌<◌, length, ℤ, Float}
+use Rattle.std.specs.Prelude.{◌≡◌, true, List, ℕ, ◌+◌, ◌*◌, ◌≤◌, ◌<◌, length, ℤ, Float, Result, Ok, Err}
 use Rattle.integers.specs.Entry.{entry}
-use Rattle.outline.specs.declared.curve_faults.Fault.{Fault}
-use Rattle.outline.specs.declared.curve_faults.Fault.TheVariants.{Is, NoFault}
+use Rattle.refusals.specs.declared.Refusal.{Refusal}
 use Rattle.outline.specs.Curves.{degree_fine, coordinates, degree_at, next_at}
 use Rattle.outline.specs.Faults.{coordinate_fine}
 use Rattle.outline_binary64.specs.Lists.{named}
@@ -19,6 +18,6 @@ pub record Stands (ns : List ℤ) (at : ℕ) : Type 0 where
   pub fine : (k : ℕ) → k < coordinates (degree_at ns at) → coordinate_fine (entry ns (at + 1 + k)) ≡ true
 
 -- what the checks answer, with 21 in the place of 4
-abbrev pub fault_named : List Float → Fault → Fault
-fault_named xs (Is r) = Is (named xs r)
-fault_named xs NoFault = NoFault
+abbrev pub fault_named : List Float → Result (Unit {0}) Refusal → Result (Unit {0}) Refusal
+fault_named xs (Err r) = Err (named xs r)
+fault_named xs (Ok u) = Ok u

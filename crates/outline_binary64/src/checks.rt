@@ -9,8 +9,6 @@ ghost use Rattle.outline_binary64.specs.{Lists.{number_for, wholes, named, outli
 
 use crate::reading::{degree_at, next_at};
 use binary64::{is_near, is_whole, near_number};
-use outline::Checked;
-use outline::curve_faults::{Fault, Found};
 use outline_checks::curve_checks::takes_pieces;
 use refusals::Refusal;
 
@@ -18,29 +16,20 @@ use refusals::Refusal;
 fn is_degree(x: f64) -> bool
     ensures { result ≡ degree_fine (number_for (read_of x)) }
 {
-    if !is_near(x) {
-        return false;
-    }
-    let d = near_number(x);
-    if d < 1 {
-        return false;
-    }
-    d <= 5
+    is_near(x) && (1..=5).contains(&near_number(x))
 }
 
 // Checks 21 and 4: the first index from `from` up to `end` of a number that is no coordinate.
-fn first_beyond(xs: &[f64], from: usize, end: usize) -> Found
+fn first_beyond(xs: &[f64], from: usize, end: usize) -> Option<usize>
     requires { (from ≤ end) × (end ≤ length xs.now) }
     ensures { result ≡ found_of (first_beyond (wholes xs.now) (end - from) from) }
 {
-    let mut i = from;
-    while i < end {
+    for i in from..end {
         if !is_near(xs[i]) {
-            return Found::At(i);
+            return Some(i);
         }
-        i += 1;
     }
-    Found::Nowhere
+    None
 }
 
 // Which of the two it is.
@@ -49,9 +38,10 @@ fn coordinate_fault(xs: &[f64], i: usize) -> Refusal
     ensures { result ≡ named xs.now (Coordinate i) }
 {
     if is_whole(xs[i]) {
-        return Refusal::Coordinate(i);
+        Refusal::Coordinate(i)
+    } else {
+        Refusal::NotWhole(i)
     }
-    Refusal::NotWhole(i)
 }
 
 // Check 17: whether the curve whose degree stands at index `at` begins where the curve before it ends. That point is
@@ -61,64 +51,51 @@ fn meets_before(xs: &[f64], at: usize) -> bool
         × (coordinate_fine (entry (wholes xs.now) (at + 2)) ≡ true) }
     ensures { result ≡ meets_before (wholes xs.now) at }
 {
-    if at < 2 {
-        return true;
-    }
-    if xs[at - 2] == xs[at + 1] {
-        return xs[at - 1] == xs[at + 2];
-    }
-    false
+    at < 2 || (xs[at - 2] == xs[at + 1] && xs[at - 1] == xs[at + 2])
 }
 
 // Checks 2, 20, 3, 21 or 4, and 17 of the curve whose degree stands at index `at`, for m pieces.
-fn fault_at(xs: &[f64], at: usize, m: u32) -> Fault
+fn fault_at(xs: &[f64], at: usize, m: u32) -> Result<(), Refusal>
     requires { at < length xs.now }
     ensures { result ≡ fault_named xs.now (fault_of (fault_at m (wholes xs.now) at)) }
 {
     if !is_degree(xs[at]) {
-        return Fault::Is(Refusal::Degree(at));
+        return Err(Refusal::Degree(at));
     }
     if !takes_pieces(degree_at(xs, at), m) {
-        return Fault::Is(Refusal::DegreePieces(at));
+        return Err(Refusal::DegreePieces(at));
     }
     let next = next_at(xs, at);
     if xs.len() < next {
-        return Fault::Is(Refusal::CutShort(xs.len()));
+        return Err(Refusal::CutShort(xs.len()));
     }
-    match first_beyond(xs, at + 1, next) {
-        Found::At(i) => Fault::Is(coordinate_fault(xs, i)),
-        Found::Nowhere => {
-            if meets_before(xs, at) {
-                return Fault::NoFault;
-            }
-            Fault::Is(Refusal::Gap(at))
-        }
+    if let Some(i) = first_beyond(xs, at + 1, next) {
+        return Err(coordinate_fault(xs, i));
     }
+    if !meets_before(xs, at) {
+        return Err(Refusal::Gap(at));
+    }
+    Ok(())
 }
 
-// Checks 2 to 6, 17, 20 and 21 of an outline that may have `most` curves, for m pieces, in their order. Defined for
-// every list, `most` and m.
-pub fn check_outline(xs: &[f64], most: usize, m: u32) -> Checked
+// Checks 2 to 6, 17, 20 and 21 of an outline that may have `most` curves, for m pieces, in their order: how many curves
+// it has, or the first fault. Defined for every list, `most` and m.
+pub fn check_outline(xs: &[f64], most: usize, m: u32) -> Result<usize, Refusal>
     ensures { result ≡ checked_of (outlined_binary64 most m xs.now) }
 {
-    if xs.len() == 0 {
-        return Checked::Faulty(Refusal::EmptyOutline);
+    if xs.is_empty() {
+        return Err(Refusal::EmptyOutline);
     }
-    let mut at: usize = 0;
-    let mut count: usize = 0;
+    // No `for` would be plainer: how far on the next curve begins stands in the list.
+    let mut at = 0;
+    let mut count = 0;
     while at < xs.len() {
         if count == most {
-            return Checked::Faulty(Refusal::TooManyCurves(at));
+            return Err(Refusal::TooManyCurves(at));
         }
-        match fault_at(xs, at, m) {
-            Fault::Is(refusal) => {
-                return Checked::Faulty(refusal);
-            }
-            Fault::NoFault => {
-                at = next_at(xs, at);
-            }
-        }
+        fault_at(xs, at, m)?;
+        at = next_at(xs, at);
         count += 1;
     }
-    Checked::Curves(count)
+    Ok(count)
 }

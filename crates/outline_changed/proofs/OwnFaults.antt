@@ -6,6 +6,7 @@ use mathlib.Core.Option.{Option, none, some}
 use Prim.Native.Nat.{ℕ, ◌+◌, ◌-◌, ◌<◌}
 use native.Mathlib.Omega.{arith}
 use lib.IntN.{ℤ}
+use Rattle.std.specs.Prelude.{Some, None, Result, Ok, Err}
 use Rattle.setting.specs.Setting.{degree_pieces}
 use Rattle.integers.specs.Entry.{entry}
 use Rattle.integers.proofs.Clash.{clash}
@@ -16,16 +17,12 @@ use Rattle.outline.specs.Curves.{degree_fine, coordinates, degree_at, next_at}
 use Rattle.outline.specs.Faults.{coordinate_fine, first_beyond}
 use Rattle.outline.specs.Inside.{found_of, fault_of}
 use Rattle.outline.proofs.Searching.{found_own}
-use Rattle.outline.specs.declared.curve_faults.Found.{Found}
-use Rattle.outline.specs.declared.curve_faults.Found.TheVariants.{At, Nowhere}
-use Rattle.outline.specs.declared.curve_faults.Fault.{Fault}
-use Rattle.outline.specs.declared.curve_faults.Fault.TheVariants.{Is, NoFault}
 use Rattle.outline_changed.specs.Inside.{own_fault, meets_old, meets_next, changed_fault}
 
 -- the last of its checks as the code has its answer
-abbrev pub last_own : ℕ → Found → Fault
-last_own at (At i) = Is (Coordinate (at + i))
-last_own at Nowhere = NoFault
+abbrev pub last_own : ℕ → Rattle.std.specs.Prelude.Option ℕ → Result (Unit {0}) Refusal
+last_own at (Some i) = Err (Coordinate (at + i))
+last_own at None = Ok tt
 
 module _ (m : ℕ) (new : List ℤ) (at : ℕ) where
   pub own_degree : degree_fine (entry new 0) ≡ false → own_fault m new at ≡ some (Degree at)
@@ -56,17 +53,17 @@ module _ (m : ℕ) (new : List ℤ) (at : ℕ) where
       go true f = refl
       go false f = let z = own_degree f in clash (cc)
 
-pub found_place : (new : List ℤ) (i : ℕ) → At i ≡ found_of (first_beyond new (next_at new 0 - 1) 1) → i < next_at new 0
+pub found_place : (new : List ℤ) (i : ℕ) → Some i ≡ found_of (first_beyond new (next_at new 0 - 1) 1) → i < next_at new 0
 found_place new i e =
     let o = first_beyond new (next_at new 0 - 1) 1 in
     let l = bad_below (λ k. coordinate_fine (entry new k)) (next_at new 0 - 1) 1 i (found_own o (some i) (sym e)) in
     omega arith
 
-pub fault_none : (o : Option Refusal) → NoFault ≡ fault_of o → o ≡ none
+pub fault_none : (o : Option Refusal) → Ok tt ≡ fault_of o → o ≡ none
 fault_none none e = refl
 fault_none (some r) e = clash (cc)
 
-pub fault_some : (o : Option Refusal) (r : Refusal) → Is r ≡ fault_of o → o ≡ some r
+pub fault_some : (o : Option Refusal) (r : Refusal) → Err r ≡ fault_of o → o ≡ some r
 fault_some none r e = clash (cc)
 fault_some (some q) r e = cc
 

@@ -7,7 +7,6 @@ ghost use Rattle.integers.specs.Entry.{entry};
 ghost use Rattle.outline.specs.{Curves.{degree_fine}, Inside.{fault_of}};
 ghost use Rattle.outline_changed.specs.Inside.{same_point, own_fault, meets_old, meets_next, changed_fault};
 
-use outline::curve_faults::{Fault, Found};
 use outline_checks::curve_checks::{first_beyond, takes_pieces};
 use outline_reading::outline_curves::{degree_at, next_at};
 use refusals::Refusal;
@@ -17,34 +16,23 @@ fn same_point(a: &[i32], i: usize, b: &[i32], j: usize) -> bool
     requires { (i + 1 < length a.now) × (j + 1 < length b.now) }
     ensures { result ≡ same_point a.now i b.now j }
 {
-    let ax = a[i];
-    let bx = b[j];
-    if ax == bx {
-        let ay = a[i + 1];
-        let by = b[j + 1];
-        return ay == by;
-    }
-    false
+    a[i] == b[j] && a[i + 1] == b[j + 1]
 }
 
 // Checks 2, 20 and 4 of a curve given by itself, as they are said of it where it stands at index `at` of an outline.
-fn own_fault(curve: &[i32], at: usize, m: u32) -> Fault
+fn own_fault(curve: &[i32], at: usize, m: u32) -> Result<(), Refusal>
     requires { (length curve.now ≡ 13) × (at ≤ 2 ^ 20) }
     ensures { result ≡ fault_of (own_fault m curve.now at) }
 {
-    let d = curve[0];
-    if d < 1 {
-        return Fault::Is(Refusal::Degree(at));
-    }
-    if 5 < d {
-        return Fault::Is(Refusal::Degree(at));
+    if !(1..=5).contains(&curve[0]) {
+        return Err(Refusal::Degree(at));
     }
     if !takes_pieces(degree_at(curve, 0), m) {
-        return Fault::Is(Refusal::DegreePieces(at));
+        return Err(Refusal::DegreePieces(at));
     }
     match first_beyond(curve, 1, next_at(curve, 0)) {
-        Found::At(i) => Fault::Is(Refusal::Coordinate(at + i)),
-        Found::Nowhere => Fault::NoFault,
+        Some(i) => Err(Refusal::Coordinate(at + i)),
+        None => Ok(()),
     }
 }
 
@@ -53,10 +41,7 @@ fn meets_old(ns: &[i32], at: usize, curve: &[i32]) -> bool
     requires { (length curve.now ≡ 13) × (at ≤ length ns.now) }
     ensures { result ≡ meets_old ns.now at curve.now }
 {
-    if at < 2 {
-        return true;
-    }
-    same_point(ns, at - 2, curve, 1)
+    at < 2 || same_point(ns, at - 2, curve, 1)
 }
 
 // Check 17 of the curve at index `next` of an outline, if there is one, behind a curve given by itself.
@@ -65,29 +50,27 @@ fn meets_next(ns: &[i32], next: usize, curve: &[i32]) -> bool
         × (next < length ns.now → next + 2 < length ns.now) }
     ensures { result ≡ meets_next ns.now next curve.now }
 {
-    if ns.len() <= next {
-        return true;
-    }
-    let end = next_at(curve, 0);
-    same_point(curve, end - 2, ns, next + 1)
+    ns.len() <= next || same_point(curve, next_at(curve, 0) - 2, ns, next + 1)
 }
 
 // The first fault of an outline whose curve from index `at` up to `next` gives way to another.
-pub fn changed_fault(ns: &[i32], at: usize, next: usize, curve: &[i32], m: u32) -> Fault
+pub fn changed_fault(
+    ns: &[i32],
+    at: usize,
+    next: usize,
+    curve: &[i32],
+    m: u32,
+) -> Result<(), Refusal>
     requires { (length curve.now ≡ 13) × (at ≤ 2 ^ 20) × (at ≤ length ns.now)
         × (next < length ns.now → next + 2 < length ns.now) }
     ensures { result ≡ fault_of (changed_fault m ns.now at next curve.now) }
 {
-    match own_fault(curve, at, m) {
-        Fault::Is(refusal) => Fault::Is(refusal),
-        Fault::NoFault => {
-            if !meets_old(ns, at, curve) {
-                return Fault::Is(Refusal::Gap(at));
-            }
-            if meets_next(ns, next, curve) {
-                return Fault::NoFault;
-            }
-            Fault::Is(Refusal::Gap(at + next_at(curve, 0)))
-        }
+    own_fault(curve, at, m)?;
+    if !meets_old(ns, at, curve) {
+        return Err(Refusal::Gap(at));
     }
+    if !meets_next(ns, next, curve) {
+        return Err(Refusal::Gap(at + next_at(curve, 0)));
+    }
+    Ok(())
 }

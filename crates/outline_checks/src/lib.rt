@@ -5,8 +5,6 @@ ghost use Rattle.std.specs.Prelude.{◌≡◌};
 ghost use Rattle.outline.specs.{Checks.{tolerance_fine, outlined}, Inside.{checked_of}};
 
 use crate::curve_checks::fault_at;
-use outline::Checked;
-use outline::curve_faults::Fault;
 use outline_reading::outline_curves::next_at;
 use refusals::Refusal;
 
@@ -16,35 +14,27 @@ pub mod curve_checks;
 pub fn tolerance_fine(t: i32) -> bool
     ensures { result ≡ tolerance_fine t }
 {
-    if t < 2 {
-        return false;
-    }
-    t <= 1048576
+    (2..=1048576).contains(&t)
 }
 
-// Checks 2 to 6, 17 and 20 of an outline that may have `most` curves, for m pieces, in their order. Defined for every
-// list, `most` and m.
-pub fn check_outline(ns: &[i32], most: usize, m: u32) -> Checked
+// Checks 2 to 6, 17 and 20 of an outline that may have `most` curves, for m pieces, in their order: how many curves it
+// has, or the first fault. Defined for every list, `most` and m.
+pub fn check_outline(ns: &[i32], most: usize, m: u32) -> Result<usize, Refusal>
     ensures { result ≡ checked_of (outlined most m ns.now) }
 {
-    if ns.len() == 0 {
-        return Checked::Faulty(Refusal::EmptyOutline);
+    if ns.is_empty() {
+        return Err(Refusal::EmptyOutline);
     }
-    let mut at: usize = 0;
-    let mut count: usize = 0;
+    // No `for` would be plainer: how far on the next curve begins stands in the list.
+    let mut at = 0;
+    let mut count = 0;
     while at < ns.len() {
         if count == most {
-            return Checked::Faulty(Refusal::TooManyCurves(at));
+            return Err(Refusal::TooManyCurves(at));
         }
-        match fault_at(ns, at, m) {
-            Fault::Is(refusal) => {
-                return Checked::Faulty(refusal);
-            }
-            Fault::NoFault => {
-                at = next_at(ns, at);
-            }
-        }
+        fault_at(ns, at, m)?;
+        at = next_at(ns, at);
         count += 1;
     }
-    Checked::Curves(count)
+    Ok(count)
 }

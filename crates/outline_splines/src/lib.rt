@@ -6,8 +6,6 @@ ghost use Rattle.outline.specs.Inside.{found_of, checked_of};
 ghost use Rattle.outline_splines.specs.Splines.{spline_values, spline_at, first_far, splined};
 
 use curve_nodes::Curve;
-use outline::Checked;
-use outline::curve_faults::Found;
 use refusals::Refusal;
 
 // Six times the control values of one coordinate, whose first number stands at index `from`.
@@ -40,39 +38,23 @@ pub fn spline_at(ns: &[i32], at: usize) -> Curve
 }
 
 // Check 25: the first index of a number that is no coordinate of a B-spline's point.
-fn first_beyond(ns: &[i32]) -> Found
+fn first_beyond(ns: &[i32]) -> Option<usize>
     ensures { result ≡ found_of (first_far ns.now (length ns.now) 0) }
 {
-    let mut i: usize = 0;
-    while i < ns.len() {
-        let z = ns[i];
-        if z < -131072 {
-            return Found::At(i);
-        }
-        if 131072 < z {
-            return Found::At(i);
-        }
-        i += 1;
-    }
-    Found::Nowhere
+    ns.iter().position(|z| !(-131072..=131072).contains(z))
 }
 
-// Checks 24 and 25 of a list of points, in their order. Defined for every list.
-pub fn check_spline(ns: &[i32]) -> Checked
+// Checks 24 and 25 of a list of points, in their order: how many curves it gives, or the first fault. Defined for every
+// list.
+pub fn check_spline(ns: &[i32]) -> Result<usize, Refusal>
     ensures { result ≡ checked_of (splined ns.now) }
 {
     let n = ns.len();
-    if n % 2 != 0 {
-        return Checked::Faulty(Refusal::SplineLength(n));
-    }
-    if n < 8 {
-        return Checked::Faulty(Refusal::SplineLength(n));
-    }
-    if 8198 < n {
-        return Checked::Faulty(Refusal::SplineLength(n));
+    if n % 2 != 0 || !(8..=8198).contains(&n) {
+        return Err(Refusal::SplineLength(n));
     }
     match first_beyond(ns) {
-        Found::At(index) => Checked::Faulty(Refusal::SplineCoordinate(index)),
-        Found::Nowhere => Checked::Curves(n / 2 - 3),
+        Some(index) => Err(Refusal::SplineCoordinate(index)),
+        None => Ok(n / 2 - 3),
     }
 }

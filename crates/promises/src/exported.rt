@@ -25,6 +25,7 @@ use contour::c_answers::{
     PointsAnswer, QuoteAnswer, TightestAnswer,
 };
 use engine::Outcome;
+use refusals::Refusal;
 
 pub fn contour_band(outline: &[i32], tolerance: i32, m: u32, records: &mut [i32]) -> Answer
     ensures value { result ≡ band_answer_of (banded (lists m) tolerance outline.now
@@ -169,7 +170,7 @@ pub fn band_and_judge(
     records: &mut [i32],
     x: i32,
     y: i32,
-) -> Outcome
+) -> Result<Outcome, Refusal>
     ensures records_after { records.new ≡ written_for (lists m) tolerance outline.now x y
         records.old }
     ensures answered { Answered (lists m) tolerance outline.now x y records.old result }

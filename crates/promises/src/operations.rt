@@ -15,22 +15,24 @@ ghost use Rattle.band_exchanged.specs.Exchange.{exchanged, exchanged_list};
 
 use band_banded::banding::Banded;
 use band_foretold::foretelling::Foretold;
-use band_tightest::tolerances::Tightest;
 use boxes::Box;
-use boxes_binary64::{ShortAnswer, UnitsAnswer};
-use draw::drawing::Drawn;
-use judge::judging::Judgement;
-use judge_points::answers::PointsJudged;
-use quote_price::quoting::Quoted;
+use boxes_binary64::{Short, StageBox};
+use judge::judging::Holder;
+use refusals::Refusal;
 
-pub fn band(outline: &[i32], tolerance: i32, m: u32, records: &mut [i32]) -> Banded
+pub fn band(outline: &[i32], tolerance: i32, m: u32, records: &mut [i32]) -> Result<Banded, Refusal>
     ensures value { result ≡ banded (lists m) tolerance outline.now (length records.old) }
     ensures records_after { records.new ≡ written (lists m) tolerance outline.now records.old }
 {
     band::band(outline, tolerance, m, records)
 }
 
-pub fn station_band(outline: &[i32], tolerance: i32, m: u32, records: &mut [i32]) -> Banded
+pub fn station_band(
+    outline: &[i32],
+    tolerance: i32,
+    m: u32,
+    records: &mut [i32],
+) -> Result<Banded, Refusal>
     ensures value { result ≡ banded (station m) tolerance outline.now (length records.old) }
     ensures records_after { records.new ≡ written (station m) tolerance outline.now
         records.old }
@@ -38,21 +40,36 @@ pub fn station_band(outline: &[i32], tolerance: i32, m: u32, records: &mut [i32]
     band::station_band(outline, tolerance, m, records)
 }
 
-pub fn spline_band(points: &[i32], tolerance: i32, m: u32, records: &mut [i32]) -> Banded
+pub fn spline_band(
+    points: &[i32],
+    tolerance: i32,
+    m: u32,
+    records: &mut [i32],
+) -> Result<Banded, Refusal>
     ensures value { result ≡ banded_spline m tolerance points.now (length records.old) }
     ensures records_after { records.new ≡ written_spline m tolerance points.now records.old }
 {
     band::spline_band(points, tolerance, m, records)
 }
 
-pub fn binary64_band(outline: &[f64], tolerance: i32, m: u32, records: &mut [i32]) -> Banded
+pub fn binary64_band(
+    outline: &[f64],
+    tolerance: i32,
+    m: u32,
+    records: &mut [i32],
+) -> Result<Banded, Refusal>
     ensures value { result ≡ banded_binary64 m tolerance outline.now (length records.old) }
     ensures records_after { records.new ≡ written_binary64 m tolerance outline.now records.old }
 {
     band::binary64_band(outline, tolerance, m, records)
 }
 
-pub fn foretell(outline: &[i32], tolerance: i32, m: u32, depths: &mut [i32]) -> Foretold
+pub fn foretell(
+    outline: &[i32],
+    tolerance: i32,
+    m: u32,
+    depths: &mut [i32],
+) -> Result<Foretold, Refusal>
     ensures value { result ≡ foretold (lists m) tolerance outline.now (length depths.old) }
     ensures depths_after { depths.new ≡ depths_written (lists m) tolerance outline.now
         depths.old }
@@ -60,7 +77,7 @@ pub fn foretell(outline: &[i32], tolerance: i32, m: u32, depths: &mut [i32]) -> 
     band_foretell::foretell(outline, tolerance, m, depths)
 }
 
-pub fn tightest_band(outline: &[i32], m: u32, leaves: usize) -> Tightest
+pub fn tightest_band(outline: &[i32], m: u32, leaves: usize) -> Result<Option<u32>, Refusal>
     ensures { result ≡ tightest (lists m) outline.now leaves }
 {
     band_tighten::tightest_band(outline, m, leaves)
@@ -74,7 +91,7 @@ pub fn exchange(
     curve: [i32; 13],
     given: usize,
     records: &mut [i32],
-) -> Banded
+) -> Result<Banded, Refusal>
     ensures value { result ≡ exchanged (lists m) tolerance outline.now number curve given
         records.old }
     ensures records_after { records.new ≡ exchanged_list (lists m) tolerance outline.now number curve given
@@ -83,13 +100,18 @@ pub fn exchange(
     band_exchange::exchange(outline, tolerance, m, number, curve, given, records)
 }
 
-pub fn judge(leaves: &[i32], m: u32, x: i32, y: i32) -> Judgement
+pub fn judge(leaves: &[i32], m: u32, x: i32, y: i32) -> Result<Option<Holder>, Refusal>
     ensures { Judged (lists m) leaves.now x y result }
 {
     judge::judge(leaves, m, x, y)
 }
 
-pub fn judge_points(leaves: &[i32], m: u32, points: &[i32], answers: &mut [i64]) -> PointsJudged
+pub fn judge_points(
+    leaves: &[i32],
+    m: u32,
+    points: &[i32],
+    answers: &mut [i64],
+) -> Result<usize, Refusal>
     ensures value { result ≡ points_judged (lists m) leaves.now points.now
         (length answers.old) }
     ensures answers_after { answers.new ≡ judged_into (lists m) leaves.now points.now
@@ -98,26 +120,26 @@ pub fn judge_points(leaves: &[i32], m: u32, points: &[i32], answers: &mut [i64])
     judge_points::judge_points(leaves, m, points, answers)
 }
 
-pub fn quote(leaves: &[i32], m: u32) -> Quoted
+pub fn quote(leaves: &[i32], m: u32) -> Result<u64, Refusal>
     ensures { result ≡ quoted (lists m) leaves.now }
 {
     quote::quote(leaves, m)
 }
 
-pub fn draw(first: Box, second: Box, vertices: &mut [i32]) -> Drawn
+pub fn draw(first: Box, second: Box, vertices: &mut [i32]) -> Result<usize, Refusal>
     ensures value { result ≡ drawn first second (length vertices.old) }
     ensures vertices_after { vertices.new ≡ drawn_into first second vertices.old }
 {
     draw::draw(first, second, vertices)
 }
 
-pub fn hand_out(b: Box) -> UnitsAnswer
+pub fn hand_out(b: Box) -> Result<StageBox, Refusal>
     ensures { HandedOut b result }
 {
     boxes_binary64::hand_out(b)
 }
 
-pub fn shorten(b: Box) -> ShortAnswer
+pub fn shorten(b: Box) -> Result<Short, Refusal>
     ensures { Shortened b result }
 {
     boxes_binary64::shorten(b)

@@ -67,7 +67,7 @@ pub enum Refusal {
 }
 
 impl Refusal {
-    // The number of document 01's table, with those that requests add.
+    // The number of document 01's table, with those that requests add: the C interface and the text program tell it.
     pub fn number(self) -> u32
         ensures { result ≡ number_of self }
     {
@@ -103,7 +103,7 @@ impl Refusal {
         }
     }
 
-    // The whole number that says where.
+    // The whole number that says where, as the C interface and the text program tell it.
     pub fn spot(self) -> usize
         ensures { result ≡ spot_of self }
     {

@@ -17,17 +17,16 @@ use Rattle.refusals.specs.declared.Refusal.{Refusal}
 use Rattle.refusals.specs.declared.Refusal.TheVariants.{TextTooLong}
 use Rattle.setting.specs.Setting.{standard, texts, record_length}
 use Rattle.band_banded.specs.declared.banding.Banded.{Banded}
-use Rattle.band_banded.specs.declared.banding.Banded.TheVariants.{Done, Refused}
-use Rattle.band_banded.specs.Banding.{written}
+use Rattle.band_banded.specs.Banding.{done as reports, written}
 use Rattle.band_banded.proofs.Theorems.{done_exactly, written_some, written_sound}
 use Rattle.band_banded.proofs.Station.{done_listed, written_listed}
 use Rattle.engine.proofs.Outcomes.{done_room}
 use Rattle.demand_3.proofs.Passing.{length_fine_law, no_bad_number}
 use Rattle.write_numbers.specs.Appends.{Appended, PutWithin}
 use Rattle.write_numbers.proofs.Appends.{append_both, within}
-use Rattle.text_forms.specs.declared.forms.Form.{Form}
-use Rattle.text_forms.specs.declared.forms.Form.TheVariants.{Tolerance, Curve, Point, NoForm}
-use Rattle.text_lines.specs.Lines.{lines_of, gather}
+use Rattle.std.specs.Prelude.{Some, None, Result, Err}
+use Rattle.text_forms.specs.declared.forms.Form.TheVariants.{Tolerance, Curve, Point}
+use Rattle.text_lines.specs.Lines.{Line, lines_of, gather}
 use Rattle.text_lines.specs.Meaning.{Meaning, refused, means, meaning, meaning_of, most_bytes, fault_or, fault_from, curve_numbers, point_of}
 use Rattle.write_lines.specs.Answers.{refused_line}
 use Rattle.text_answers.specs.Bands.{band_of, records_after}
@@ -39,11 +38,11 @@ use Rattle.text_answers.proofs.Judging.{points_gathered}
 use Rattle.text_answers.specs.Answers.{lent, points_of, lines, answer_to, answer_of}
 
 -- ---- where a band is done
-module _ (m : Meaning) (old : List ℤ) (c l n : ℕ) (e : band_of m (length old) ≡ Done c l n) where
+module _ (m : Meaning) (old : List ℤ) (c l n : ℕ) (e : band_of m (length old) ≡ reports c l n) where
   pub leaves_stand : record_length standard * l ≤ length old
   leaves_stand = go m e
     where
-      go : (m : Meaning) → band_of m (length old) ≡ Done c l n → record_length standard * l ≤ length old
+      go : (m : Meaning) → band_of m (length old) ≡ reports c l n → record_length standard * l ≤ length old
       go (refused r) f = clash (cc)
       go (means T outline points) f = done_room texts T outline (length old) f
 
@@ -51,7 +50,7 @@ module _ (m : Meaning) (old : List ℤ) (c l n : ℕ) (e : band_of m (length old
   pub leaves_fine : length old ≤ lent → LeavesFine (take (record_length standard * l) (records_after m old))
   leaves_fine short = go m e
     where
-      go : (m : Meaning) → band_of m (length old) ≡ Done c l n → LeavesFine (take (record_length standard * l) (records_after m old))
+      go : (m : Meaning) → band_of m (length old) ≡ reports c l n → LeavesFine (take (record_length standard * l) (records_after m old))
       go (refused r) f = clash (cc)
       go (means T outline points) f =
           let h = (done_exactly standard T outline (length old) c l n).0 (done_listed texts (lit≤ tt) T outline (length old) f) in
@@ -65,7 +64,7 @@ module _ (m : Meaning) (old : List ℤ) (c l n : ℕ) (e : band_of m (length old
           }
 
 -- ---- a text that is not refused is short
-pub text_short : (s : List ℕ) (room c l n : ℕ) → band_of (meaning s) room ≡ Done c l n → length s ≤ most_bytes
+pub text_short : (s : List ℕ) (room c l n : ℕ) → band_of (meaning s) room ≡ reports c l n → length s ≤ most_bytes
 unfolding meaning
 text_short s room c l n e = go (ltb most_bytes (length s)) refl e
   where
@@ -73,32 +72,32 @@ text_short s room c l n e = go (ltb most_bytes (length s)) refl e
     le f = ltb-false most_bytes (length s) f
 
     go : (b : Bool) → ltb most_bytes (length s) ≡ b
-        → band_of (cond b (refused (TextTooLong (most_bytes + 1))) (meaning_of (lines_of s))) room ≡ Done c l n → length s ≤ most_bytes
+        → band_of (cond b (refused (TextTooLong (most_bytes + 1))) (meaning_of (lines_of s))) room ≡ reports c l n → length s ≤ most_bytes
     go true f g = clash (cc)
     go false f g = le f
 
 -- ---- the lines of the points of a text that has a meaning
 module _ (leaves : List ℤ) where
-  points_of_lines : (ls : List Form) (room c l n : ℕ) → band_of (meaning_of ls) room ≡ Done c l n
+  points_of_lines : (ls : List Line) (room c l n : ℕ) → band_of (meaning_of ls) room ≡ reports c l n
       → gather (line_answer leaves) ls ≡ point_answers leaves (points_of (meaning_of ls))
   unfolding meaning_of gather
   points_of_lines [] room c l n e = clash (cc)
-  points_of_lines (NoForm ∷ ls) room c l n e = clash (cc)
-  points_of_lines (Curve p next ∷ ls) room c l n e = clash (cc)
-  points_of_lines (Point x y next ∷ ls) room c l n e = clash (cc)
-  points_of_lines (Tolerance T next ∷ ls) room c l n e = go (fault_from false 2 ls) e
+  points_of_lines (None ∷ ls) room c l n e = clash (cc)
+  points_of_lines (Some (Curve p next) ∷ ls) room c l n e = clash (cc)
+  points_of_lines (Some (Point x y next) ∷ ls) room c l n e = clash (cc)
+  points_of_lines (Some (Tolerance T next) ∷ ls) room c l n e = go (fault_from false 2 ls) e
     where
-      go : (o : Option Refusal) → band_of (fault_or o (means T (gather curve_numbers ls) (gather point_of ls))) room ≡ Done c l n
+      go : (o : Option Refusal) → band_of (fault_or o (means T (gather curve_numbers ls) (gather point_of ls))) room ≡ reports c l n
           → gather (line_answer leaves) ls ≡ point_answers leaves (points_of (fault_or o (means T (gather curve_numbers ls) (gather point_of ls))))
       go none f = points_gathered leaves ls
       go (some r) f = clash (cc)
 
-  pub points_of_text : (s : List ℕ) (room c l n : ℕ) → band_of (meaning s) room ≡ Done c l n
+  pub points_of_text : (s : List ℕ) (room c l n : ℕ) → band_of (meaning s) room ≡ reports c l n
       → gather (line_answer leaves) (lines_of s) ≡ point_answers leaves (points_of (meaning s))
   unfolding meaning
   points_of_text s room c l n e = go (ltb most_bytes (length s)) e
     where
-      go : (b : Bool) → band_of (cond b (refused (TextTooLong (most_bytes + 1))) (meaning_of (lines_of s))) room ≡ Done c l n
+      go : (b : Bool) → band_of (cond b (refused (TextTooLong (most_bytes + 1))) (meaning_of (lines_of s))) room ≡ reports c l n
           → gather (line_answer leaves) (lines_of s) ≡ point_answers leaves
           (points_of (cond b (refused (TextTooLong (most_bytes + 1))) (meaning_of (lines_of s))))
       go true f = clash (cc)
@@ -108,18 +107,20 @@ module _ (leaves : List ℤ) where
 pub zeros_length : (old : List ℤ) → old ≡ replicate lent (pos 0) → length old ≡ lent
 zeros_length old z = ap length z ∙ length-replicate lent (pos 0)
 
-module _ (s : List ℕ) (old : List ℤ) (zeros : old ≡ replicate lent (pos 0)) (b : Banded) (said : b ≡ band_of (meaning s) (length old)) where
+module _ (s : List ℕ) (old : List ℤ) (zeros : old ≡ replicate lent (pos 0)) (b : Result Banded Refusal)
+    (said : b ≡ band_of (meaning s) (length old)) where
   band_is : band_of (meaning s) lent ≡ b
   band_is = sym (said ∙ ap (band_of (meaning s)) (zeros_length old zeros))
 
-  pub answer_refused : (r : Refusal) → b ≡ Refused r → (d o : List ℕ) (k : ℕ) → PutWithin d 0 52 (refused_line r) o k → PutWithin d 0 243100 (answer_of s) o k
+  pub answer_refused : (r : Refusal) → b ≡ Err r → (d o : List ℕ) (k : ℕ) → PutWithin d 0 52 (refused_line r) o k
+      → PutWithin d 0 243100 (answer_of s) o k
   unfolding answer_of answer_to
   answer_refused r e d o k a =
       within (subst (λ l. Appended d 0 l o k) (sym (ap (λ x. lines x (records_after (meaning s) (replicate lent (pos 0))) (points_of (meaning s)))
       (band_is ∙ e))) a.put) (omega (arith, a.small))
 
-  module _ (c l n : ℕ) (e : b ≡ Done c l n) where
-    done_is : band_of (meaning s) (length old) ≡ Done c l n
+  module _ (c l n : ℕ) (e : b ≡ reports c l n) where
+    done_is : band_of (meaning s) (length old) ≡ reports c l n
     done_is = sym said ∙ e
 
     done_leaves : record_length standard * l ≤ lent

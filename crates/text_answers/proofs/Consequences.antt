@@ -18,12 +18,10 @@ use Rattle.outline.specs.Curves.{curve_at}
 use Rattle.outline.specs.Faults.{fault_at}
 use Rattle.outline.specs.Checks.{curves, outline_from, outlined}
 use Rattle.outline.proofs.Accepted.{outlined_from, accepted_all}
-use Rattle.band_banded.specs.declared.banding.Banded.TheVariants.{Done}
-use Rattle.band_banded.specs.Banding.{banded}
+use Rattle.band_banded.specs.Banding.{done as reports, banded}
 use Rattle.walk_depths.specs.Premise.{Flat}
 use Rattle.band_banded.proofs.Theorems.{done_exactly}
-use Rattle.judge.specs.declared.judging.Judgement.TheVariants.{Off}
-use Rattle.judge.specs.Judging.{point_fault, FirstHolder, Verdict}
+use Rattle.judge.specs.Judging.{off, point_fault, FirstHolder, Verdict}
 use Rattle.demand_3.specs.Demand3.{CurveOf}
 use Rattle.demand_3.specs.Starred.{A}
 use Rattle.demand_3.proofs.Meeting.{same_curves}
@@ -38,7 +36,7 @@ use Rattle.text_answers.proofs.TextDemand.{text_demand_3}
 
 -- ---- a text that is banded, and the point (x, y) of it, behind others and before others
 module _ (s : List ℕ) (T : ℤ) (outline : List ℤ) (before : List (ℤ × ℤ)) (x y : ℤ) (after : List (ℤ × ℤ))
-    (m : meaning s ≡ means T outline (before ++ (x, y) ∷ after)) (a b c : ℕ) (done : banded texts T outline lent ≡ Done a b c) where
+    (m : meaning s ≡ means T outline (before ++ (x, y) ∷ after)) (a b c : ℕ) (done : banded texts T outline lent ≡ reports a b c) where
   abbrev leaves : List ℤ
   leaves = text_leaves T outline b
 
@@ -69,10 +67,10 @@ module _ (s : List ℕ) (T : ℤ) (outline : List ℤ) (before : List (ℤ × �
   pub first_said : point_fault x y ≡ none → (k i : ℕ) → FirstHolder standard leaves x y k i → Says (on_line k i)
   first_said fine k i h = subst Says (this.names_first fine k i h) this.place
 
-  pub off_held_by_none : point_fault x y ≡ none → Says off_line → Verdict standard none leaves x y Off
+  pub off_held_by_none : point_fault x y ≡ none → Says off_line → Verdict standard none leaves x y off
   off_held_by_none fine e = (this.off_exactly fine).0 (line_is off_line e)
 
-  pub held_by_none_off : point_fault x y ≡ none → Verdict standard none leaves x y Off → Says off_line
+  pub held_by_none_off : point_fault x y ≡ none → Verdict standard none leaves x y off → Says off_line
   held_by_none_off fine v = subst Says ((this.off_exactly fine).1 v) this.place
 
   -- the node that stands in the record of a leaf has depth at most j
@@ -83,7 +81,7 @@ module _ (s : List ℕ) (T : ℤ) (outline : List ℤ) (before : List (ℤ × �
       shallow_depth (claim.every_leaf_shallow i h k curve (rw (same_curves claim.are o) of) e j flat) is
 
 -- ---- a text without points: the answer is the lines of its band alone
-pub band_alone : (s : List ℕ) (T : ℤ) (outline : List ℤ) → meaning s ≡ means T outline [] → (a b c : ℕ) → banded texts T outline lent ≡ Done a b c
+pub band_alone : (s : List ℕ) (T : ℤ) (outline : List ℤ) → meaning s ≡ means T outline [] → (a b c : ℕ) → banded texts T outline lent ≡ reports a b c
     → answer_of s ≡ band_lines a b c (text_records T outline)
 unfolding point_answers
 band_alone s T outline m a b c done = (text_demand_3 s T outline [] m a b c done).all_lines ∙ append-nil (band_lines a b c (text_records T outline))
@@ -94,7 +92,7 @@ unfolding outlined outline_from fault_at first_bad curve_at
 of_a = refl
 
 pub half_way_said : (s : List ℕ) (T : ℤ) (before after : List (ℤ × ℤ)) (m : meaning s ≡ means T A (before ++ (pos 240, pos 360) ∷ after)) (a b c : ℕ)
-    (done : banded texts T A lent ≡ Done a b c) → (k : ℕ) × (i : ℕ) × Says s T A before (pos 240) (pos 360) after m a b c done (on_line k i)
+    (done : banded texts T A lent ≡ reports a b c) → (k : ℕ) × (i : ℕ) × Says s T A before (pos 240) (pos 360) after m a b c done (on_line k i)
 half_way_said s T before after m a b c done =
     let all = claim s T A before (pos 240) (pos 360) after m a b c done in
     let said = this s T A before (pos 240) (pos 360) after m a b c done in

@@ -6,13 +6,15 @@ use mathlib.Core.List.{List, [], ◌∷◌, ◌++◌, append-nil}
 use mathlib.Core.Option.{Option, none, some}
 use Prim.Native.Nat.{ℕ, ◌+◌, ◌*◌, ◌^◌, ◌≤◌, ◌<◌}
 use native.Mathlib.Omega.{arith}
-use lib.Dec.{lit≤}
+use borrow.Author.Tests.{leb-true, leb-false}
+use lib.Dec.{leb, lit≤}
 use lib.ListN.{length, length-append}
 use lib.IntN.{ℤ}
 use lib.Signed.{mag}
 use mir.Syntax.{w32}
 use mir.Val.{SFits}
 use mir.Facts.{to_z-of_z}
+use Rattle.std.specs.Prelude.{Some, None, Ok, Err}
 use Rattle.setting.specs.Setting.{standard}
 use Rattle.integers.proofs.Ranges.{stored, read_again}
 use Rattle.refusals.specs.declared.Refusal.{Refusal}
@@ -25,15 +27,15 @@ use Rattle.write_numbers.proofs.DigitsLaws.{digits_few}
 use Rattle.write_numbers.specs.Decimals.{spaced_natural}
 use Rattle.text_forms.specs.declared.forms.Points.{Points}
 use Rattle.text_forms.specs.declared.forms.Form.{Form}
-use Rattle.text_forms.specs.declared.forms.Form.TheVariants.{Tolerance, Curve, Point, NoForm}
+use Rattle.text_forms.specs.declared.forms.Form.TheVariants.{Tolerance, Curve, Point}
 use Rattle.text_forms.specs.Forms.{form_at}
-use Rattle.text_lines.specs.Lines.{lines_of, gather}
+use Rattle.text_lines.specs.Lines.{Line, lines_of, gather}
 use Rattle.text_lines.specs.Meaning.{point_of}
+use Rattle.text_lines.proofs.Lines.{form_inside}
 use Rattle.text_lines.proofs.Gathering.{Gathering, gathering_start, gathered_over, gathered_no_form, gathered_tolerance, gathered_curve}
 use Rattle.text_lines.proofs.Gathering.{gathered_point}
-use Rattle.judge.specs.declared.judging.Judgement.{Judgement}
-use Rattle.judge.specs.declared.judging.Judgement.TheVariants.{On, Off, Refused}
-use Rattle.judge.specs.Judging.{point_fault, list_fault, judging_fault, Judged}
+use Rattle.judge.specs.declared.judging.Holder.{Holder}
+use Rattle.judge.specs.Judging.{Judgement, point_fault, list_fault, judging_fault, Judged}
 use Rattle.judge.specs.Judgements.{judgement}
 use Rattle.judge.specs.Judging.{Passed}
 use Rattle.judge.proofs.Judgements.{is_judged, judged_is, judged_on, judged_fault}
@@ -56,13 +58,13 @@ module _ (ns : List ℤ) (x y : ℤ) (hx : SFits w32 x) (hy : SFits w32 y) (j : 
       let said = rw (to_z-of_z hx, to_z-of_z hy) at given in
       within (subst (λ m. Appended d at m o k) (e ∙ line_said ns x y j said) a.put) (omega (arith, a.small))
 
-  pub line_on : (leaf cover : ℕ) → j ≡ On leaf cover → PutWithin d at 47 (on_line leaf cover) o k → PutWithin d at 52 (point_answer ns x y) o k
-  line_on leaf cover e = line_put 47 (omega arith) (on_line leaf cover) (ap line_of (sym e))
+  pub line_on : (h : Holder) → j ≡ Ok (Some h) → PutWithin d at 47 (on_line h.leaf h.cover) o k → PutWithin d at 52 (point_answer ns x y) o k
+  line_on h e = line_put 47 (omega arith) (on_line h.leaf h.cover) (ap line_of (sym e))
 
-  pub line_off : j ≡ Off → Appended d at off_line o k → PutWithin d at 52 (point_answer ns x y) o k
+  pub line_off : j ≡ Ok None → Appended d at off_line o k → PutWithin d at 52 (point_answer ns x y) o k
   line_off e a = line_put 6 (omega arith) off_line (ap line_of (sym e)) (within a (omega (arith, a.next)))
 
-  pub line_refused : (r : Refusal) → j ≡ Refused r → PutWithin d at 52 (refused_line r) o k → PutWithin d at 52 (point_answer ns x y) o k
+  pub line_refused : (r : Refusal) → j ≡ Err r → PutWithin d at 52 (refused_line r) o k → PutWithin d at 52 (point_answer ns x y) o k
   line_refused r e = line_put 52 (omega arith) (refused_line r) (ap line_of (sym e))
 
 -- ---- its line is short
@@ -108,21 +110,21 @@ unfolding point_answer
 short_line ns f x y = go (judgement standard ns x y) (is_judged standard ns x y)
   where
     go : (j : Judgement) → Judged standard ns x y j → length (line_of j) ≤ 18
-    go (On leaf cover) v =
-        let h = judged_on standard ns x y leaf cover v in
-        short_on leaf cover (omega (arith, h.inside, f.few)) (omega (arith, h.cover))
-    go Off v = lit≤ tt
-    go (Refused r) v = subst Short (sym (fault_fine ns f.passed x y) ∙ judged_fault standard ns x y r v) (short_point x y)
+    go (Ok (Some holder)) v =
+        let h = judged_on standard ns x y holder.leaf holder.cover v in
+        short_on holder.leaf holder.cover (omega (arith, h.inside, f.few)) (omega (arith, h.cover))
+    go (Ok None) v = lit≤ tt
+    go (Err r) v = subst Short (sym (fault_fine ns f.passed x y) ∙ judged_fault standard ns x y r v) (short_point x y)
 
 -- ---- the lines of the points, as the text has them and as its meaning has them
 module _ (leaves : List ℤ) where
-  pub points_gathered : (ls : List Form) → gather (line_answer leaves) ls ≡ point_answers leaves (gather point_of ls)
+  pub points_gathered : (ls : List Line) → gather (line_answer leaves) ls ≡ point_answers leaves (gather point_of ls)
   unfolding gather point_answers
   points_gathered [] = refl
-  points_gathered (Tolerance t next ∷ ls) = points_gathered ls
-  points_gathered (Curve p next ∷ ls) = points_gathered ls
-  points_gathered (NoForm ∷ ls) = points_gathered ls
-  points_gathered (Point x y next ∷ ls) = ap (λ r. point_answer leaves x y ++ r) (points_gathered ls)
+  points_gathered (Some (Tolerance t next) ∷ ls) = points_gathered ls
+  points_gathered (Some (Curve p next) ∷ ls) = points_gathered ls
+  points_gathered (None ∷ ls) = points_gathered ls
+  points_gathered (Some (Point x y next) ∷ ls) = ap (λ r. point_answer leaves x y ++ r) (points_gathered ls)
 
 -- ---- the loop: what the lines before place i gave stands in the list from place `from` on, which was d and is o
 pub record Putting (leaves : List ℤ) (s : List ℕ) (d : List ℕ) (from : ℕ) (o : List ℕ) (at i : ℕ) : Type 0 where
@@ -140,25 +142,30 @@ module _ (leaves : List ℤ) (s d : List ℕ) (from : ℕ) where
     stop : gather (line_answer leaves) (lines_of s) ≡ p.done → PutWithin d from (2 * length s) (gather (line_answer leaves) (lines_of s)) o at
     stop e = within (subst (λ l. Appended d from l o at) (sym e) p.put) (omega (arith, p.put.next, p.read.few, p.read.inside))
 
-    pub put_over : length s ≤ i → PutWithin d from (2 * length s) (gather (line_answer leaves) (lines_of s)) o at
-    put_over h = stop (gathered_over (line_answer leaves) s p.done i p.read h)
+    -- the text is over, or a line that is no form follows
+    pub put_none : None ≡ form_at s i → PutWithin d from (2 * length s) (gather (line_answer leaves) (lines_of s)) o at
+    put_none e = either (leb (length s) i) refl
+      where
+        either : (b : Bool) → leb (length s) i ≡ b → PutWithin d from (2 * length s) (gather (line_answer leaves) (lines_of s)) o at
+        either true h = stop (gathered_over (line_answer leaves) s p.done i p.read (leb-true _ _ h))
+        either false h = stop (gathered_no_form (line_answer leaves) s p.done i p.read (leb-false _ _ h) None e refl refl)
 
-    pub put_room : from + 2 * length s + 52 ≤ length d → i < length s → at + 52 ≤ length o
-    put_room room h = omega (arith, p.put.next, p.read.few, p.size)
+    module _ (x : Form) (e : Some x ≡ form_at s i) where
+      starts : i < length s
+      starts = form_inside s i x (sym e)
 
-    module _ (h : i < length s) (x : Form) (e : x ≡ form_at s i) where
-      pub put_no_form : x ≡ NoForm → PutWithin d from (2 * length s) (gather (line_answer leaves) (lines_of s)) o at
-      put_no_form q = stop (gathered_no_form (line_answer leaves) s p.done i p.read h x e q refl)
+      pub put_room : from + 2 * length s + 52 ≤ length d → at + 52 ≤ length o
+      put_room room = let h = starts in omega (arith, p.put.next, p.read.few, p.size)
 
       same : {j : ℕ} → Gathering (line_answer leaves) s (p.done ++ []) j → Putting leaves s d from o at j
       same {j} g =
           record { done = p.done; put = p.put; size = p.size; read = subst (λ l. Gathering (line_answer leaves) s l j) (append-nil p.done) g }
 
       pub put_tolerance : (t : ℤ) (j : ℕ) → x ≡ Tolerance t j → Putting leaves s d from o at j
-      put_tolerance t j q = same (gathered_tolerance (line_answer leaves) s p.done i p.read h x e t j q (lit≤ tt))
+      put_tolerance t j q = same (gathered_tolerance (line_answer leaves) s p.done i p.read starts (Some x) e t j (ap Some q) (lit≤ tt))
 
       pub put_curve : (c : Points) (j : ℕ) → x ≡ Curve c j → Putting leaves s d from o at j
-      put_curve c j q = same (gathered_curve (line_answer leaves) s p.done i p.read h x e c j q (lit≤ tt))
+      put_curve c j q = same (gathered_curve (line_answer leaves) s p.done i p.read starts (Some x) e c j (ap Some q) (lit≤ tt))
 
       pub put_point_line : LeavesFine leaves → (u v : ℤ) (j : ℕ) → x ≡ Point u v j → mag u < 2 ^ 31 → mag v < 2 ^ 31 → (w : List ℕ) (k : ℕ)
           → PutWithin o at 52 (point_answer leaves (stored w32 u) (stored w32 v)) w k → Putting leaves s d from w k j
@@ -168,10 +175,8 @@ module _ (leaves : List ℤ) (s d : List ℕ) (from : ℕ) where
             done = p.done ++ point_answer leaves u v;
             put = append_both d o w p.done (point_answer leaves u v) from at k p.put b;
             size = appended_length o at (point_answer leaves u v) w k b ∙ p.size;
-            read = gathered_point (line_answer leaves) s p.done i p.read h x e u v j q (short_line leaves f u v);
+            read = gathered_point (line_answer leaves) s p.done i p.read starts (Some x) e u v j (ap Some q) (short_line leaves f u v);
           }
 
--- ---- a turn of the loop goes on past a line that is no point, or stops
+-- ---- a turn of the loop goes on past a line that is no point
 pub ruleset put-past = (put_tolerance, put_curve)
-
-pub ruleset put-stops = (put_no_form, put_over)

@@ -8,16 +8,14 @@ use native.Mathlib.Omega.{arith}
 use lib.Dec.{lit≤}
 use lib.ListN.{length, replicate, length-replicate, get_or}
 use lib.IntN.{ℤ, pos}
+use Rattle.std.specs.Prelude.{Some, None, Ok, Err}
 use Rattle.setting.specs.Setting.{standard, texts, record_length}
 use Rattle.curve_nodes.specs.declared.Curve.{Curve}
-use Rattle.band_banded.specs.declared.banding.Banded.TheVariants.{Done}
-use Rattle.band_banded.specs.Banding.{banded}
+use Rattle.band_banded.specs.Banding.{done as reports, banded}
 use Rattle.band_banded.specs.Outcomes.{Faultless}
 use Rattle.band_banded.proofs.Theorems.{done_exactly, written_sound}
 use Rattle.band_banded.proofs.Station.{faultless_listed}
-use Rattle.judge.specs.declared.judging.Judgement.{Judgement}
-use Rattle.judge.specs.declared.judging.Judgement.TheVariants.{On, Off, Refused}
-use Rattle.judge.specs.Judging.{point_fault, judging_fault, Verdict, Judged}
+use Rattle.judge.specs.Judging.{Judgement, on, off, point_fault, judging_fault, Verdict, Judged}
 use Rattle.judge.specs.Judgements.{judgement}
 use Rattle.judge.proofs.Answers.{judged_found}
 use Rattle.judge.proofs.Judgements.{is_judged}
@@ -44,24 +42,24 @@ points_split leaves (p ∷ before) x y after =
 -- ---- a line that says on is that of an answer on
 says_on : (j : Judgement) → SaysOn (line_of j) → IsOn j
 unfolding on_line refused_line
-says_on (On leaf cover) e = record { leaf = leaf; cover = cover; is = refl }
-says_on Off e = let z = ap (λ (l : List ℕ). get_or l 2 0) e.is in absurd (omega arith)
-says_on (Refused r) e = let z = ap (λ (l : List ℕ). get_or l 1 0) e.is in absurd (omega arith)
+says_on (Ok (Some h)) e = record { leaf = h.leaf; cover = h.cover; is = refl }
+says_on (Ok None) e = let z = ap (λ (l : List ℕ). get_or l 2 0) e.is in absurd (omega arith)
+says_on (Err r) e = let z = ap (λ (l : List ℕ). get_or l 1 0) e.is in absurd (omega arith)
 
-says_off : (j : Judgement) → line_of j ≡ off_line → j ≡ Off
+says_off : (j : Judgement) → line_of j ≡ off_line → j ≡ off
 unfolding on_line refused_line
-says_off Off e = refl
-says_off (On leaf cover) e = let z = ap (λ (l : List ℕ). get_or l 2 0) e in absurd (omega arith)
-says_off (Refused r) e = let z = ap (λ (l : List ℕ). get_or l 1 0) e in absurd (omega arith)
+says_off (Ok None) e = refl
+says_off (Ok (Some h)) e = let z = ap (λ (l : List ℕ). get_or l 2 0) e in absurd (omega arith)
+says_off (Err r) e = let z = ap (λ (l : List ℕ). get_or l 1 0) e in absurd (omega arith)
 
 few : texts.most ≤ standard.most
 few = lit≤ tt
 
-module _ (T : ℤ) (outline : List ℤ) (a b c : ℕ) (done : banded texts T outline lent ≡ Done a b c) where
+module _ (T : ℤ) (outline : List ℤ) (a b c : ℕ) (done : banded texts T outline lent ≡ reports a b c) where
   abbrev leaves : List ℤ
   leaves = text_leaves T outline b
 
-  zeros_lent : banded texts T outline (length (replicate lent (pos 0))) ≡ Done a b c
+  zeros_lent : banded texts T outline (length (replicate lent (pos 0))) ≡ reports a b c
   zeros_lent = ap (banded texts T outline) (length-replicate lent (pos 0)) ∙ done
 
   -- the curves of the outline, which has no fault
@@ -88,7 +86,7 @@ module _ (T : ℤ) (outline : List ℤ) (a b c : ℕ) (done : banded texts T out
       (written_sound texts T outline (replicate lent (pos 0)) h.1 h.2).whole
 
 module _ (s : List ℕ) (T : ℤ) (outline : List ℤ) (points : List (ℤ × ℤ)) (m : meaning s ≡ means T outline points) (a b c : ℕ)
-    (done : banded texts T outline lent ≡ Done a b c) where
+    (done : banded texts T outline lent ≡ reports a b c) where
   all_lines : answer_of s ≡ band_lines a b c (text_records T outline) ++ point_answers (text_leaves T outline b) points
   unfolding answer_of answer_to
   all_lines = ap answer_to m ∙ ap (λ o. lines o (text_records T outline) points) done
@@ -109,11 +107,11 @@ module _ (s : List ℕ) (T : ℤ) (outline : List ℤ) (points : List (ℤ × �
         every_point_on = λ k curve of p r some equals.
             let on = d.every_point_on k curve of p r some equals in
             record { leaf = on.leaf; cover = on.cover; is = is ∙ ap line_of on.is };
-        names_first = λ f k i h. sym (line_said rs x y (On k i) (judged_found standard rs x y (On k i) (passes T outline a b c done x y f) h));
+        names_first = λ f k i h. sym (line_said rs x y (on k i) (judged_found standard rs x y (on k i) (passes T outline a b c done x y f) h));
         off_exactly = λ f.
             let e = passes T outline a b c done x y f in (
-              λ l. subst (λ o. Verdict standard o rs x y Off) e (subst (Judged standard rs x y) (says_off j (sym is ∙ l)) (is_judged standard rs x y)),
-              λ v. sym (line_said rs x y Off (judged_found standard rs x y Off e v)),
+              λ l. subst (λ o. Verdict standard o rs x y off) e (subst (Judged standard rs x y) (says_off j (sym is ∙ l)) (is_judged standard rs x y)),
+              λ v. sym (line_said rs x y off (judged_found standard rs x y off e v)),
             );
         every_on_near = λ on. d.every_on_near (says_on j (record { leaf = on.leaf; cover = on.cover; is = sym is ∙ on.is }));
       }

@@ -10,8 +10,7 @@ use Rattle.curve_nodes.specs.Points.{Equals}
 use Rattle.outline.specs.Checks.{curves, outlined}
 use Rattle.band_banded.specs.Banding.{written}
 use Rattle.walk_depths.specs.Premise.{Flat}
-use Rattle.judge.specs.declared.judging.Judgement.TheVariants.{Off}
-use Rattle.judge.specs.Judging.{point_fault, FirstHolder, Verdict}
+use Rattle.judge.specs.Judging.{off, point_fault, FirstHolder, Verdict}
 use Rattle.demand_3.specs.Demand3.{CurveOf, Somewhere, Shallow}
 use Rattle.write_lines.specs.Answers.{on_line, off_line}
 use Rattle.write_lines.specs.BandLines.{band_lines}
@@ -48,7 +47,7 @@ module _ (s : List ℕ) (T : ℤ) (outline : List ℤ) (a b c : ℕ) where
     pub names_first : point_fault x y ≡ none → (k i : ℕ) → FirstHolder standard (text_leaves T outline b) x y k i
         → line ≡ on_line k i
     pub off_exactly : point_fault x y ≡ none →
-        (line ≡ off_line) ↔ Verdict standard none (text_leaves T outline b) x y Off
+        (line ≡ off_line) ↔ Verdict standard none (text_leaves T outline b) x y off
     -- where its line says on, there are one curve and one rational parameter at which that curve is within T
     pub every_on_near : SaysOn line → Somewhere standard T cs x y
 

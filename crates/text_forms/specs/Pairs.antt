@@ -2,11 +2,8 @@
 -- pairs of numbers. Each is read from a place of the whole text on, and gives the place after it. Past the text's end
 -- stands byte 0.
 use Rattle.std.specs.Prelude.{Bool, true, false, cond, List, [], ◌∷◌, ℕ, ◌+◌, eqb, drop}
-use Rattle.text_numbers.specs.declared.numerals.Number.{Number}
-use Rattle.text_numbers.specs.declared.numerals.Number.TheVariants.{IsNumber, NoNumber}
+use Rattle.std.specs.Prelude.{ℤ, Option, Some, None}
 use Rattle.text_numbers.specs.Numerals.{byte, number_at}
-use Rattle.text_forms.specs.declared.pairs.Pair.{Pair}
-use Rattle.text_forms.specs.declared.pairs.Pair.TheVariants.{IsPair, NoPair}
 
 -- ---- words
 unfoldable pub starts_with : List ℕ → List ℕ → Bool
@@ -20,22 +17,22 @@ word_at word s i = starts_with word (drop i s)
 
 -- ---- pairs, as (240 363): 40 and 41 are the parentheses, 32 is the space
 -- a number and the byte b after it
-unfoldable pub number_then : ℕ → List ℕ → ℕ → Number
+unfoldable pub number_then : ℕ → List ℕ → ℕ → Option (ℤ × ℕ)
 number_then b s i =
     elim (number_at s i) [
-      | IsNumber z j ↦ cond (eqb (byte s j) b) (IsNumber z (j + 1)) NoNumber
-      | NoNumber ↦ NoNumber
+      | Some (z, j) ↦ cond (eqb (byte s j) b) (Some (z, j + 1)) None
+      | None ↦ None
     ]
 
-unfoldable pub pair_at : List ℕ → ℕ → Pair
+unfoldable pub pair_at : List ℕ → ℕ → Option (ℤ × ℤ × ℕ)
 pair_at s i =
     cond (eqb (byte s i) 40)
     (elim (number_then 32 s (i + 1)) [
-      | IsNumber x j ↦ elim (number_then 41 s j) [ IsNumber y k ↦ IsPair x y k | NoNumber ↦ NoPair ]
-      | NoNumber ↦ NoPair
+      | Some (x, j) ↦ elim (number_then 41 s j) [ Some (y, k) ↦ Some (x, y, k) | None ↦ None ]
+      | None ↦ None
     ])
-    NoPair
+    None
 
 -- a space and a pair
-unfoldable pub spaced_pair_at : List ℕ → ℕ → Pair
-spaced_pair_at s i = cond (eqb (byte s i) 32) (pair_at s (i + 1)) NoPair
+unfoldable pub spaced_pair_at : List ℕ → ℕ → Option (ℤ × ℤ × ℕ)
+spaced_pair_at s i = cond (eqb (byte s i) 32) (pair_at s (i + 1)) None

@@ -3,18 +3,14 @@ ghost use Rattle.std.specs.Prelude.{◌≡◌};
 ghost use Rattle.text_forms.specs.Forms.{curve_form_at, curve_third, curve_end};
 
 use crate::forms::{Form, Points};
-use crate::pairs::{Pair, spaced_pair_at, word_at};
+use crate::pairs::{spaced_pair_at, word_at};
 
 // A curve line, after its word.
-pub fn curve_form_at(text: &[u8], i: usize) -> Form
+pub fn curve_form_at(text: &[u8], i: usize) -> Option<Form>
     ensures { result ≡ curve_form_at text.now i }
 {
-    let Pair::IsPair(x0, y0, j) = spaced_pair_at(text, i) else {
-        return Form::NoForm;
-    };
-    let Pair::IsPair(x1, y1, k) = spaced_pair_at(text, j) else {
-        return Form::NoForm;
-    };
+    let (x0, y0, j) = spaced_pair_at(text, i)?;
+    let (x1, y1, k) = spaced_pair_at(text, j)?;
     curve_third(
         text,
         k,
@@ -33,32 +29,40 @@ pub fn curve_form_at(text: &[u8], i: usize) -> Form
 }
 
 // A curve line, after two points.
-fn curve_third(text: &[u8], i: usize, p: Points) -> Form
+fn curve_third(text: &[u8], i: usize, p: Points) -> Option<Form>
     ensures { result ≡ curve_third text.now i p }
 {
-    let Pair::IsPair(x, y, j) = spaced_pair_at(text, i) else {
+    let Some((x2, y2, j)) = spaced_pair_at(text, i) else {
         return curve_end(text, i, p);
     };
-    let mut q = p;
-    q.degree = 2;
-    q.x2 = x;
-    q.y2 = y;
-    let Pair::IsPair(x, y, k) = spaced_pair_at(text, j) else {
+    let q = Points {
+        degree: 2,
+        x2,
+        y2,
+        ..p
+    };
+    let Some((x3, y3, k)) = spaced_pair_at(text, j) else {
         return curve_end(text, j, q);
     };
-    q.degree = 3;
-    q.x3 = x;
-    q.y3 = y;
-    curve_end(text, k, q)
+    curve_end(
+        text,
+        k,
+        Points {
+            degree: 3,
+            x3,
+            y3,
+            ..q
+        },
+    )
 }
 
 // A curve line, after its last point.
-fn curve_end(text: &[u8], i: usize, p: Points) -> Form
+fn curve_end(text: &[u8], i: usize, p: Points) -> Option<Form>
     ensures { result ≡ curve_end text.now i p }
 {
     if word_at(b")\n", text, i) {
-        Form::Curve(p, i + 2)
+        Some(Form::Curve(p, i + 2))
     } else {
-        Form::NoForm
+        None
     }
 }

@@ -4,11 +4,11 @@ ghost use Rattle.text_forms.specs.Forms.{tolerance_form_at, point_form_at, form_
 
 use crate::curve_forms::curve_form_at;
 use crate::forms::Form;
-use crate::pairs::{Pair, spaced_pair_at, word_at};
-use text_numbers::numerals::Number;
+use crate::pairs::{spaced_pair_at, word_at};
+use text_numbers::number_reading::number_at;
 
-// The form of the line that starts at a place. Defined for every text and place.
-pub fn form_at(text: &[u8], i: usize) -> Form
+// The form of the line that starts at a place, where it has one. Defined for every text and place.
+pub fn form_at(text: &[u8], i: usize) -> Option<Form>
     ensures { result ≡ form_at text.now i }
 {
     if word_at(b"(tolerance ", text, i) {
@@ -20,33 +20,29 @@ pub fn form_at(text: &[u8], i: usize) -> Form
     if word_at(b"(point", text, i) {
         return point_form_at(text, i + 6);
     }
-    Form::NoForm
+    None
 }
 
 // A tolerance line, after its word.
-fn tolerance_form_at(text: &[u8], i: usize) -> Form
+fn tolerance_form_at(text: &[u8], i: usize) -> Option<Form>
     ensures { result ≡ tolerance_form_at text.now i }
 {
-    let Number::IsNumber(tolerance, j) = text_numbers::number_reading::number_at(text, i) else {
-        return Form::NoForm;
-    };
+    let (tolerance, j) = number_at(text, i)?;
     if word_at(b")\n", text, j) {
-        Form::Tolerance(tolerance, j + 2)
+        Some(Form::Tolerance(tolerance, j + 2))
     } else {
-        Form::NoForm
+        None
     }
 }
 
 // A point line, after its word.
-fn point_form_at(text: &[u8], i: usize) -> Form
+fn point_form_at(text: &[u8], i: usize) -> Option<Form>
     ensures { result ≡ point_form_at text.now i }
 {
-    let Pair::IsPair(x, y, j) = spaced_pair_at(text, i) else {
-        return Form::NoForm;
-    };
+    let (x, y, j) = spaced_pair_at(text, i)?;
     if word_at(b")\n", text, j) {
-        Form::Point(x, y, j + 2)
+        Some(Form::Point(x, y, j + 2))
     } else {
-        Form::NoForm
+        None
     }
 }

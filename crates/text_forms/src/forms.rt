@@ -6,7 +6,6 @@ pub enum Form {
     Tolerance(i32, usize),
     Curve(Points, usize),
     Point(i32, i32, usize),
-    NoForm,
 }
 
 // The points of a curve, degree + 1 of them; the rest is 0.

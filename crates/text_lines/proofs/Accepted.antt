@@ -11,9 +11,9 @@ use lib.IntN.{ℤ}
 use Rattle.integers.proofs.Clash.{clash}
 use Rattle.refusals.specs.declared.Refusal.{Refusal}
 use Rattle.refusals.specs.declared.Refusal.TheVariants.{TextTooLong}
-use Rattle.text_forms.specs.declared.forms.Form.{Form}
-use Rattle.text_forms.specs.declared.forms.Form.TheVariants.{Tolerance, Curve, Point, NoForm}
-use Rattle.text_lines.specs.Lines.{lines_of, gather}
+use Rattle.std.specs.Prelude.{Some, None}
+use Rattle.text_forms.specs.declared.forms.Form.TheVariants.{Tolerance, Curve, Point}
+use Rattle.text_lines.specs.Lines.{Line, lines_of, gather}
 use Rattle.text_lines.specs.Meaning.{curve_numbers, point_of, fault_from, refused, means, fault_or, meaning_of, most_bytes, meaning}
 
 pub record AcceptedText (s : List ℕ) (ns : List ℤ) (ps : List (ℤ × ℤ)) : Type 0 where
@@ -26,15 +26,15 @@ accepted_lines_or : (o : Option Refusal) (T U : ℤ) (xs ys : List ℤ) (ps qs :
 accepted_lines_or none T U xs ys ps qs e = (cc, cc)
 accepted_lines_or (some r) T U xs ys ps qs e = clash (cc)
 
-accepted_lines : (ls : List Form) (T : ℤ) (outline : List ℤ) (points : List (ℤ × ℤ)) → meaning_of ls ≡ means T outline points
+accepted_lines : (ls : List Line) (T : ℤ) (outline : List ℤ) (points : List (ℤ × ℤ)) → meaning_of ls ≡ means T outline points
     → (outline ≡ gather curve_numbers ls) × (points ≡ gather point_of ls)
 unfolding meaning_of gather
 accepted_lines [] T outline points e = clash (cc)
-accepted_lines (NoForm ∷ ls) T outline points e = clash (cc)
-accepted_lines (Tolerance t j ∷ ls) T outline points e =
+accepted_lines (None ∷ ls) T outline points e = clash (cc)
+accepted_lines (Some (Tolerance t j) ∷ ls) T outline points e =
     accepted_lines_or (fault_from false 2 ls) t T (gather curve_numbers ls) outline (gather point_of ls) points e
-accepted_lines (Curve p j ∷ ls) T outline points e = clash (cc)
-accepted_lines (Point x y j ∷ ls) T outline points e = clash (cc)
+accepted_lines (Some (Curve p j) ∷ ls) T outline points e = clash (cc)
+accepted_lines (Some (Point x y j) ∷ ls) T outline points e = clash (cc)
 
 pub accepted : (s : List ℕ) (T : ℤ) (outline : List ℤ) (points : List (ℤ × ℤ)) → meaning s ≡ means T outline points → AcceptedText s outline points
 unfolding meaning

@@ -2,5 +2,4 @@
 #![tactic(auto)]
 
 pub mod line_checks;
-pub mod text;
 pub mod text_checks;

@@ -4,22 +4,12 @@ use mathlib.Core.Bool.{Bool, true, false, cond}
 use mathlib.Core.List.{List, [], ◌∷◌}
 use Prim.Native.Nat.{ℕ, suc, ◌+◌, ◌-◌, ◌*◌, ◌≤◌, ◌<◌}
 use native.Mathlib.Omega.{arith}
-use borrow.Author.Tests.{le-leb, lt-leb, ltb-true, ltb-false}
+use borrow.Author.Tests.{ltb-true, ltb-false}
 use lib.Dec.{ltb}
 use lib.ListN.{length, drop, drop_of_length-le}
 use Rattle.text_numbers.specs.Numerals.{byte, is_digit, value_from, digit_count}
 use Rattle.text_numbers.specs.Inside.{StandsFor, DigitRun}
 use Rattle.text_numbers.proofs.Places.{byte_first}
-
--- ---- which bytes are digits
-pub digit : (b : ℕ) → 48 ≤ b → b ≤ 57 → is_digit b ≡ true
-digit b h k = simp (le-leb _ _ h, le-leb _ _ k)
-
-pub below_digits : (b : ℕ) → b < 48 → is_digit b ≡ false
-below_digits b h = simp (lt-leb _ _ h)
-
-pub above_digits : (b : ℕ) → 57 < b → is_digit b ≡ false
-above_digits b h = let k : 48 ≤ b = omega arith in simp (le-leb _ _ k, lt-leb _ _ h)
 
 -- ---- reading on does not make a value smaller
 pub value_grows : (v : ℕ) (bs : List ℕ) → v ≤ value_from v bs

@@ -13,7 +13,7 @@ pub struct Run {
 pub fn byte_at(text: &[u8], i: usize) -> u8
     ensures { (result ≡ byte text.now i) × (result ≤ 255 * (length text.now - i)) }
 {
-    if i < text.len() { text[i] } else { 0 }
+    text.get(i).copied().unwrap_or(0)
 }
 
 // The digits from place `at` on. A value above 2^32 need not be right, and stays above.
@@ -21,19 +21,17 @@ pub fn digit_run(text: &[u8], at: usize) -> Run
     ensures { DigitRun (drop at text.now) at result.value result.next }
 {
     let mut value: u64 = 0;
-    let mut i = at;
-    while i < text.len() {
+    for i in at..text.len() {
         let b = text[i];
-        if b < 48 {
-            break;
-        }
-        if 57 < b {
-            break;
+        if !b.is_ascii_digit() {
+            return Run { value, next: i };
         }
         if value < 4294967296 {
-            value = 10 * value + ((b - 48) as u64);
+            value = 10 * value + u64::from(b - 48);
         }
-        i += 1;
     }
-    Run { value, next: i }
+    Run {
+        value,
+        next: at.max(text.len()),
+    }
 }

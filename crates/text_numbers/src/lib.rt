@@ -3,4 +3,3 @@
 
 pub mod digit_runs;
 pub mod number_reading;
-pub mod numerals;

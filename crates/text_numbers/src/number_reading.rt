@@ -3,56 +3,42 @@ ghost use Rattle.std.specs.Prelude.{◌≡◌, ◌≤◌, pos, neg_ℤ};
 ghost use Rattle.text_numbers.specs.Numerals.{natural_at, number_at};
 
 use crate::digit_runs::{byte_at, digit_run};
-use crate::numerals::{Natural, Number};
 
-// The number that stands at a place: digits without leading zeros, a minus before them or not, within 32 bits signed.
-// Defined for every text and place.
-pub fn number_at(text: &[u8], i: usize) -> Number
+// The number that stands at a place, and the place after it: digits without leading zeros, a minus before them or not,
+// within 32 bits signed. Defined for every text and place.
+pub fn number_at(text: &[u8], i: usize) -> Option<(i32, usize)>
     ensures { result ≡ number_at text.now i }
 {
     let b = byte_at(text, i);
-    if b == 48 {
-        return Number::IsNumber(0, i + 1);
+    if b == b'0' {
+        return Some((0, i + 1));
     }
-    if b == 45 {
-        match natural_at(text, i + 1) {
-            Natural::IsNatural(value, next) => {
-                return Number::IsNumber(negative(value), next);
-            }
-            Natural::NoNatural => {
-                return Number::NoNumber;
-            }
-        }
+    if b == b'-' {
+        let (value, next) = natural_at(text, i + 1)?;
+        return Some((negative(value), next));
     }
-    match natural_at(text, i) {
-        Natural::IsNatural(value, next) => {
-            if value <= 2147483647 {
-                Number::IsNumber(positive(value), next)
-            } else {
-                Number::NoNumber
-            }
-        }
-        Natural::NoNatural => Number::NoNumber,
+    let (value, next) = natural_at(text, i)?;
+    if value <= 2147483647 {
+        Some((positive(value), next))
+    } else {
+        None
     }
 }
 
-// Digits that start with 1 to 9.
-fn natural_at(text: &[u8], i: usize) -> Natural
+// Digits that start with 1 to 9, of a value up to 2147483648, and the place after them.
+fn natural_at(text: &[u8], i: usize) -> Option<(u64, usize)>
     ensures { result ≡ natural_at text.now i }
 {
     let first = byte_at(text, i);
-    if first < 49 {
-        return Natural::NoNatural;
-    }
-    if 57 < first {
-        return Natural::NoNatural;
+    if !(b'1'..=b'9').contains(&first) {
+        return None;
     }
     let run = digit_run(text, i);
     let value = run.value;
     if value <= 2147483648 {
-        Natural::IsNatural(value, run.next)
+        Some((value, run.next))
     } else {
-        Natural::NoNatural
+        None
     }
 }
 
@@ -69,6 +55,5 @@ fn negative(value: u64) -> i32
     requires { value ≤ 2147483648 }
     ensures { result ≡ neg_ℤ (pos value) }
 {
-    let wide = value as i64;
-    (0 - wide) as i32
+    -(value as i64) as i32
 }

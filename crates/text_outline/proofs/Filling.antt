@@ -4,7 +4,8 @@ use mathlib.Core.Bool.{Bool, true, false, cond}
 use mathlib.Core.List.{List, [], ◌∷◌, ◌++◌, append_assoc, append-nil}
 use Prim.Native.Nat.{ℕ, suc, ◌+◌, ◌-◌, ◌*◌, ◌^◌, ◌≤◌, ◌<◌}
 use native.Mathlib.Omega.{arith}
-use lib.Dec.{lit≤}
+use borrow.Author.Tests.{leb-true, leb-false}
+use lib.Dec.{leb, lit≤}
 use lib.ListN.{length}
 use lib.IntN.{ℤ, pos}
 use lib.Signed.{mag, lt_z}
@@ -13,16 +14,17 @@ use mir.Val.{SFits}
 use mir.Facts.{to_z-of_z}
 use Rattle.integers.proofs.Ranges.{stored, read_again}
 use Rattle.text_forms.specs.declared.forms.Points.{Points}
+use Rattle.std.specs.Prelude.{Some, None}
 use Rattle.text_forms.specs.declared.forms.Form.{Form}
-use Rattle.text_forms.specs.declared.forms.Form.TheVariants.{Tolerance, Curve, Point, NoForm}
+use Rattle.text_forms.specs.declared.forms.Form.TheVariants.{Tolerance, Curve, Point}
 use Rattle.text_forms.specs.Forms.{form_at}
 use Rattle.write_numbers.specs.Appends.{Appended}
 use Rattle.write_numbers.proofs.Appends.{append_none, append_both, appended_length}
-use Rattle.text_lines.specs.Lines.{lines_from, lines_of}
+use Rattle.text_lines.specs.Lines.{Line, lines_from, lines_of}
 use Rattle.text_lines.specs.Meaning.{numbers_of_curve}
 use Rattle.text_outline.specs.Outlines.{kept}
 use Rattle.text_outline.specs.Inside.{first_numbers}
-use Rattle.text_lines.proofs.Lines.{lines_left, lines_over, lines_start, line_none, line_tolerance, line_curve, line_point}
+use Rattle.text_lines.proofs.Lines.{lines_left, lines_over, lines_start, line_none, line_tolerance, line_curve, line_point, form_inside}
 
 -- ---- a pair, and a pair after other numbers
 pub put_both : (d o u : List ℤ) (i j k : ℕ) (x y : ℤ) → Appended d i (stored w32 x ∷ []) o j → Appended o j (stored w32 y ∷ []) u k → SFits w32 x
@@ -101,42 +103,46 @@ module _ (s : List ℕ) (d : List ℤ) where
 
   module _ (o : List ℤ) (at i left : ℕ) (r : Keeping s d o at i left) where
     -- what is left to keep, where the lines from place i on are ls
-    remaining : (ls : List Form) → lines_left s i ≡ ls → all ≡ r.done ++ kept left ls
-    remaining ls e = r.split ∙ ap (λ (l : List Form). r.done ++ kept left l) e
+    remaining : (ls : List Line) → lines_left s i ≡ ls → all ≡ r.done ++ kept left ls
+    remaining ls e = r.split ∙ ap (λ (l : List Line). r.done ++ kept left l) e
 
     nothing_more : all ≡ r.done ++ [] → Appended d 0 all o at
     nothing_more e = subst (λ (xs : List ℤ). Appended d 0 xs o at) (sym (e ∙ append-nil r.done)) r.put
 
-    pub keep_over : length s ≤ i → Appended d 0 all o at
+    -- the text is over, or a line that is no form follows
+    pub keep_none : None ≡ form_at s i → Appended d 0 all o at
     unfolding kept
-    keep_over h = nothing_more (remaining [] (lines_over (length s - i) s i h))
+    keep_none e = either (leb (length s) i) refl
+      where
+        either : (b : Bool) → leb (length s) i ≡ b → Appended d 0 all o at
+        either true h = nothing_more (remaining [] (lines_over (length s - i) s i (leb-true _ _ h)))
+        either false h = nothing_more (remaining (None ∷ []) (line_none s i (leb-false _ _ h) None e refl))
 
-    module _ (h : i < length s) (f : Form) (e : f ≡ form_at s i) where
-      pub keep_no_form : f ≡ NoForm → Appended d 0 all o at
-      unfolding kept
-      keep_no_form q = nothing_more (remaining (NoForm ∷ []) (line_none s i h f e q))
+    module _ (x : Form) (e : Some x ≡ form_at s i) where
+      starts : i < length s
+      starts = form_inside s i x (sym e)
 
       moved : (j : ℕ) → all ≡ r.done ++ kept left (lines_left s j) → Keeping s d o at j left
       moved j g = record { done = r.done; split = g; put = r.put; size = r.size; room = r.room }
 
-      pub keep_tolerance : (t : ℤ) (j : ℕ) → f ≡ Tolerance t j → Keeping s d o at j left
+      pub keep_tolerance : (t : ℤ) (j : ℕ) → x ≡ Tolerance t j → Keeping s d o at j left
       unfolding kept
-      keep_tolerance t j q = moved j (remaining (Tolerance t j ∷ lines_left s j) (line_tolerance s i h f e t j q))
+      keep_tolerance t j q = moved j (remaining (Some (Tolerance t j) ∷ lines_left s j) (line_tolerance s i starts (Some x) e t j (ap Some q)))
 
-      pub keep_point : (x y : ℤ) (j : ℕ) → f ≡ Point x y j → Keeping s d o at j left
+      pub keep_point : (u v : ℤ) (j : ℕ) → x ≡ Point u v j → Keeping s d o at j left
       unfolding kept
-      keep_point x y j q = moved j (remaining (Point x y j ∷ lines_left s j) (line_point s i h f e x y j q))
+      keep_point u v j q = moved j (remaining (Some (Point u v j) ∷ lines_left s j) (line_point s i starts (Some x) e u v j (ap Some q)))
 
-      module _ (p : Points) (j : ℕ) (q : f ≡ Curve p j) (u : List ℤ) (k : ℕ) where
-        found : all ≡ r.done ++ kept left (Curve p j ∷ lines_left s j)
-        found = remaining (Curve p j ∷ lines_left s j) (line_curve s i h f e p j q)
+      module _ (p : Points) (j : ℕ) (q : x ≡ Curve p j) (u : List ℤ) (k : ℕ) where
+        found : all ≡ r.done ++ kept left (Some (Curve p j) ∷ lines_left s j)
+        found = remaining (Some (Curve p j) ∷ lines_left s j) (line_curve s i starts (Some x) e p j (ap Some q))
 
         -- one curve too many begins
         pub keep_last : left ≡ 0 → Appended o at (stored w32 p.degree ∷ []) u k → mag p.degree < 2 ^ 31 → Appended d 0 all u k
         unfolding kept
         keep_last z a m =
             subst (λ (xs : List ℤ). Appended d 0 xs u k)
-            (sym (found ∙ ap (λ (n : ℕ). r.done ++ kept n (Curve p j ∷ lines_left s j)) z))
+            (sym (found ∙ ap (λ (n : ℕ). r.done ++ kept n (Some (Curve p j) ∷ lines_left s j)) z))
             (append_both d o u r.done (p.degree ∷ []) 0 at k r.put (rw (read_again w32 p.degree m) at a))
 
         pub keep_curve : (left ≡ 0 → ⊥) → Appended o at (numbers_of_curve p) u k → Keeping s d u k j (left - 1)
@@ -144,7 +150,7 @@ module _ (s : List ℕ) (d : List ℤ) where
         keep_curve z a = record {
           done = r.done ++ numbers_of_curve p;
           split =
-              found ∙ ap (λ (n : ℕ). r.done ++ kept n (Curve p j ∷ lines_left s j)) one_less
+              found ∙ ap (λ (n : ℕ). r.done ++ kept n (Some (Curve p j) ∷ lines_left s j)) one_less
               ∙ sym (append_assoc r.done (numbers_of_curve p) (kept (left - 1) (lines_left s j)));
           put = append_both d o u r.done (numbers_of_curve p) 0 at k r.put a;
           size = appended_length o at (numbers_of_curve p) u k a ∙ r.size;
@@ -157,4 +163,4 @@ module _ (s : List ℕ) (d : List ℤ) where
 -- ---- a turn of the loop goes on past a line, or stops
 pub ruleset keep-past = (keep_tolerance, keep_curve, keep_point)
 
-pub ruleset keep-stops = (keep_no_form, keep_last, keep_over)
+pub ruleset keep-stops = (keep_none, keep_last)

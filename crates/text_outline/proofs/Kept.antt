@@ -25,11 +25,11 @@ use Rattle.outline.specs.Checks.{faulty, with_curve, outline_from, outlined}
 use Rattle.outline.proofs.Faultless.{last_fault, fault_degree, fault_pieces, fault_last}
 use Rattle.outline.proofs.Steps.{outline_full, outline_faulty, outline_step}
 use Rattle.text_forms.specs.declared.forms.Points.{Points}
-use Rattle.text_forms.specs.declared.forms.Form.{Form}
-use Rattle.text_forms.specs.declared.forms.Form.TheVariants.{Tolerance, Curve as CurveLine, Point, NoForm}
+use Rattle.std.specs.Prelude.{Some, None}
+use Rattle.text_forms.specs.declared.forms.Form.TheVariants.{Tolerance, Curve as CurveLine, Point}
 use Rattle.text_forms.specs.Forms.{form_at}
 use Rattle.text_forms.proofs.FormReach.{OneToThree, Reaches, form_reaches}
-use Rattle.text_lines.specs.Lines.{lines_after, lines_from, lines_of, gather}
+use Rattle.text_lines.specs.Lines.{Line, lines_after, lines_from, lines_of, gather}
 use Rattle.text_lines.specs.Meaning.{numbers_of_curve, curve_numbers, means, meaning}
 use Rattle.text_outline.specs.Outlines.{kept}
 use Rattle.text_outline.proofs.Filling.{few_numbers}
@@ -104,25 +104,25 @@ module _ {ns ms : List ℤ} {e : ℕ} (a : Agree ns ms e) where
         ∙ ap (λ (z : ℤ). record { degree = nat_abs z; x = values ms (nat_abs z) (at + 1); y = values ms (nat_abs z) (at + 2) }) degree_same
 
 -- ---- the curves of lines have degrees 1 to 3
-abbrev Degrees : List Form → Type 0
+abbrev Degrees : List Line → Type 0
 Degrees [] = Unit
-Degrees (CurveLine p j ∷ ls) = OneToThree p.degree × Degrees ls
-Degrees (Tolerance t j ∷ ls) = Degrees ls
-Degrees (Point x y j ∷ ls) = Degrees ls
-Degrees (NoForm ∷ ls) = Degrees ls
+Degrees (Some (CurveLine p j) ∷ ls) = OneToThree p.degree × Degrees ls
+Degrees (Some (Tolerance t j) ∷ ls) = Degrees ls
+Degrees (Some (Point x y j) ∷ ls) = Degrees ls
+Degrees (None ∷ ls) = Degrees ls
 
 lines_degrees : (n : ℕ) (s : List ℕ) (i : ℕ) → Degrees (lines_from n s i)
 unfolding lines_from
 lines_degrees zero s i = tt
 lines_degrees (suc n) s i = either (ltb i (length s)) (form_at s i) (form_reaches s i) (lines_degrees n s)
   where
-    either : (b : Bool) (f : Form) → Reaches i (length s) f → ((j : ℕ) → Degrees (lines_from n s j))
+    either : (b : Bool) (f : Line) → Reaches i (length s) f → ((j : ℕ) → Degrees (lines_from n s j))
         → Degrees (cond b (f ∷ lines_after f (lines_from n s)) [])
     either false f r again = tt
-    either true (Tolerance t j) r again = again j
-    either true (CurveLine p j) r again = (r.1, again j)
-    either true (Point x y j) r again = again j
-    either true NoForm r again = tt
+    either true (Some (Tolerance t j)) r again = again j
+    either true (Some (CurveLine p j)) r again = (r.1, again j)
+    either true (Some (Point x y j)) r again = again j
+    either true None r again = tt
 
 -- ---- a curve's numbers are its degree and d + 1 points
 abbrev numbers_by : Points → ℤ → List ℤ
@@ -192,14 +192,14 @@ module _ (m : ℕ) (front : List ℤ) (p : Points) (d : OneToThree p.degree) (xs
           ∙ sym (outline_step m (whole ys) (length front) most (sym (fault_same agree (length front) reach m) ∙ e))
 
 -- ---- line by line
-kept_from : (m : ℕ) (ls : List Form) → Degrees ls → (most : ℕ) (front : List ℤ)
+kept_from : (m : ℕ) (ls : List Line) → Degrees ls → (most : ℕ) (front : List ℤ)
     → outline_from most m (front ++ kept most ls) (length front) ≡ outline_from most m (front ++ gather curve_numbers ls) (length front)
 unfolding kept gather
 kept_from m [] d most front = refl
-kept_from m (Tolerance t j ∷ ls) d most front = kept_from m ls d most front
-kept_from m (Point x y j ∷ ls) d most front = kept_from m ls d most front
-kept_from m (NoForm ∷ ls) d most front = kept_from m ls d most front
-kept_from m (CurveLine p j ∷ ls) d zero front =
+kept_from m (Some (Tolerance t j) ∷ ls) d most front = kept_from m ls d most front
+kept_from m (Some (Point x y j) ∷ ls) d most front = kept_from m ls d most front
+kept_from m (None ∷ ls) d most front = kept_from m ls d most front
+kept_from m (Some (CurveLine p j) ∷ ls) d zero front =
     begins (p.degree ∷ []) (omega arith) ∙ sym (begins (numbers_of_curve p ++ gather curve_numbers ls) some_there)
   where
     begins : (zs : List ℤ) → 0 < length zs → outline_from 0 m (front ++ zs) (length front) ≡ faulty (TooManyCurves (length front))
@@ -207,7 +207,7 @@ kept_from m (CurveLine p j ∷ ls) d zero front =
 
     some_there : 0 < length (numbers_of_curve p ++ gather curve_numbers ls)
     some_there = omega (arith, length-append (numbers_of_curve p) (gather curve_numbers ls), numbers_length p d.0)
-kept_from m (CurveLine p j ∷ ls) d (suc most) front =
+kept_from m (Some (CurveLine p j) ∷ ls) d (suc most) front =
     after_curve m front p d.0 (kept most ls) (gather curve_numbers ls) most (kept_from m ls d.1 most (front ++ numbers_of_curve p))
 
 -- ---- what is kept of the lines of a text
@@ -216,24 +216,24 @@ unfolding outlined
 not_empty most m [] h = absurd (omega arith)
 not_empty most m (z ∷ ns) h = refl
 
-module _ (p : Points) (j : ℕ) (ls : List Form) (d : OneToThree p.degree) where
+module _ (p : Points) (j : ℕ) (ls : List Line) (d : OneToThree p.degree) where
   curve_some : (xs : List ℤ) → 0 < length (numbers_of_curve p ++ xs)
   curve_some xs = omega (arith, length-append (numbers_of_curve p) xs, numbers_length p d)
 
-  kept_some : (most : ℕ) → 0 < length (kept most (CurveLine p j ∷ ls))
+  kept_some : (most : ℕ) → 0 < length (kept most (Some (CurveLine p j) ∷ ls))
   unfolding kept
   kept_some zero = omega arith
   kept_some (suc most) = curve_some (kept most ls)
 
-kept_lines : (m : ℕ) (ls : List Form) → Degrees ls → (most : ℕ) → outlined most m (kept most ls) ≡ outlined most m (gather curve_numbers ls)
+kept_lines : (m : ℕ) (ls : List Line) → Degrees ls → (most : ℕ) → outlined most m (kept most ls) ≡ outlined most m (gather curve_numbers ls)
 unfolding kept gather
 kept_lines m [] d most = refl
-kept_lines m (Tolerance t j ∷ ls) d most = kept_lines m ls d most
-kept_lines m (Point x y j ∷ ls) d most = kept_lines m ls d most
-kept_lines m (NoForm ∷ ls) d most = kept_lines m ls d most
-kept_lines m (CurveLine p j ∷ ls) d most =
-    not_empty most m (kept most (CurveLine p j ∷ ls)) (kept_some p j ls d.0 most)
-    ∙ kept_from m (CurveLine p j ∷ ls) d most []
+kept_lines m (Some (Tolerance t j) ∷ ls) d most = kept_lines m ls d most
+kept_lines m (Some (Point x y j) ∷ ls) d most = kept_lines m ls d most
+kept_lines m (None ∷ ls) d most = kept_lines m ls d most
+kept_lines m (Some (CurveLine p j) ∷ ls) d most =
+    not_empty most m (kept most (Some (CurveLine p j) ∷ ls)) (kept_some p j ls d.0 most)
+    ∙ kept_from m (Some (CurveLine p j) ∷ ls) d most []
     ∙ sym (not_empty most m (numbers_of_curve p ++ gather curve_numbers ls) (curve_some p j ls d.0 (gather curve_numbers ls)))
 
 -- ---- and of a text that is accepted: the checks of its outline, and so banding, find the same
@@ -244,11 +244,11 @@ outline_kept most m s T outline points e =
     kept_lines m (lines_of s) (lines_degrees (length s) s 0) most ∙ ap (outlined most m) (sym (accepted s T outline points e).outline)
 
 -- ---- and it is no more than nine numbers a curve, and one
-pub kept_few : (most : ℕ) (ls : List Form) → length (kept most ls) ≤ 9 * most + 1
+pub kept_few : (most : ℕ) (ls : List Line) → length (kept most ls) ≤ 9 * most + 1
 unfolding kept
 kept_few most [] = omega arith
-kept_few most (Tolerance t j ∷ ls) = kept_few most ls
-kept_few most (Point x y j ∷ ls) = kept_few most ls
-kept_few most (NoForm ∷ ls) = kept_few most ls
-kept_few zero (CurveLine p j ∷ ls) = omega arith
-kept_few (suc most) (CurveLine p j ∷ ls) = omega (arith, length-append (numbers_of_curve p) (kept most ls), few_numbers p, kept_few most ls)
+kept_few most (Some (Tolerance t j) ∷ ls) = kept_few most ls
+kept_few most (Some (Point x y j) ∷ ls) = kept_few most ls
+kept_few most (None ∷ ls) = kept_few most ls
+kept_few zero (Some (CurveLine p j) ∷ ls) = omega arith
+kept_few (suc most) (Some (CurveLine p j) ∷ ls) = omega (arith, length-append (numbers_of_curve p) (kept most ls), few_numbers p, kept_few most ls)

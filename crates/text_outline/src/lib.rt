@@ -16,14 +16,11 @@ pub fn keep_outline(text: &[u8], numbers: &mut [i32]) -> usize
     ensures { Appended numbers.old 0 (kept 64 (lines_of text.now))
         numbers.new result }
 {
-    let mut at: usize = 0;
-    let mut i: usize = 0;
+    let mut at = 0;
+    let mut i = 0;
     let mut left: usize = 64;
-    while i < text.len() {
-        match text_reader::line_from(text, i) {
-            Form::NoForm => {
-                return at;
-            }
+    while let Some(form) = text_reader::line_from(text, i) {
+        match form {
             Form::Curve(p, next) => {
                 if left == 0 {
                     return put(numbers, at, p.degree);
@@ -32,9 +29,7 @@ pub fn keep_outline(text: &[u8], numbers: &mut [i32]) -> usize
                 left -= 1;
                 i = next;
             }
-            Form::Tolerance(_, next) | Form::Point(_, _, next) => {
-                i = next;
-            }
+            Form::Tolerance(_, next) | Form::Point(_, _, next) => i = next,
         }
     }
     at

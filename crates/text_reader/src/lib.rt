@@ -9,6 +9,8 @@ ghost use Rattle.text_reader.specs.Reading.{place_after};
 
 use text_forms::forms::Form;
 
+// It is no iterator of lines: a line that is no form is not the end of a text, so an item would be an `Option` within
+// an `Option`, and those who read a text want the place after a line as well, which is no plainer.
 #[derive(Clone, Copy)]
 pub struct LineReader<'a> {
     pub text: &'a [u8],
@@ -23,14 +25,14 @@ pub fn new<'a>(text: &'a [u8], read: usize) -> LineReader<'a>
 }
 
 // The line after what was read, with the place after it.
-pub fn next<'a>(reader: LineReader<'a>) -> Form
+pub fn next<'a>(reader: LineReader<'a>) -> Option<Form>
     ensures { result ≡ form_at reader.entry.text.now reader.entry.read }
 {
     text_forms::form_reading::form_at(reader.text, reader.read)
 }
 
 // The reader after a line that it read, of the same text.
-pub fn after<'a>(reader: LineReader<'a>, line: Form) -> LineReader<'a>
+pub fn after<'a>(reader: LineReader<'a>, line: Option<Form>) -> LineReader<'a>
     ensures { (result.text ≡ reader.entry.text) × (result.read ≡ place_after line reader.entry.read) }
 {
     LineReader {
@@ -40,20 +42,18 @@ pub fn after<'a>(reader: LineReader<'a>, line: Form) -> LineReader<'a>
 }
 
 // The line that starts at a place, read by a reader. Defined for every text and place.
-pub fn line_from(text: &[u8], at: usize) -> Form
+pub fn line_from(text: &[u8], at: usize) -> Option<Form>
     ensures { result ≡ form_at text.now at }
 {
     next(new(text, at))
 }
 
 // Where reading goes on after a line that started at a place.
-fn place_after(line: Form, at: usize) -> usize
+fn place_after(line: Option<Form>, at: usize) -> usize
     ensures { result ≡ place_after line at }
 {
     match line {
-        Form::Tolerance(_, next) => next,
-        Form::Curve(_, next) => next,
-        Form::Point(_, _, next) => next,
-        Form::NoForm => at,
+        Some(Form::Tolerance(_, next) | Form::Curve(_, next) | Form::Point(_, _, next)) => next,
+        None => at,
     }
 }

@@ -6,6 +6,7 @@ use Prim.Native.Nat.{ℕ, ◌+◌, ◌^◌, ◌≤◌, ◌<◌}
 use native.Mathlib.Omega.{arith}
 use lib.ListN.{length, length-append}
 use lib.IntN.{ℤ}
+use Rattle.std.specs.Prelude.{Ok, Err}
 use Rattle.setting.specs.Setting.{Setting, deepest}
 use Rattle.setting.proofs.Depths.{deepest_few}
 use Rattle.curve_nodes.specs.declared.Curve.{Curve}
@@ -14,7 +15,6 @@ use Rattle.walk_tree.proofs.Counting.{few_ends}
 use Rattle.walk_tree.proofs.Failing.{none_exactly, some_exactly}
 use Rattle.walk_tree.proofs.Walking.{walking_failed, walking_done, all_passed, fewer_passed}
 use Rattle.walk_curve.specs.declared.Part.{Part}
-use Rattle.walk_curve.specs.declared.Walked.TheVariants.{Leaves, WideNode}
 use Rattle.walk_curve.specs.Inside.{left_part, AfterOf, walked_of}
 use Rattle.walk_curve.specs.Walked.{node_meets, ends_of}
 use Rattle.walk_curve.proofs.Parts.{part}
@@ -43,7 +43,7 @@ module _ {σ : Setting} {T : ℤ} {c : Curve} where
       pub counted_left : p.node < 2 ^ deepest c.degree → Counted σ T c (left_part p) leaves
       counted_left l = record { passed = h.passed; count = h.count; walk = walk_left h.walk e l }
 
-      pub counted_failed : 2 ^ deepest c.degree ≤ p.node → walked_of σ T c ≡ WideNode p.node
+      pub counted_failed : 2 ^ deepest c.degree ≤ p.node → walked_of σ T c ≡ Err p.node
       unfolding walked_of
       counted_failed l =
           rw ((some_exactly (node_meets σ T c) (ends_of σ T c) p.node).1 (walking_failed h.walk.walking e l), walked_of)
@@ -53,9 +53,9 @@ module _ {σ : Setting} {T : ℤ} {c : Curve} where
       pub counted_after : (r.node ≡ 1 → ⊥) → Counted σ T c r (leaves + 1)
       counted_after l = record { passed = h.passed ++ p.node ∷ []; count = more; walk = walk_after h.walk a l e }
 
-      pub counted_done : r.node ≡ 1 → walked_of σ T c ≡ Leaves (leaves + 1)
+      pub counted_done : r.node ≡ 1 → walked_of σ T c ≡ Ok (leaves + 1)
       unfolding walked_of
       counted_done o = let w = h.walk.walking in
           let l = sym a.node ∙ o in
           rw ((none_exactly (node_meets σ T c) (ends_of σ T c)).1 (all_passed w e l), walked_of)
-          (ap Leaves (ap length (walking_done w e l) ∙ sym more))
+          (ap Ok (ap length (walking_done w e l) ∙ sym more))

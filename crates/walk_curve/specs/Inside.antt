@@ -1,6 +1,6 @@
 -- For contracts inside the engine alone, no part of a public promise: where a walk stands, its steps, and what the walk
 -- of a curve finds. A part of a curve is one of its nodes, with the node's own curve.
-use Rattle.std.specs.Prelude.{◌≡◌, true, false, ℕ, suc, ◌*◌, ◌^◌, ◌<◌, length, ℤ}
+use Rattle.std.specs.Prelude.{◌≡◌, true, false, ℕ, suc, ◌*◌, ◌^◌, ◌<◌, length, ℤ, Result, Ok, Err}
 use Rattle.std.proofs.Math.Option.{none, some}
 use Rattle.setting.specs.Setting.{Setting, degree_pieces, deepest}
 use Rattle.curve_nodes.specs.declared.Curve.{Curve}
@@ -9,8 +9,6 @@ use Rattle.curve_nodes.specs.Halves.{left_half}
 use Rattle.curve_nodes.specs.Nodes.{node_curve, after}
 use Rattle.walk_tree.specs.Tree.{first_failing}
 use Rattle.walk_curve.specs.declared.Part.{Part}
-use Rattle.walk_curve.specs.declared.Walked.{Walked}
-use Rattle.walk_curve.specs.declared.Walked.TheVariants.{Leaves, WideNode}
 use Rattle.walk_curve.specs.Walked.{node_meets, ends_of}
 
 -- a setting has what a curve of degree d needs: as many pieces as it takes, and whole control values at degrees 4 and 5
@@ -40,9 +38,9 @@ pub record AfterOf (p r : Part) : Type 0 where
   pub end : r.node ≡ 1 → r.curve ≡ p.curve
 
 -- the first node at the last depth that does not meet T, or else how many leaves the curve has
-unfoldable pub walked_of : Setting → ℤ → Curve → Walked
+unfoldable pub walked_of : Setting → ℤ → Curve → Result ℕ ℕ
 walked_of σ T c =
     elim (first_failing (node_meets σ T c) (ends_of σ T c)) [
-      | some n ↦ WideNode n
-      | none ↦ Leaves (length (ends_of σ T c))
+      | some n ↦ Err n
+      | none ↦ Ok (length (ends_of σ T c))
     ]

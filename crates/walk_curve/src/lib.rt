@@ -48,6 +48,8 @@ impl Part {
     }
 
     // The left half of a part of a curve of degree 1 to 3.
+    // It stands apart from `left` for the loops of these degrees, which are slower with degrees 4 and 5 in them
+    // (docs/landings/20).
     pub fn left_low(self) -> Part
         requires { Standing self × (self.node < 2 ^ deepest self.curve.degree) × (self.curve.degree ≤ 3) }
         ensures { result ≡ left_part self }
@@ -60,6 +62,8 @@ impl Part {
     }
 
     // The part after one of a curve of degree 1 to 3; node 1 stands for the end.
+    // It stands apart from `after` for the loops of these degrees, which are slower with degrees 4 and 5 in them
+    // (docs/landings/20).
     pub fn after_low(self) -> Part
         requires { Standing self × (self.curve.degree ≤ 3) }
         ensures { AfterOf self result }
@@ -76,16 +80,9 @@ impl Part {
     }
 }
 
-// What the walk of a curve finds: how many leaves it has, or the first node at the last depth that does not meet the
-// tolerance.
-#[derive(Clone, Copy)]
-pub enum Walked {
-    Leaves(usize),
-    WideNode(u32),
-}
-
-// The leaves of a curve, counted. The rows lent are those of the number of pieces.
-pub fn walk(rows: &[i64], pieces: Pieces, curve: Curve, t: i64) -> Walked
+// The leaves of a curve, counted; or else the first node at the last depth that does not meet the tolerance. The rows
+// lent are those of the number of pieces.
+pub fn walk(rows: &[i64], pieces: Pieces, curve: Curve, t: i64) -> Result<usize, u32>
     requires { (PiecesReady pieces rows.now) × (Sized 0 curve) × (Suits (setting_of pieces) curve.degree) }
     ensures { result ≡ walked_of (setting_of pieces) t curve }
 {
@@ -97,7 +94,8 @@ pub fn walk(rows: &[i64], pieces: Pieces, curve: Curve, t: i64) -> Walked
 }
 
 // Counts the leaves of a curve of degree 1 to 3.
-fn walk_low(rows: &[i64], pieces: Pieces, curve: Curve, t: i64) -> Walked
+// Apart, for speed: in one loop with degrees 4 and 5 the test of a node is no longer inlined (docs/landings/20).
+fn walk_low(rows: &[i64], pieces: Pieces, curve: Curve, t: i64) -> Result<usize, u32>
     requires { (PiecesReady pieces rows.now) × (Sized 0 curve) × (curve.degree ≤ 3) }
     ensures { result ≡ walked_of (setting_of pieces) t curve }
 {
@@ -116,11 +114,11 @@ fn walk_low(rows: &[i64], pieces: Pieces, curve: Curve, t: i64) -> Walked
             leaves += 1;
             part = part.after_low();
             if part.node == 1 {
-                return Walked::Leaves(leaves);
+                return Ok(leaves);
             }
         } else {
             if 256 <= node {
-                return Walked::WideNode(node);
+                return Err(node);
             }
             part = part.left_low();
         }
@@ -128,7 +126,7 @@ fn walk_low(rows: &[i64], pieces: Pieces, curve: Curve, t: i64) -> Walked
 }
 
 // Counts the leaves of a curve of degree 4 or 5.
-fn walk_higher(rows: &[i64], pieces: Pieces, curve: Curve, t: i64) -> Walked
+fn walk_higher(rows: &[i64], pieces: Pieces, curve: Curve, t: i64) -> Result<usize, u32>
     requires { (PiecesReady pieces rows.now) × (Sized 0 curve) × (3 < curve.degree) × (3 ≤ pieces.m)
         × (pieces.sixths ≡ false) }
     ensures { result ≡ walked_of (setting_of pieces) t curve }
@@ -148,11 +146,11 @@ fn walk_higher(rows: &[i64], pieces: Pieces, curve: Curve, t: i64) -> Walked
             leaves += 1;
             part = part.after();
             if part.node == 1 {
-                return Walked::Leaves(leaves);
+                return Ok(leaves);
             }
         } else {
             if 16 <= node {
-                return Walked::WideNode(node);
+                return Err(node);
             }
             part = part.left();
         }

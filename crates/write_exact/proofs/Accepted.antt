@@ -10,14 +10,14 @@ use borrow.Author.Tests.{le-ltb, ltb-true, ltb-false}
 use lib.Dec.{ltb, lit≤}
 use lib.ListN.{length, drop, drop_of_length-le}
 use lib.IntN.{ℤ}
+use Rattle.std.specs.Prelude.{Some, None}
 use Rattle.integers.proofs.Clash.{clash}
 use Rattle.refusals.specs.declared.Refusal.{Refusal}
 use Rattle.text_forms.specs.declared.forms.Points.{Points}
-use Rattle.text_forms.specs.declared.forms.Form.{Form}
-use Rattle.text_forms.specs.declared.forms.Form.TheVariants.{Tolerance, Curve, Point, NoForm}
+use Rattle.text_forms.specs.declared.forms.Form.TheVariants.{Tolerance, Curve, Point}
 use Rattle.text_forms.specs.Forms.{curve_word, closing, form_at}
 use Rattle.text_forms.proofs.FormReach.{curve_ended, point_ended}
-use Rattle.text_lines.specs.Lines.{gather}
+use Rattle.text_lines.specs.Lines.{Line, gather}
 use Rattle.text_lines.specs.Meaning.{curve_numbers, point_of, fault_from, means, fault_or, meaning_of, most_bytes, meaning}
 use Rattle.text_lines.proofs.Lines.{lines_left, lines_over, lines_start, line_none, line_tolerance, line_curve, line_point}
 use Rattle.text_lines.proofs.Accepted.{accepted}
@@ -86,7 +86,8 @@ module _ (s : List ℕ) where
       }
 
   module _ (i : ℕ) where
-    a_point : (late : Bool) (x y : ℤ) (j : ℕ) → lines_left s i ≡ Point x y j ∷ lines_left s j → Legal (Point x y j) → Written s i j (point_line x y)
+    a_point : (late : Bool) (x y : ℤ) (j : ℕ) → lines_left s i ≡ Some (Point x y j) ∷ lines_left s j → Legal (Point x y j)
+        → Written s i j (point_line x y)
         → Made s j true → Made s i late
     unfolding curves_text points_text outline_of gather
     a_point late x y j e l w m =
@@ -105,7 +106,7 @@ module _ (s : List ℕ) where
           points_are = ap (gather point_of) e ∙ ap (λ (ps : List (ℤ × ℤ)). (x, y) ∷ ps) m.points_are;
         }
 
-    a_curve : (p : Points) (j : ℕ) → lines_left s i ≡ Curve p j ∷ lines_left s j → Legal (Curve p j) → Written s i j (curve_line p)
+    a_curve : (p : Points) (j : ℕ) → lines_left s i ≡ Some (Curve p j) ∷ lines_left s j → Legal (Curve p j) → Written s i j (curve_line p)
         → Made s j false → Made s i false
     unfolding curves_text outline_of gather
     a_curve p j e l w m =
@@ -125,20 +126,21 @@ module _ (s : List ℕ) where
 
     -- the line at place i, and what is known of those after it
     module _ (h : i < length s) (n : ℕ) (again : (late : Bool) (j : ℕ) → i < j → fault_from late (n + 1) (lines_left s j) ≡ none → Made s j late) where
-      line_made : (late : Bool) (f : Form) → f ≡ form_at s i → LegalRead f → LineWritten s i f → fault_from late n (lines_left s i) ≡ none
+      line_made : (late : Bool) (f : Line) → f ≡ form_at s i → LegalRead f → LineWritten s i f → fault_from late n (lines_left s i) ≡ none
           → Made s i late
       unfolding fault_from
-      line_made late NoForm e l w fine = let g = sym (ap (fault_from late n) (line_none s i h NoForm e refl)) ∙ fine in clash (cc)
-      line_made late (Tolerance T j) e l w fine =
-          let g = sym (ap (fault_from late n) (line_tolerance s i h (Tolerance T j) e T j refl)) ∙ fine in clash (cc)
-      line_made true (Curve p j) e l w fine = let g = sym (ap (fault_from true n) (line_curve s i h (Curve p j) e p j refl)) ∙ fine in clash (cc)
-      line_made false (Curve p j) e l w fine =
-          let here = line_curve s i h (Curve p j) e p j refl in
-          let past = (curve_ended s i (Curve p j) e p j refl).past in
+      line_made late None e l w fine = let g = sym (ap (fault_from late n) (line_none s i h None e refl)) ∙ fine in clash (cc)
+      line_made late (Some (Tolerance T j)) e l w fine =
+          let g = sym (ap (fault_from late n) (line_tolerance s i h (Some (Tolerance T j)) e T j refl)) ∙ fine in clash (cc)
+      line_made true (Some (Curve p j)) e l w fine =
+          let g = sym (ap (fault_from true n) (line_curve s i h (Some (Curve p j)) e p j refl)) ∙ fine in clash (cc)
+      line_made false (Some (Curve p j)) e l w fine =
+          let here = line_curve s i h (Some (Curve p j)) e p j refl in
+          let past = (curve_ended s i (Some (Curve p j)) e p j refl).past in
           a_curve p j here l w (again false j (omega arith) (sym (ap (fault_from false n) here) ∙ fine))
-      line_made late (Point x y j) e l w fine =
-          let here = line_point s i h (Point x y j) e x y j refl in
-          let past = (point_ended s i (Point x y j) e x y j refl).past in
+      line_made late (Some (Point x y j)) e l w fine =
+          let here = line_point s i h (Some (Point x y j)) e x y j refl in
+          let past = (point_ended s i (Some (Point x y j)) e x y j refl).past in
           a_point late x y j here l w (again true j (omega arith) (sym (ap (fault_from late n) here) ∙ fine))
 
   -- all lines from place i on, m bytes at most
@@ -158,15 +160,17 @@ module _ (s : List ℕ) where
   not_refused (some r) T U xs ys ps qs e = clash (cc)
 
   module _ (T : ℤ) (outline : List ℤ) (ps : List (ℤ × ℤ)) (size : length s ≤ most_bytes) where
-    text_made : (f : Form) → f ≡ form_at s 0 → 0 < length s → LegalRead f → LineWritten s 0 f → meaning_of (lines_left s 0) ≡ means T outline ps
+    text_made : (f : Line) → f ≡ form_at s 0 → 0 < length s → LegalRead f → LineWritten s 0 f → meaning_of (lines_left s 0) ≡ means T outline ps
         → IsText s T outline ps
     unfolding meaning_of text_of
-    text_made NoForm e h l w fine = let g = sym (ap meaning_of (line_none s 0 h NoForm e refl)) ∙ fine in clash (cc)
-    text_made (Curve p j) e h l w fine = let g = sym (ap meaning_of (line_curve s 0 h (Curve p j) e p j refl)) ∙ fine in clash (cc)
-    text_made (Point x y j) e h l w fine = let g = sym (ap meaning_of (line_point s 0 h (Point x y j) e x y j refl)) ∙ fine in clash (cc)
-    text_made (Tolerance U j) e h l w fine =
-        let here = line_tolerance s 0 h (Tolerance U j) e U j refl in
-        let g = not_refused (fault_from false 2 (lines_left s j)) U T (gather curve_numbers (lines_left s j)) outline (gather point_of (lines_left s j)) ps
+    text_made None e h l w fine = let g = sym (ap meaning_of (line_none s 0 h None e refl)) ∙ fine in clash (cc)
+    text_made (Some (Curve p j)) e h l w fine = let g = sym (ap meaning_of (line_curve s 0 h (Some (Curve p j)) e p j refl)) ∙ fine in clash (cc)
+    text_made (Some (Point x y j)) e h l w fine =
+        let g = sym (ap meaning_of (line_point s 0 h (Some (Point x y j)) e x y j refl)) ∙ fine in clash (cc)
+    text_made (Some (Tolerance U j)) e h l w fine =
+        let here = line_tolerance s 0 h (Some (Tolerance U j)) e U j refl in
+        let g =
+        not_refused (fault_from false 2 (lines_left s j)) U T (gather curve_numbers (lines_left s j)) outline (gather point_of (lines_left s j)) ps
         (sym (ap meaning_of here) ∙ fine) in
         let m = rest_made (length s - j) j 2 false (omega arith) g.0 in
         let T-is = g.1 in

@@ -10,10 +10,8 @@ use lib.Dec.{leb, ltb, eqb}
 use lib.ListN.{length, take, drop, take-append-drop, length-append}
 use lib.Seq.{drop-drop, length-take-le}
 use lib.IntN.{ℤ, pos, neg_ℤ}
-use Rattle.text_numbers.specs.declared.numerals.Number.{Number}
-use Rattle.text_numbers.specs.declared.numerals.Number.TheVariants.{IsNumber, NoNumber}
-use Rattle.text_numbers.specs.declared.numerals.Natural.{Natural}
-use Rattle.text_numbers.specs.declared.numerals.Natural.TheVariants.{IsNatural, NoNatural}
+use Rattle.std.proofs.lemmas.Option.{some_pair_parts}
+use Rattle.std.specs.Prelude.{Option, Some, None}
 use Rattle.text_numbers.specs.Numerals.{byte, is_digit, value_from, digit_count, natural_at, plus, minus, number_at}
 use Rattle.text_numbers.proofs.Places.{byte_first, byte_inside}
 use Rattle.text_numbers.proofs.Runs.{value_grows}
@@ -101,7 +99,8 @@ value_below (b ∷ bs) p v h = either (is_digit b) refl (λ g. value_below bs (s
         subst (λ (m : ℕ). value_from (10 * v + (b - 48)) bs < 10 ^ m) places (again (digit_range b e).1)
 
 -- ---- a natural
-first_digit : (b : ℕ) (bs : List ℕ) → 49 ≤ b → b ≤ 57 → (value_from 0 (b ∷ bs) ≡ value_from (b - 48) bs) × (digit_count (b ∷ bs) ≡ suc (digit_count bs))
+first_digit : (b : ℕ) (bs : List ℕ) → 49 ≤ b → b ≤ 57
+    → (value_from 0 (b ∷ bs) ≡ value_from (b - 48) bs) × (digit_count (b ∷ bs) ≡ suc (digit_count bs))
 unfolding value_from digit_count
 first_digit b bs l h =
     let d : is_digit b ≡ true = simp (le-leb 48 b (omega arith), le-leb b 57 h) in
@@ -144,14 +143,14 @@ three_true true true false e = clash (cc)
 three_true true false c e = clash (cc)
 three_true false b c e = clash (cc)
 
-found : (t : Bool) (n k m j : ℕ) → ◌≡◌ {A = Natural} (cond t (IsNatural n k) NoNatural) (IsNatural m j) → (t ≡ true) × (n ≡ m) × (k ≡ j)
-found true n k m j e = (refl, cc, cc)
+found : (t : Bool) (n k m j : ℕ) → ◌≡◌ {A = Option (ℕ × ℕ)} (cond t (Some (n, k)) None) (Some (m, j)) → (t ≡ true) × (n ≡ m) × (k ≡ j)
+found true n k m j e = let p = some_pair_parts n m k j e in (refl, p.0, p.1)
 found false n k m j e = clash (cc)
 
 value_grown : (b : ℕ) (bs : List ℕ) → 49 ≤ b → b ≤ 57 → 1 ≤ value_from 0 (b ∷ bs)
 value_grown b bs l h = omega (arith, (first_digit b bs l h).0, value_grows (b - 48) bs)
 
-natural_written : (s : List ℕ) (i n j : ℕ) → natural_at s i ≡ IsNatural n j → Written s i j (digits 10 n) × (1 ≤ n)
+natural_written : (s : List ℕ) (i n j : ℕ) → natural_at s i ≡ Some (n, j) → Written s i j (digits 10 n) × (1 ≤ n)
 unfolding natural_at
 natural_written s i n j e =
     let bs = drop i s in
@@ -203,38 +202,42 @@ pub zero_decimal : decimal (pos 0) ≡ 48 ∷ []
 unfolding decimal digits
 zero_decimal = refl
 
-pub number_written : (s : List ℕ) (i : ℕ) (z : ℤ) (j : ℕ) → number_at s i ≡ IsNumber z j → Written s i j (decimal z)
+pub number_written : (s : List ℕ) (i : ℕ) (z : ℤ) (j : ℕ) → number_at s i ≡ Some (z, j) → Written s i j (decimal z)
 unfolding number_at
 number_written s i z j e = either (eqb (byte s i) 48) refl (eqb (byte s i) 45) refl (natural_at s (i + 1)) refl (natural_at s i) refl e
   where
-    signed : (a : Natural) → natural_at s (i + 1) ≡ a → byte s i ≡ 45 → minus a ≡ IsNumber z j → Written s i j (decimal z)
-    signed NoNatural f g h = clash (cc)
-    signed (IsNatural n k) f g h =
+    signed : (a : Option (ℕ × ℕ)) → natural_at s (i + 1) ≡ a → byte s i ≡ 45 → minus a ≡ Some (z, j) → Written s i j (decimal z)
+    signed None f g h = clash (cc)
+    signed (Some (n, k)) f g h =
         let w = natural_written s (i + 1) n k f in
-        let y : neg_ℤ (pos n) ≡ z = cc in
-        let x : k ≡ j = cc in
+        let parts = some_pair_parts (neg_ℤ (pos n)) z k j h in
+        let y = parts.0 in
+        let x = parts.1 in
         subst (λ (m : ℕ). Written s i m (decimal z)) x (subst (λ (v : ℤ). Written s i k (decimal v)) y
         (subst (λ (xs : List ℕ). Written s i k xs) (sym (negative_decimal n w.1))
         (written_both s i (i + 1) k (45 ∷ []) (digits 10 n) (byte_written s i 45 (omega arith) g) w.0)))
 
-    plain : (a : Natural) → natural_at s i ≡ a → plus a ≡ IsNumber z j → Written s i j (decimal z)
-    plain NoNatural f h = clash (cc)
-    plain (IsNatural n k) f h = within_range (leb n 2147483647) h
+    plain : (a : Option (ℕ × ℕ)) → natural_at s i ≡ a → plus a ≡ Some (z, j) → Written s i j (decimal z)
+    plain None f h = clash (cc)
+    plain (Some (n, k)) f h = within_range (leb n 2147483647) h
       where
-        within_range : (t : Bool) → ◌≡◌ {A = Number} (cond t (IsNumber (pos n) k) NoNumber) (IsNumber z j) → Written s i j (decimal z)
+        within_range : (t : Bool) → ◌≡◌ {A = Option (ℤ × ℕ)} (cond t (Some (pos n, k)) None) (Some (z, j)) → Written s i j (decimal z)
         within_range false q = clash (cc)
         within_range true q =
-            let y : pos n ≡ z = cc in
-            let x : k ≡ j = cc in
+            let parts = some_pair_parts (pos n) z k j q in
+            let y = parts.0 in
+            let x = parts.1 in
             subst (λ (m : ℕ). Written s i m (decimal z)) x (subst (λ (v : ℤ). Written s i k (decimal v)) y
             (subst (λ (xs : List ℕ). Written s i k xs) (sym (positive_decimal n)) (natural_written s i n k f).0))
 
-    either : (t : Bool) → eqb (byte s i) 48 ≡ t → (u : Bool) → eqb (byte s i) 45 ≡ u → (a : Natural) → natural_at s (i + 1) ≡ a → (b : Natural)
+    either : (t : Bool) → eqb (byte s i) 48 ≡ t → (u : Bool) → eqb (byte s i) 45 ≡ u → (a : Option (ℕ × ℕ)) → natural_at s (i + 1) ≡ a
+        → (b : Option (ℕ × ℕ))
         → natural_at s i ≡ b
-        → cond t (IsNumber (pos 0) (i + 1)) (cond u (minus a) (plus b)) ≡ IsNumber z j → Written s i j (decimal z)
+        → cond t (Some (pos 0, i + 1)) (cond u (minus a) (plus b)) ≡ Some (z, j) → Written s i j (decimal z)
     either true f u g a p b q h =
-        let y : pos 0 ≡ z = cc in
-        let x : i + 1 ≡ j = cc in
+        let parts = some_pair_parts (pos 0) z (i + 1) j h in
+        let y = parts.0 in
+        let x = parts.1 in
         subst (λ (m : ℕ). Written s i m (decimal z)) x (subst (λ (v : ℤ). Written s i (i + 1) (decimal v)) y
         (subst (Written s i (i + 1)) (sym zero_decimal) (byte_written s i 48 (omega arith) (eqb-true (byte s i) 48 f))))
     either false f true g a p b q h = signed a p (eqb-true (byte s i) 45 g) h

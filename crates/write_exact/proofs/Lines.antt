@@ -10,9 +10,8 @@ use borrow.Author.Tests.{eq-eqb, ne_eqb}
 use lib.ListN.{length, drop, length-append}
 use lib.Seq.{drop-drop, drop-append_seam}
 use lib.IntN.{ℤ, pos}
-use Rattle.text_numbers.specs.declared.numerals.Number.TheVariants.{IsNumber}
+use Rattle.std.specs.Prelude.{Some, None}
 use Rattle.text_numbers.specs.Numerals.{byte, is_digit, number_at}
-use Rattle.text_forms.specs.declared.pairs.Pair.TheVariants.{IsPair, NoPair}
 use Rattle.text_forms.specs.Pairs.{starts_with, word_at, number_then, pair_at, spaced_pair_at}
 use Rattle.text_forms.specs.declared.forms.Points.{Points}
 use Rattle.text_forms.specs.declared.forms.Form.{Form}
@@ -49,16 +48,16 @@ word_read w s i j h = ap (starts_with w) h.bytes_there ∙ starts_itself w (drop
 
 -- ---- pairs
 then_read : (b : ℕ) (s : List ℕ) (i : ℕ) (z : ℤ) (j : ℕ) → is_digit b ≡ false → In32 z → Written s i j (decimal z ++ (b ∷ []))
-    → number_then b s i ≡ IsNumber z j
+    → number_then b s i ≡ Some (z, j)
 unfolding number_then
 then_read b s i z j d h w =
     let k = i + length (decimal z) in
     let last = back s i j (decimal z) (b ∷ []) w in
     let e : byte s k ≡ b = byte_of s k b (drop j s) last.bytes_there in
-    let n : number_at s i ≡ IsNumber z k = number_read s i z k h (front s i j (decimal z) (b ∷ []) w) (ap is_digit e ∙ d) in
-    rw (number_then, n, eq-eqb (byte s k) b e) (ap (IsNumber z) (sym last.end_there))
+    let n : number_at s i ≡ Some (z, k) = number_read s i z k h (front s i j (decimal z) (b ∷ []) w) (ap is_digit e ∙ d) in
+    rw (number_then, n, eq-eqb (byte s k) b e) (ap (λ (k : ℕ). Some (z, k)) (sym last.end_there))
 
-pair_read : (s : List ℕ) (i : ℕ) (x y : ℤ) (j : ℕ) → In32 x → In32 y → Written s i j (pair_bytes x y) → spaced_pair_at s i ≡ IsPair x y j
+pair_read : (s : List ℕ) (i : ℕ) (x y : ℤ) (j : ℕ) → In32 x → In32 y → Written s i j (pair_bytes x y) → spaced_pair_at s i ≡ Some (x, y, j)
 unfolding spaced_pair_at pair_at pair_bytes
 pair_read s i x y j hx hy w =
     let first = decimal x ++ (32 ∷ []) in
@@ -66,8 +65,8 @@ pair_read s i x y j hx hy w =
     let inner = back s i j (32 ∷ []) (40 ∷ (first ++ second)) w in
     let numbers = back s (i + 1) j (40 ∷ []) (first ++ second) inner in
     let k = i + 1 + 1 + length first in
-    let ex : number_then 32 s (i + 1 + 1) ≡ IsNumber x k = then_read 32 s (i + 1 + 1) x k refl hx (front s (i + 1 + 1) j first second numbers) in
-    let ey : number_then 41 s k ≡ IsNumber y j = then_read 41 s k y j refl hy (back s (i + 1 + 1) j first second numbers) in
+    let ex : number_then 32 s (i + 1 + 1) ≡ Some (x, k) = then_read 32 s (i + 1 + 1) x k refl hx (front s (i + 1 + 1) j first second numbers) in
+    let ey : number_then 41 s k ≡ Some (y, j) = then_read 41 s k y j refl hy (back s (i + 1 + 1) j first second numbers) in
     simp (
       eq-eqb (byte s i) 32 (byte_of s i 32 (40 ∷ (first ++ second) ++ drop j s) w.bytes_there),
       eq-eqb (byte s (i + 1)) 40 (byte_of s (i + 1) 40 (first ++ second ++ drop j s) inner.bytes_there),
@@ -75,7 +74,7 @@ pair_read s i x y j hx hy w =
       ey,
     )
 
-no_pair : (s : List ℕ) (i j : ℕ) → Written s i j closing → spaced_pair_at s i ≡ NoPair
+no_pair : (s : List ℕ) (i j : ℕ) → Written s i j closing → spaced_pair_at s i ≡ None
 unfolding spaced_pair_at
 no_pair s i j w =
     let b = byte_of s i 41 (10 ∷ drop j s) w.bytes_there in
@@ -85,7 +84,7 @@ no_pair s i j w =
 closed : (s : List ℕ) (i j : ℕ) → Written s i j closing → (word_at closing s i ≡ true) × (i + 2 ≡ j)
 closed s i j w = (word_read closing s i j w, sym w.end_there)
 
-tolerance_read : (s : List ℕ) (i : ℕ) (T : ℤ) (j : ℕ) → In32 T → Written s i j (tolerance_line T) → form_at s i ≡ Tolerance T j
+tolerance_read : (s : List ℕ) (i : ℕ) (T : ℤ) (j : ℕ) → In32 T → Written s i j (tolerance_line T) → form_at s i ≡ Some (Tolerance T j)
 unfolding tolerance_line form_at tolerance_form_at
 tolerance_read s i T j h w =
     let k = i + length (tolerance_word ++ decimal T) in
@@ -93,8 +92,9 @@ tolerance_read s i T j h w =
     let end = back s i j (tolerance_word ++ decimal T) closing w in
     let e = closed s k j end in
     let d : byte s k ≡ 41 = byte_of s k 41 (10 ∷ drop j s) end.bytes_there in
-    let n : number_at s (i + 11) ≡ IsNumber T k = number_read s (i + 11) T k h (back s i k tolerance_word (decimal T) head) (ap is_digit d) in
-    simp (word_read tolerance_word s i (i + 11) (front s i k tolerance_word (decimal T) head)) (rw (tolerance_form_at, n, e.0) (ap (Tolerance T) e.1))
+    let n : number_at s (i + 11) ≡ Some (T, k) = number_read s (i + 11) T k h (back s i k tolerance_word (decimal T) head) (ap is_digit d) in
+    simp (word_read tolerance_word s i (i + 11) (front s i k tolerance_word (decimal T) head))
+    (rw (tolerance_form_at, n, e.0) (ap (λ (k : ℕ). Some (Tolerance T k)) e.1))
 
 -- the word of a line is that of no other form
 curve_word_law : (s : List ℕ) (i : ℕ) → Written s i (i + 6) curve_word → form_at s i ≡ curve_form_at s (i + 6)
@@ -110,26 +110,26 @@ point_word_law s i w =
     let another : word_at curve_word s i ≡ false = ap (starts_with curve_word) w.bytes_there in
     simp (other, another, word_read point_word s i (i + 6) w)
 
-point_read : (s : List ℕ) (i : ℕ) (x y : ℤ) (j : ℕ) → In32 x → In32 y → Written s i j (point_line x y) → form_at s i ≡ Point x y j
+point_read : (s : List ℕ) (i : ℕ) (x y : ℤ) (j : ℕ) → In32 x → In32 y → Written s i j (point_line x y) → form_at s i ≡ Some (Point x y j)
 unfolding point_line point_form_at
 point_read s i x y j hx hy w =
     let k = i + length (point_word ++ pair_bytes x y) in
     let head = front s i j (point_word ++ pair_bytes x y) closing w in
     let e = closed s k j (back s i j (point_word ++ pair_bytes x y) closing w) in
     let p = pair_read s (i + 6) x y k hx hy (back s i k point_word (pair_bytes x y) head) in
-    point_word_law s i (front s i k point_word (pair_bytes x y) head) ∙ rw (point_form_at, p, e.0) (ap (Point x y) e.1)
+    point_word_law s i (front s i k point_word (pair_bytes x y) head) ∙ rw (point_form_at, p, e.0) (ap (λ (k : ℕ). Some (Point x y k)) e.1)
 
 -- ---- curve lines, from place `start` on
 module _ (s : List ℕ) (start : ℕ) where
-  end_read : (p : Points) (i j : ℕ) → Written s i j closing → curve_end s i p ≡ Curve p j
+  end_read : (p : Points) (i j : ℕ) → Written s i j closing → curve_end s i p ≡ Some (Curve p j)
   unfolding curve_end
-  end_read p i j w = let e = closed s i j w in simp e.0 (ap (Curve p) e.1)
+  end_read p i j w = let e = closed s i j w in simp e.0 (ap (λ (k : ℕ). Some (Curve p k)) e.1)
 
-  fourth_end : (p : Points) (i j : ℕ) → Written s i j closing → curve_fourth s i p ≡ Curve p j
+  fourth_end : (p : Points) (i j : ℕ) → Written s i j closing → curve_fourth s i p ≡ Some (Curve p j)
   unfolding curve_fourth
   fourth_end p i j w = rw (curve_fourth, no_pair s i j w) (end_read p i j w)
 
-  third_end : (p : Points) (i j : ℕ) → Written s i j closing → curve_third s i p ≡ Curve p j
+  third_end : (p : Points) (i j : ℕ) → Written s i j closing → curve_third s i p ≡ Some (Curve p j)
   unfolding curve_third
   third_end p i j w = rw (curve_third, no_pair s i j w) (end_read p i j w)
 
@@ -170,7 +170,7 @@ module _ (s : List ℕ) (start : ℕ) where
           past_three k (front s start i all_three (pair_bytes x3 y3) w) ∙ rw (curve_fourth, p)
 
 -- ---- where the line of a legal form stands, this form is read
-pub form_read : (s : List ℕ) (i : ℕ) {f : Form} → Legal f → LineWritten s i f → form_at s i ≡ f
+pub form_read : (s : List ℕ) (i : ℕ) {f : Form} → Legal f → LineWritten s i (Some f) → form_at s i ≡ Some f
 unfolding curve_line
 form_read s i (tolerance {T} {j} h) w = tolerance_read s i T j h w
 form_read s i (point {x} {y} {j} hx hy) w = point_read s i x y j hx hy w
@@ -193,5 +193,5 @@ form_read s i (four {x0} {y0} {x1} {y1} {x2} {y2} {x3} {y3} {j} h) w =
     ∙ end_read s i _ k j (back s i j all closing w)
 
 -- so where a legal form is read, and only there, its line stands; `form_legal` says that no other form is read
-pub form_exactly : (s : List ℕ) (i : ℕ) {f : Form} → Legal f → (form_at s i ≡ f) ↔ LineWritten s i f
+pub form_exactly : (s : List ℕ) (i : ℕ) {f : Form} → Legal f → (form_at s i ≡ Some f) ↔ LineWritten s i (Some f)
 form_exactly s i l = (λ e. subst (LineWritten s i) e (form_written s i), form_read s i l)

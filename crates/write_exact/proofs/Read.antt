@@ -12,8 +12,7 @@ use lib.ListN.{length, drop, length-append}
 use lib.Seq.{get_or-drop, drop-drop}
 use lib.IntN.{ℤ, pos, negsuc, neg_ℤ}
 use lib.Signed.{mag}
-use Rattle.text_numbers.specs.declared.numerals.Number.TheVariants.{IsNumber}
-use Rattle.text_numbers.specs.declared.numerals.Natural.TheVariants.{IsNatural}
+use Rattle.std.specs.Prelude.{Some}
 use Rattle.text_numbers.specs.Numerals.{byte, is_digit, value_from, digit_count, natural_at, number_at}
 use Rattle.write_numbers.specs.Digits.{digits}
 use Rattle.write_numbers.specs.Decimals.{decimal}
@@ -123,7 +122,7 @@ byte_from : (s : List ℕ) (j : ℕ) → byte (drop j s) 0 ≡ byte s j
 byte_from s j = let z : j + 0 ≡ j = omega arith in get_or-drop j s 0 0 ∙ ap (byte s) z
 
 natural_read : (s : List ℕ) (i n j : ℕ) → 1 ≤ n → n ≤ 2147483648 → Written s i j (digits 10 n) → is_digit (byte s j) ≡ false
-    → natural_at s i ≡ IsNatural n j
+    → natural_at s i ≡ Some (n, j)
 unfolding natural_at
 natural_read s i n j l h w d =
     let r = digits_back 9 n (drop j s) (omega arith) in
@@ -135,12 +134,12 @@ natural_read s i n j l h w d =
     simp (v, c, b, le-leb 49 a.first a.least, le-leb a.first 57 a.most, le-leb n 2147483648 h)
 
 -- ---- a number, where its bytes stand and no digit follows
-zero_read : (s : List ℕ) (i j : ℕ) → Written s i j (48 ∷ []) → number_at s i ≡ IsNumber (pos 0) j
+zero_read : (s : List ℕ) (i j : ℕ) → Written s i j (48 ∷ []) → number_at s i ≡ Some (pos 0, j)
 unfolding number_at
-zero_read s i j w = simp (eq-eqb (byte s i) 48 (byte_of s i 48 (drop j s) w.bytes_there)) (ap (IsNumber (pos 0)) (sym w.end_there))
+zero_read s i j w = simp (eq-eqb (byte s i) 48 (byte_of s i 48 (drop j s) w.bytes_there)) (ap (λ (k : ℕ). Some (pos 0, k)) (sym w.end_there))
 
 plain_read : (s : List ℕ) (i n j : ℕ) → 1 ≤ n → n ≤ 2147483647 → Written s i j (digits 10 n) → is_digit (byte s j) ≡ false
-    → number_at s i ≡ IsNumber (pos n) j
+    → number_at s i ≡ Some (pos n, j)
 unfolding number_at
 plain_read s i n j l h w d =
     let a = digits_lead 9 n l (omega arith) in
@@ -154,7 +153,7 @@ plain_read s i n j l h w d =
     )
 
 signed_read : (s : List ℕ) (i n j : ℕ) → 1 ≤ n → n ≤ 2147483648 → Written s i j (45 ∷ digits 10 n) → is_digit (byte s j) ≡ false
-    → number_at s i ≡ IsNumber (neg_ℤ (pos n)) j
+    → number_at s i ≡ Some (neg_ℤ (pos n), j)
 unfolding number_at
 signed_read s i n j l h w d =
     let b : byte s i ≡ 45 = byte_of s i 45 (digits 10 n ++ drop j s) w.bytes_there in
@@ -165,7 +164,7 @@ signed_read s i n j l h w d =
     simp (ne_eqb (byte s i) 48 (λ e. omega arith), eq-eqb (byte s i) 45 b, natural_read s (i + 1) n j l h v d)
 
 pub number_read : (s : List ℕ) (i : ℕ) (z : ℤ) (j : ℕ) → mag z < 2 ^ 31 → Written s i j (decimal z) → is_digit (byte s j) ≡ false
-    → number_at s i ≡ IsNumber z j
+    → number_at s i ≡ Some (z, j)
 number_read s i (pos zero) j h w d = zero_read s i j (rw zero_decimal at w)
 number_read s i (pos (suc n)) j h w d = plain_read s i (suc n) j (omega arith) (omega arith) (rw (positive_decimal (suc n)) at w) d
 number_read s i (negsuc n) j h w d = signed_read s i (suc n) j (omega arith) (omega arith) (rw (negative_decimal (suc n) (omega arith)) at w) d

@@ -10,6 +10,7 @@ use borrow.Author.Tests.{le-ltb}
 use lib.ListN.{length, drop, length-drop}
 use lib.Seq.{drop-drop, drop-append_seam}
 use lib.IntN.{ℤ}
+use Rattle.std.specs.Prelude.{Some}
 use Rattle.text_forms.specs.declared.forms.Points.{Points}
 use Rattle.text_forms.specs.declared.forms.Form.TheVariants.{Tolerance, Curve, Point}
 use Rattle.text_lines.specs.Lines.{gather}
@@ -49,7 +50,7 @@ points_rest (p ∷ ps) s i late n h e =
     let y = p.1 in
     let j = i + length (point_line x y) in
     let read = form_read s i (point {x = x} {y = y} {j = j} h.0 h.1) (line_there s i (point_line x y) (points_text ps) e) in
-    let here = line_point s i (starts_inside s i 40 _ e) (Point x y j) (sym read) x y j refl in
+    let here = line_point s i (starts_inside s i 40 _ e) (Some (Point x y j)) (sym read) x y j refl in
     let r = points_rest ps s j true (n + 1) h.2 (after_line_law s i (point_line x y) (points_text ps) e) in
     record {
       no_fault = ap (fault_from late n) here ∙ r.no_fault;
@@ -84,7 +85,7 @@ curves_rest (c ∷ cs) ps s i n h k e =
     let f = e ∙ append_assoc l (curves_text cs) (points_text ps) in
     let there = line_there s i l (curves_text cs ++ points_text ps) f in
     let read = form_read s i (m.legal j) (subst (Written s i j) (sym m.keeps.line) there) in
-    let here = line_curve s i (starts_inside s i 40 _ e) (Curve p j) (sym read) p j refl in
+    let here = line_curve s i (starts_inside s i 40 _ e) (Some (Curve p j)) (sym read) p j refl in
     let r = curves_rest cs ps s j (n + 1) h.1 k (after_line_law s i l (curves_text cs ++ points_text ps) f) in
     record {
       no_fault = ap (fault_from false n) here ∙ r.no_fault;
@@ -93,7 +94,8 @@ curves_rest (c ∷ cs) ps s i n h k e =
     }
 
 -- ---- the whole text
-pub text_read : (T : ℤ) (cs : List (List (ℤ × ℤ))) (ps : List (ℤ × ℤ)) → In32 T → CurvesIn32 cs → PointsIn32 ps → length (text_of T cs ps) ≤ most_bytes
+pub text_read : (T : ℤ) (cs : List (List (ℤ × ℤ))) (ps : List (ℤ × ℤ)) → In32 T → CurvesIn32 cs → PointsIn32 ps
+    → length (text_of T cs ps) ≤ most_bytes
     → meaning (text_of T cs ps) ≡ means T (outline_of cs) ps
 unfolding meaning meaning_of text_of tolerance_line
 text_read T cs ps h k l short =
@@ -102,7 +104,7 @@ text_read T cs ps h k l short =
     let e = append_assoc (tolerance_line T) (curves_text cs) (points_text ps) in
     let rest = curves_text cs ++ points_text ps in
     let read = form_read s 0 (tolerance {T = T} {j = 0 + j} h) (line_there s 0 (tolerance_line T) rest e) in
-    let here = line_tolerance s 0 (starts_inside s 0 40 _ e) (Tolerance T (0 + j)) (sym read) T (0 + j) refl in
+    let here = line_tolerance s 0 (starts_inside s 0 40 _ e) (Some (Tolerance T (0 + j))) (sym read) T (0 + j) refl in
     let r = curves_rest cs ps s (0 + j) 2 k l (after_line_law s 0 (tolerance_line T) rest e) in
     simp (le-ltb most_bytes (length s) short)
     (ap meaning_of (lines_start s ∙ here)

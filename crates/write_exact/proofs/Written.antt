@@ -9,18 +9,16 @@ use lib.Dec.{eqb}
 use lib.ListN.{length, drop}
 use lib.Seq.{drop-drop}
 use lib.IntN.{ℤ, pos}
+use Rattle.std.proofs.lemmas.Option.{some_pair_parts}
+use Rattle.std.specs.Prelude.{Option, Some, None}
 use Rattle.integers.proofs.Clash.{clash}
-use Rattle.text_numbers.specs.declared.numerals.Number.{Number}
-use Rattle.text_numbers.specs.declared.numerals.Number.TheVariants.{IsNumber, NoNumber}
 use Rattle.text_numbers.specs.Numerals.{byte, number_at}
-use Rattle.text_forms.specs.declared.pairs.Pair.{Pair}
-use Rattle.text_forms.specs.declared.pairs.Pair.TheVariants.{IsPair, NoPair}
 use Rattle.text_forms.specs.declared.forms.Points.{Points}
-use Rattle.text_forms.specs.declared.forms.Form.{Form}
-use Rattle.text_forms.specs.declared.forms.Form.TheVariants.{Tolerance, Curve, Point, NoForm}
+use Rattle.text_forms.specs.declared.forms.Form.TheVariants.{Tolerance, Curve, Point}
 use Rattle.text_forms.specs.Pairs.{starts_with, word_at, number_then, pair_at, spaced_pair_at}
 use Rattle.text_forms.specs.Forms.{tolerance_word, curve_word, point_word, closing, points, tolerance_form_at, point_form_at, curve_end, curve_fourth}
 use Rattle.text_forms.specs.Forms.{curve_third, curve_form_at, form_at}
+use Rattle.text_lines.specs.Lines.{Line}
 use Rattle.write_numbers.specs.Decimals.{decimal}
 use Rattle.write_exact.specs.Written.{Written, pair_bytes, tolerance_line, point_line, curve_line, LineWritten}
 use Rattle.write_exact.proofs.Decimals.{written_both, byte_written, number_written}
@@ -41,56 +39,61 @@ word_written : (w s : List ℕ) (i : ℕ) → word_at w s i ≡ true → Written
 word_written w s i e = record { bytes_there = starts w (drop i s) e ∙ ap (λ (l : List ℕ). w ++ l) (drop-drop (length w) i s); end_there = refl }
 
 -- ---- pairs
-then_written : (b : ℕ) (s : List ℕ) (i : ℕ) → 0 < b → (z : ℤ) (j : ℕ) → number_then b s i ≡ IsNumber z j → Written s i j (decimal z ++ (b ∷ []))
+then_written : (b : ℕ) (s : List ℕ) (i : ℕ) → 0 < b → (z : ℤ) (j : ℕ) → number_then b s i ≡ Some (z, j) → Written s i j (decimal z ++ (b ∷ []))
 unfolding number_then
 then_written b s i h z j e = either (number_at s i) refl e
   where
-    either : (n : Number) → number_at s i ≡ n
-        → ◌≡◌ {A = Number} (elim n [ IsNumber y k ↦ cond (eqb (byte s k) b) (IsNumber y (k + 1)) NoNumber | NoNumber ↦ NoNumber ]) (IsNumber z j)
+    either : (n : Option (ℤ × ℕ)) → number_at s i ≡ n
+        → ◌≡◌ {A = Option (ℤ × ℕ)} (elim n [ Some (y, k) ↦ cond (eqb (byte s k) b) (Some (y, k + 1)) None | None ↦ None ]) (Some (z, j))
         → Written s i j (decimal z ++ (b ∷ []))
-    either NoNumber f g = clash (cc)
-    either (IsNumber y k) f g = more (eqb (byte s k) b) refl g
+    either None f g = clash (cc)
+    either (Some (y, k)) f g = more (eqb (byte s k) b) refl g
       where
-        more : (t : Bool) → eqb (byte s k) b ≡ t → ◌≡◌ {A = Number} (cond t (IsNumber y (k + 1)) NoNumber) (IsNumber z j)
+        more : (t : Bool) → eqb (byte s k) b ≡ t → ◌≡◌ {A = Option (ℤ × ℕ)} (cond t (Some (y, k + 1)) None) (Some (z, j))
             → Written s i j (decimal z ++ (b ∷ []))
         more false p q = clash (cc)
         more true p q =
-            let v : y ≡ z = cc in
-            let x : k + 1 ≡ j = cc in
+            let parts = some_pair_parts y z (k + 1) j q in
+            let v = parts.0 in
+            let x = parts.1 in
             subst (λ (m : ℕ). Written s i m (decimal z ++ (b ∷ []))) x (subst (λ (u : ℤ). Written s i (k + 1) (decimal u ++ (b ∷ []))) v
             (written_both s i k (k + 1) (decimal y) (b ∷ []) (number_written s i y k f) (byte_written s k b h (eqb-true (byte s k) b p))))
 
-pair_written : (s : List ℕ) (i : ℕ) (x y : ℤ) (j : ℕ) → pair_at s i ≡ IsPair x y j
+same_pair : (u v x y : ℤ) (l j : ℕ) → ◌≡◌ {A = Option (ℤ × ℤ × ℕ)} (Some (u, v, l)) (Some (x, y, j)) → (u ≡ x) × (v ≡ y) × (l ≡ j)
+same_pair u v x y l j e = let t : ◌≡◌ {A = ℤ × ℤ × ℕ} (u, v, l) (x, y, j) = cc in (ap (λ p. p.0) t, ap (λ p. p.1) t, ap (λ p. p.2) t)
+
+pair_written : (s : List ℕ) (i : ℕ) (x y : ℤ) (j : ℕ) → pair_at s i ≡ Some (x, y, j)
     → Written s i j (40 ∷ (decimal x ++ (32 ∷ []) ++ (decimal y ++ (41 ∷ []))))
 unfolding pair_at
 pair_written s i x y j e = either (eqb (byte s i) 40) refl (number_then 32 s (i + 1)) refl e
   where
-    second : (u : ℤ) (k : ℕ) → byte s i ≡ 40 → number_then 32 s (i + 1) ≡ IsNumber u k → (n : Number) → number_then 41 s k ≡ n
-        → ◌≡◌ {A = Pair} (elim n [ IsNumber v l ↦ IsPair u v l | NoNumber ↦ NoPair ]) (IsPair x y j)
+    second : (u : ℤ) (k : ℕ) → byte s i ≡ 40 → number_then 32 s (i + 1) ≡ Some (u, k) → (n : Option (ℤ × ℕ)) → number_then 41 s k ≡ n
+        → ◌≡◌ {A = Option (ℤ × ℤ × ℕ)} (elim n [ Some (v, l) ↦ Some (u, v, l) | None ↦ None ]) (Some (x, y, j))
         → Written s i j (40 ∷ (decimal x ++ (32 ∷ []) ++ (decimal y ++ (41 ∷ []))))
-    second u k f g NoNumber p q = clash (cc)
-    second u k f g (IsNumber v l) p q =
-        let a : u ≡ x = cc in
-        let b : v ≡ y = cc in
-        let c : l ≡ j = cc in
+    second u k f g None p q = clash (cc)
+    second u k f g (Some (v, l)) p q =
+        let parts = same_pair u v x y l j q in
+        let a = parts.0 in
+        let b = parts.1 in
+        let c = parts.2 in
         written_both s i (i + 1) j (40 ∷ []) (decimal x ++ (32 ∷ []) ++ (decimal y ++ (41 ∷ []))) (byte_written s i 40 (omega arith) f)
         (written_both s (i + 1) k j (decimal x ++ (32 ∷ [])) (decimal y ++ (41 ∷ []))
-        (then_written 32 s (i + 1) (omega arith) x k (g ∙ ap (λ (w : ℤ). IsNumber w k) a))
-        (then_written 41 s k (omega arith) y j (p ∙ ap (λ (w : ℤ). IsNumber w l) b ∙ ap (IsNumber y) c)))
+        (then_written 32 s (i + 1) (omega arith) x k (g ∙ ap (λ (w : ℤ). Some (w, k)) a))
+        (then_written 41 s k (omega arith) y j (p ∙ ap (λ (w : ℤ). Some (w, l)) b ∙ ap (λ (k : ℕ). Some (y, k)) c)))
 
-    either : (t : Bool) → eqb (byte s i) 40 ≡ t → (m : Number) → number_then 32 s (i + 1) ≡ m → ◌≡◌ {A = Pair} (cond t (elim m [
-      | IsNumber u k ↦ elim (number_then 41 s k) [ IsNumber v l ↦ IsPair u v l | NoNumber ↦ NoPair ]
-      | NoNumber ↦ NoPair
-    ]) NoPair) (IsPair x y j) → Written s i j (40 ∷ (decimal x ++ (32 ∷ []) ++ (decimal y ++ (41 ∷ []))))
+    either : (t : Bool) → eqb (byte s i) 40 ≡ t → (m : Option (ℤ × ℕ)) → number_then 32 s (i + 1) ≡ m → ◌≡◌ {A = Option (ℤ × ℤ × ℕ)} (cond t (elim m [
+      | Some (u, k) ↦ elim (number_then 41 s k) [ Some (v, l) ↦ Some (u, v, l) | None ↦ None ]
+      | None ↦ None
+    ]) None) (Some (x, y, j)) → Written s i j (40 ∷ (decimal x ++ (32 ∷ []) ++ (decimal y ++ (41 ∷ []))))
     either false f m g h = clash (cc)
-    either true f NoNumber g h = clash (cc)
-    either true f (IsNumber u k) g h = second u k (eqb-true (byte s i) 40 f) g (number_then 41 s k) refl h
+    either true f None g h = clash (cc)
+    either true f (Some (u, k)) g h = second u k (eqb-true (byte s i) 40 f) g (number_then 41 s k) refl h
 
-spaced_written : (s : List ℕ) (i : ℕ) (x y : ℤ) (j : ℕ) → spaced_pair_at s i ≡ IsPair x y j → Written s i j (pair_bytes x y)
+spaced_written : (s : List ℕ) (i : ℕ) (x y : ℤ) (j : ℕ) → spaced_pair_at s i ≡ Some (x, y, j) → Written s i j (pair_bytes x y)
 unfolding spaced_pair_at pair_bytes
 spaced_written s i x y j e = either (eqb (byte s i) 32) refl e
   where
-    either : (t : Bool) → eqb (byte s i) 32 ≡ t → cond t (pair_at s (i + 1)) NoPair ≡ IsPair x y j
+    either : (t : Bool) → eqb (byte s i) 32 ≡ t → cond t (pair_at s (i + 1)) None ≡ Some (x, y, j)
         → Written s i j (32 ∷ 40 ∷ (decimal x ++ (32 ∷ []) ++ (decimal y ++ (41 ∷ []))))
     either false f g = clash (cc)
     either true f g =
@@ -102,21 +105,21 @@ module _ (s : List ℕ) (start : ℕ) where
   closed : (front : List ℕ) (i : ℕ) → Written s start i front → word_at closing s i ≡ true → Written s start (i + 2) (front ++ closing)
   closed front i w e = written_both s start i (i + 2) front closing w (word_written closing s i e)
 
-  with_pair : (i : ℕ) (f : ℤ → ℤ → ℕ → Form) (g : Form) → ((x y : ℤ) (k : ℕ) → Written s i k (pair_bytes x y) → LineWritten s start (f x y k))
+  with_pair : (i : ℕ) (f : ℤ → ℤ → ℕ → Line) (g : Line) → ((x y : ℤ) (k : ℕ) → Written s i k (pair_bytes x y) → LineWritten s start (f x y k))
       → LineWritten s start g
-      → LineWritten s start (elim (spaced_pair_at s i) [ IsPair x y k ↦ f x y k | NoPair ↦ g ])
+      → LineWritten s start (elim (spaced_pair_at s i) [ Some (x, y, k) ↦ f x y k | None ↦ g ])
   with_pair i f g a b = either (spaced_pair_at s i) refl
     where
-      either : (r : Pair) → spaced_pair_at s i ≡ r → LineWritten s start (elim r [ IsPair x y k ↦ f x y k | NoPair ↦ g ])
-      either (IsPair x y k) e = a x y k (spaced_written s i x y k e)
-      either NoPair e = b
+      either : (r : Option (ℤ × ℤ × ℕ)) → spaced_pair_at s i ≡ r → LineWritten s start (elim r [ Some (x, y, k) ↦ f x y k | None ↦ g ])
+      either (Some (x, y, k)) e = a x y k (spaced_written s i x y k e)
+      either None e = b
 
   end_written : (p : Points) (front : List ℕ) (i : ℕ) → curve_line p ≡ front ++ closing → Written s start i front
       → LineWritten s start (curve_end s i p)
   unfolding curve_end
   end_written p front i l w = either (word_at closing s i) refl
     where
-      either : (t : Bool) → word_at closing s i ≡ t → LineWritten s start (cond t (Curve p (i + 2)) NoForm)
+      either : (t : Bool) → word_at closing s i ≡ t → LineWritten s start (cond t (Some (Curve p (i + 2))) None)
       either false f = tt
       either true f = subst (Written s start (i + 2)) (sym l) (closed front i w f)
 
@@ -147,18 +150,18 @@ module _ (s : List ℕ) (start : ℕ) where
   curve_written : (i : ℕ) → Written s start i curve_word → LineWritten s start (curve_form_at s i)
   unfolding curve_form_at
   curve_written i w =
-      with_pair i _ NoForm
-      (λ x0 y0 j v. with_pair j (λ x1 y1 k. curve_third s k (points (pos 1) x0 y0 x1 y1 (pos 0) (pos 0) (pos 0) (pos 0))) NoForm
+      with_pair i _ None
+      (λ x0 y0 j v. with_pair j (λ x1 y1 k. curve_third s k (points (pos 1) x0 y0 x1 y1 (pos 0) (pos 0) (pos 0) (pos 0))) None
       (λ x1 y1 k u. third_written x0 y0 x1 y1 k (written_both s start j k (curve_word ++ pair_bytes x0 y0) (pair_bytes x1 y1)
       (written_both s start i j curve_word (pair_bytes x0 y0) w v) u)) tt) tt
 
   point_written : (i : ℕ) → Written s start i point_word → LineWritten s start (point_form_at s i)
   unfolding point_form_at point_line
   point_written i w =
-      with_pair i (λ x y j. cond (word_at closing s j) (Point x y (j + 2)) NoForm) NoForm (λ x y j v. either x y j v (word_at closing s j) refl) tt
+      with_pair i (λ x y j. cond (word_at closing s j) (Some (Point x y (j + 2))) None) None (λ x y j v. either x y j v (word_at closing s j) refl) tt
     where
       either : (x y : ℤ) (j : ℕ) → Written s i j (pair_bytes x y) → (t : Bool) → word_at closing s j ≡ t
-          → LineWritten s start (cond t (Point x y (j + 2)) NoForm)
+          → LineWritten s start (cond t (Some (Point x y (j + 2))) None)
       either x y j v false f = tt
       either x y j v true f = closed (point_word ++ pair_bytes x y) j (written_both s start i j point_word (pair_bytes x y) w v) f
 
@@ -166,15 +169,15 @@ module _ (s : List ℕ) (start : ℕ) where
   unfolding tolerance_form_at tolerance_line
   tolerance_written i w = either (number_at s i) refl
     where
-      more : (T : ℤ) (j : ℕ) → number_at s i ≡ IsNumber T j → (t : Bool) → word_at closing s j ≡ t
-          → LineWritten s start (cond t (Tolerance T (j + 2)) NoForm)
+      more : (T : ℤ) (j : ℕ) → number_at s i ≡ Some (T, j) → (t : Bool) → word_at closing s j ≡ t
+          → LineWritten s start (cond t (Some (Tolerance T (j + 2))) None)
       more T j e false f = tt
       more T j e true f = closed (tolerance_word ++ decimal T) j (written_both s start i j tolerance_word (decimal T) w (number_written s i T j e)) f
 
-      either : (n : Number) → number_at s i ≡ n
-          → LineWritten s start (elim n [ IsNumber T j ↦ cond (word_at closing s j) (Tolerance T (j + 2)) NoForm | NoNumber ↦ NoForm ])
-      either (IsNumber T j) e = more T j e (word_at closing s j) refl
-      either NoNumber e = tt
+      either : (n : Option (ℤ × ℕ)) → number_at s i ≡ n
+          → LineWritten s start (elim n [ Some (T, j) ↦ cond (word_at closing s j) (Some (Tolerance T (j + 2))) None | None ↦ None ])
+      either (Some (T, j)) e = more T j e (word_at closing s j) refl
+      either None e = tt
 
 -- ---- whatever form is read at place i, its line stands there byte for byte
 pub form_written : (s : List ℕ) (i : ℕ) → LineWritten s i (form_at s i)
@@ -182,7 +185,7 @@ unfolding form_at
 form_written s i = either (word_at tolerance_word s i) refl (word_at curve_word s i) refl (word_at point_word s i) refl
   where
     either : (a : Bool) → word_at tolerance_word s i ≡ a → (b : Bool) → word_at curve_word s i ≡ b → (c : Bool) → word_at point_word s i ≡ c
-        → LineWritten s i (cond a (tolerance_form_at s (i + 11)) (cond b (curve_form_at s (i + 6)) (cond c (point_form_at s (i + 6)) NoForm)))
+        → LineWritten s i (cond a (tolerance_form_at s (i + 11)) (cond b (curve_form_at s (i + 6)) (cond c (point_form_at s (i + 6)) None)))
     either true e b f c g = tolerance_written s i (i + 11) (word_written tolerance_word s i e)
     either false e true f c g = curve_written s i (i + 6) (word_written curve_word s i f)
     either false e false f true g = point_written s i (i + 6) (word_written point_word s i g)

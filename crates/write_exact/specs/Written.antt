@@ -1,12 +1,12 @@
 -- Lines that a text can have, byte for byte: (tolerance 44), (curve (0 0) (10 30)) with two to four points,
 -- (point (240 363)). `form_exactly` of crates/write_exact/proofs/Lines.antt says that a line is read as a form exactly
 -- where it is one of these.
-use Rattle.std.specs.Prelude.{◌≡◌, cond, List, [], ◌∷◌, ◌++◌, ℕ, ◌+◌, length, drop, ℤ, pos}
+use Rattle.std.specs.Prelude.{◌≡◌, cond, List, [], ◌∷◌, ◌++◌, ℕ, ◌+◌, length, drop, ℤ, pos, Some, None}
 use Rattle.std.specs.Int.Signed.{lt_z}
 use Rattle.text_forms.specs.declared.forms.Points.{Points}
-use Rattle.text_forms.specs.declared.forms.Form.{Form}
-use Rattle.text_forms.specs.declared.forms.Form.TheVariants.{Tolerance, Curve, Point, NoForm}
+use Rattle.text_forms.specs.declared.forms.Form.TheVariants.{Tolerance, Curve, Point}
 use Rattle.text_forms.specs.Forms.{tolerance_word, curve_word, point_word, closing}
+use Rattle.text_lines.specs.Lines.{Line}
 use Rattle.write_numbers.specs.Decimals.{decimal}
 
 -- the bytes of a text s from place i up to place j
@@ -32,8 +32,8 @@ curve_line p =
     ++ closing
 
 -- the line of a form that was read at place `start` stands there
-abbrev pub LineWritten : List ℕ → ℕ → Form → Type 0
-LineWritten s start (Tolerance T j) = Written s start j (tolerance_line T)
-LineWritten s start (Curve p j) = Written s start j (curve_line p)
-LineWritten s start (Point x y j) = Written s start j (point_line x y)
-LineWritten s start NoForm = Unit
+abbrev pub LineWritten : List ℕ → ℕ → Line → Type 0
+LineWritten s start (Some (Tolerance T j)) = Written s start j (tolerance_line T)
+LineWritten s start (Some (Curve p j)) = Written s start j (curve_line p)
+LineWritten s start (Some (Point x y j)) = Written s start j (point_line x y)
+LineWritten s start None = Unit

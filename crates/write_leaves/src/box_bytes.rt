@@ -13,10 +13,8 @@ pub fn put_boxes(ns: &[i32], k: usize, out: &mut [u8], from: usize) -> usize
     ensures { PutWithin out.old from 200 (boxes_bytes ns.now k 4) out.new result }
 {
     let mut at = from;
-    let mut i: usize = 0;
-    while i < 4 {
+    for i in 0..4 {
         at = put_box(ns, k + 4 * i, out, at);
-        i += 1;
     }
     at
 }

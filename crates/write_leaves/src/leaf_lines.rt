@@ -14,10 +14,8 @@ pub fn put_leaves(records: &[i32], n: usize, out: &mut [u8], from: usize) -> usi
         out.new result }
 {
     let mut at = from;
-    let mut k: usize = 0;
-    while k < n {
+    for k in 0..n {
         at = put_leaf(records, 18 * k, out, at);
-        k += 1;
     }
     at
 }

@@ -21,7 +21,7 @@ pub fn put_refused(out: &mut [u8], at: usize, refusal: Refusal) -> usize
     requires { at + 52 ≤ length out.old }
     ensures { PutWithin out.old at 52 (refused_line refusal) out.new result }
 {
-    let number = refusal.number() as u64;
+    let number = u64::from(refusal.number());
     let spot = refusal.spot() as u64;
     let i = put_word(out, at, b"(refused");
     put_two(out, i, number, spot)

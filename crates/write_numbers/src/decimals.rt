@@ -1,5 +1,5 @@
 // Words and decimal numbers put into a list of bytes, one after the other. Each function asks for the room that it may
-// need, and returns the place after what it has put.
+// need, and returns the place after what it has put: memory is fixed, so what is printed goes into a lent list.
 ghost use Rattle.std.specs.Prelude.{◌≡◌, ◌+◌, ◌≤◌};
 ghost use lib.{ListN.{length}, IntN.{nat_abs}};
 ghost use Rattle.write_numbers.specs.{Appends.{Appended, PutWithin}, Decimals.{decimal, spaced, spaced_natural}};
@@ -43,22 +43,14 @@ pub fn put_word(out: &mut [u8], at: usize, word: &[u8]) -> usize
     requires { at + length word.now ≤ length out.old }
     ensures { Appended out.old at word.now out.new result }
 {
-    let mut j = 0;
-    while j < word.len() {
-        out[at + j] = word[j];
-        j += 1;
-    }
-    at + j
+    let end = at + word.len();
+    out[at..end].copy_from_slice(word);
+    end
 }
 
 // The absolute value.
 fn magnitude(value: i32) -> u64
     ensures { result ≡ nat_abs value }
 {
-    let wide = value as i64;
-    if wide < 0 {
-        (0 - wide) as u64
-    } else {
-        wide as u64
-    }
+    u64::from(value.unsigned_abs())
 }

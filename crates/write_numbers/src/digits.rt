@@ -12,10 +12,10 @@ pub fn put_digits(out: &mut [u8], at: usize, n: u64, places: usize) -> usize
         return at;
     }
     if n < 10 {
-        return put_byte(out, at, 48 + (n as u8));
+        return put_byte(out, at, b'0' + n as u8);
     }
     let i = put_digits(out, at, n / 10, places - 1);
-    put_byte(out, i, 48 + ((n % 10) as u8))
+    put_byte(out, i, b'0' + (n % 10) as u8)
 }
 
 // One byte.

@@ -4,9 +4,11 @@ use mathlib.Core.Bool.{true}
 use borrow.Author.Tests.{not-true, not-false}
 use mir.Syntax.{w64}
 use mir.Facts.{to_z-of_z, sfits_widen}
+use Rattle.std.proofs.lemmas.Result.{err_from_is_err_and}
 use Rattle.setting.specs.Setting.{Setting, pieces_fine}
 use Rattle.setting.proofs.Pieces.{fine_has_rows}
 use Rattle.outline.specs.Checks.{Outlined, tolerance_fine}
+use Rattle.band_passes.specs.Inside.{form_of}
 use Rattle.band_banded.specs.Inside.{given_of, setting_for}
 use Rattle.band_banded.proofs.Answers.{given_read, banded_read, written_curves, banded_pieces, banded_tolerance, banded_faulty, written_refused}
 use Rattle.band.proofs.band_list.Goals as goal
@@ -14,10 +16,10 @@ use Rattle.band.proofs.band_list.Goals.{Else-not-pieces_fine, Else-not-tolerance
 
 -- the setting, and what is given in it
 abbrev σ : Start → Setting
-σ s = setting_for s.args.form s.args.most s.args.leaves s.args.m
+σ s = setting_for (form_of s.args.list) s.args.most s.args.leaves s.args.m
 
 abbrev given : Start → Outlined
-given s = given_of s.args.form s.args.most s.args.m s.args.ns.now s.args.xs.now
+given s = given_of s.args.list s.args.most s.args.m
 
 pub returns-then-not-pieces_fine : goal.returns-then-not-pieces_fine
 returns-then-not-pieces_fine c =
@@ -52,21 +54,25 @@ pub band_curves-requires : goal.band_curves-requires
 band_curves-requires c =
     let a = c.args in (
       fine_has_rows a.m (rows (goal.at.band_curves-requires c).Else-not-pieces_fine),
-      (given_read a.form a.most a.leaves a.m a.ns.now a.xs.now c.requires (sym c.in-Curves.is ∙ c.check_list.ensures)).readable,
+      (given_read a.list a.most a.leaves a.m c.requires (sym c.in_ok-curves.was ∙ c.check_list.ensures)).readable,
     )
 
-pub returns-in-Faulty : goal.returns-in-Faulty
-returns-in-Faulty c =
+pub returns-in_err-curves : goal.returns-in_err-curves
+returns-in_err-curves c =
     let a = c.args in
-    let e = banded_faulty (σ (goal.at.returns-in-Faulty c).Start) (given (goal.at.returns-in-Faulty c).Start) a.tolerance _ (rows (goal.at.returns-in-Faulty c).Else-not-pieces_fine) (fine (goal.at.returns-in-Faulty c).Else-not-tolerance_fine)
-    (sym c.in-Faulty.is ∙ c.check_list.ensures) in
-    record { value = e; records_after = written_refused (σ (goal.at.returns-in-Faulty c).Start) (given (goal.at.returns-in-Faulty c).Start) a.tolerance a.records.now e }
+    let g = goal.at.returns-in_err-curves c in
+    let e = banded_faulty (σ g.Start) (given g.Start) a.tolerance _ (rows g.Else-not-pieces_fine) (fine g.Else-not-tolerance_fine)
+    (sym c.in_err-curves.was ∙ c.check_list.ensures) in
+    let p = err_from_is_err_and c.from_residual.result c.from_residual.ensures.1 in
+    rw (p.1, p.2) (record { value = e; records_after = written_refused (σ g.Start) (given g.Start) a.tolerance a.records.now e })
 
-pub returns-in-Curves : goal.returns-in-Curves
-returns-in-Curves c =
+pub returns : goal.returns
+returns c =
     let a = c.args in
-    let e = given_read a.form a.most a.leaves a.m a.ns.now a.xs.now c.requires
-    (sym c.in-Curves.is ∙ c.check_list.ensures) in
+    let g = goal.at.returns c in
+    let e = given_read a.list a.most a.leaves a.m c.requires
+    (sym c.in_ok-curves.was ∙ c.check_list.ensures) in
     let v = rw (to_z-of_z c.ranges.tolerance, to_z-of_z (sfits_widen {w' = w64} tt c.ranges.tolerance)) at c.band_curves.ensures in
-    let b = v.value ∙ banded_read (σ (goal.at.returns-in-Curves c).Start) (given (goal.at.returns-in-Curves c).Start) a.tolerance e _ (rows (goal.at.returns-in-Curves c).Else-not-pieces_fine) (fine (goal.at.returns-in-Curves c).Else-not-tolerance_fine) in
-    record { value = b; records_after = written_curves (σ (goal.at.returns-in-Curves c).Start) (given (goal.at.returns-in-Curves c).Start) a.tolerance e a.records.now _ b v.records_after }
+    let b = v.value
+    ∙ banded_read (σ g.Start) (given g.Start) a.tolerance e _ (rows g.Else-not-pieces_fine) (fine g.Else-not-tolerance_fine) in
+    record { value = b; records_after = written_curves (σ g.Start) (given g.Start) a.tolerance e a.records.now _ b v.records_after }

@@ -1,15 +1,16 @@
 -- The checks of the list that is read, by its form.
 use mathlib.Core.Path.{sym, ◌∙◌, ap}
-use Rattle.outline.specs.declared.Checked.{Checked}
+use Rattle.std.specs.Prelude.{ℕ, Result}
+use Rattle.refusals.specs.declared.Refusal.{Refusal}
 use Rattle.outline.specs.Inside.{checked_of}
-use Rattle.band_passes.specs.declared.forms.Form.{Form}
+use Rattle.band_passes.specs.declared.forms.CurveList.{CurveList}
 use Rattle.band_banded.specs.Inside.{given_of}
 use Rattle.band.proofs.check_list.Goals as goal
 use Rattle.band.proofs.check_list.Goals.{Start}
 
--- the answer, of a form
-abbrev answer : Start → Form → Checked
-answer s f = checked_of (given_of f s.args.most s.args.m s.args.ns.now s.args.xs.now)
+-- the answer, of a list
+abbrev answer : Start → CurveList → Result ℕ Refusal
+answer s l = checked_of (given_of l s.args.most s.args.m)
 
 pub returns-in-Outline : goal.returns-in-Outline
 returns-in-Outline c = c.check_outline.ensures ∙ ap (answer (goal.at.returns-in-Outline c).Start) (sym c.in-Outline.is)

@@ -1,4 +1,4 @@
--- The pass over all curves. The loop's invariant: it stands before curve k, whatever was found before. The measure is the number of curves left.
+-- The pass over all curves. The loop's invariant: it stands before curve k, whatever was found before.
 use mathlib.Core.Path.{sym, ◌∙◌}
 use Prim.Native.Nat.{◌*◌, ◌≤◌, zero-le}
 use native.Mathlib.Nat.{mul-le-mul}
@@ -42,11 +42,11 @@ see_curve-requires c =
       omega (arith, c.loop-k.invariant.ahead.done, c.requires.3.few),
     )
 
-pub returns-in-WideNode : goal.returns-in-WideNode
-returns-in-WideNode c =
+pub returns-in-Err : goal.returns-in-Err
+returns-in-Err c =
     rw (to_z-of_z c.ranges.t) at
     (comparing_wide _ _ _ _ _ _ _ c.loop-k.invariant c.loop-k-test.true c.curve_at-curve.result c.curve_at-curve.ensures
-    c.in-WideNode.node (sym c.in-WideNode.is ∙ c.see_curve.ensures))
+    c.in-Err.node (sym c.in-Err.is ∙ c.see_curve.ensures))
 
 pub loop-k-preserved : goal.loop-k-preserved
 loop-k-preserved c =
@@ -54,7 +54,7 @@ loop-k-preserved c =
     let number = c.args.number in
     rw c.next_at-at.ensures
     (comparing_on _ _ _ _ _ _ _ c.loop-k.invariant c.loop-k-test.true c.curve_at-curve.result c.curve_at-curve.ensures
-    c.in-Upto.place c.in-Upto.to (sym c.in-Upto.is ∙ c.see_curve.ensures)
+    c.in-Ok.seen (sym c.in-Ok.is ∙ c.see_curve.ensures)
     (ltb-true k number) (ltb-false k number) (leb-true k number) (leb-false k number)
     (rw c.next_at-at.ensures at c.later-first.ensures) (rw c.next_at-at.ensures at c.later-second.ensures))
 
@@ -66,9 +66,3 @@ overflow_cast-k c = omega (arith, c.loop-k.invariant.ahead.done, c.requires.3.fe
 
 pub overflow_cast-result : goal.overflow_cast-result
 overflow_cast-result c = omega (arith, c.loop-k.invariant.ahead.done, c.requires.3.few)
-
-pub overflow_add-k : goal.overflow_add-k
-overflow_add-k c = omega (arith, c.loop-k.invariant.ahead.done, c.requires.3.few)
-
-pub loop-k-smaller : goal.loop-k-smaller
-loop-k-smaller c = omega arith

@@ -46,7 +46,7 @@ try_node-requires c =
 pub returns-then-last-node : goal.returns-then-last-node
 returns-then-last-node c =
     rw (to_z-of_z c.ranges.t) at
-    (seeing_failed c.loop-part.invariant (sym c.in-Wide.is ∙ c.try_node.ensures) (rw (← c.last_of-last.ensures) c.if-last-node.true))
+    (seeing_failed c.loop-part.invariant (sym c.in-None.is ∙ c.try_node.ensures) (rw (← c.last_of-last.ensures) c.if-last-node.true))
 
 -- it has halves
 halved : (c : Else-last-node)
@@ -56,12 +56,12 @@ halved c = rw (← c.last_of-last.ensures) c.if-last-node.false
 pub left-part-requires : goal.left-part-requires
 left-part-requires c = let p = c.loop-part.invariant.walk.of in ((_, p), rw (part_degree p) (halved c))
 
-pub loop-part-smaller-in-Wide : goal.loop-part-smaller-in-Wide
-loop-part-smaller-in-Wide c = rw c.left-part.ensures (left_falls c.loop-part.invariant.walk (halved (goal.at.loop-part-smaller-in-Wide c).Else-last-node))
+pub loop-part-smaller-in-None : goal.loop-part-smaller-in-None
+loop-part-smaller-in-None c = rw c.left-part.ensures (left_falls c.loop-part.invariant.walk (halved (goal.at.loop-part-smaller-in-None c).Else-last-node))
 
-pub loop-part-preserved-in-Wide : goal.loop-part-preserved-in-Wide
-loop-part-preserved-in-Wide c =
-    rw c.left-part.ensures (seeing_left c.loop-part.invariant (sym c.in-Wide.is ∙ c.try_node.ensures) (halved (goal.at.loop-part-preserved-in-Wide c).Else-last-node))
+pub loop-part-preserved-in-None : goal.loop-part-preserved-in-None
+loop-part-preserved-in-None c =
+    rw c.left-part.ensures (seeing_left c.loop-part.invariant (sym c.in-None.is ∙ c.try_node.ensures) (halved (goal.at.loop-part-preserved-in-None c).Else-last-node))
 
 -- ---- a leaf
 pub overflow_add-place : goal.overflow_add-place
@@ -75,7 +75,7 @@ after-part-requires c = (_, c.loop-part.invariant.walk.of)
 pub returns-then-part-eq1 : goal.returns-then-part-eq1
 returns-then-part-eq1 c =
     rw (to_z-of_z c.ranges.t) at
-    (seeing_done c.loop-part.invariant (sym c.in-Narrow.is ∙ c.try_node.ensures) (record_length_is c.args.by.m) c.after-part.ensures
+    (seeing_done c.loop-part.invariant (sym c.in-Some.is ∙ c.try_node.ensures) (record_length_is c.args.by.m) c.after-part.ensures
     c.if-part-eq1.true)
 
 pub loop-part-smaller : goal.loop-part-smaller
@@ -84,5 +84,5 @@ loop-part-smaller c =
 
 pub loop-part-preserved : goal.loop-part-preserved
 loop-part-preserved c =
-    seeing_after c.loop-part.invariant (sym c.in-Narrow.is ∙ c.try_node.ensures) (record_length_is c.args.by.m) c.after-part.ensures
+    seeing_after c.loop-part.invariant (sym c.in-Some.is ∙ c.try_node.ensures) (record_length_is c.args.by.m) c.after-part.ensures
     c.if-part-eq1.false

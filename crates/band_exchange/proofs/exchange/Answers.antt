@@ -5,6 +5,7 @@ use borrow.Author.Rules.{rules}
 use borrow.Author.Tests.{not-true, not-false}
 use mir.Syntax.{w64}
 use mir.Facts.{to_z-of_z, sfits_widen}
+use Rattle.std.proofs.lemmas.Result.{err_from_is_err_and}
 use Rattle.setting.specs.Setting.{lists, pieces_fine}
 use Rattle.setting.proofs.Pieces.{fine_has_rows}
 use Rattle.outline.specs.Checks.{tolerance_fine, outlined}
@@ -49,20 +50,22 @@ pub exchange_in-requires : goal.exchange_in-requires
 exchange_in-requires c =
     let small = tolerance_few c.args.tolerance (fine (goal.at.exchange_in-requires c).Else-not-tolerance_fine) in
     rw (to_z-of_z c.ranges.tolerance, to_z-of_z (sfits_widen {w' = w64} tt c.ranges.tolerance))
-    (fine_has_rows c.args.m (rows (goal.at.exchange_in-requires c).Else-not-pieces_fine), sym c.in-Curves.is ∙ c.check_outline.ensures, search rules, small)
+    (fine_has_rows c.args.m (rows (goal.at.exchange_in-requires c).Else-not-pieces_fine), sym c.in_ok-curves.was ∙ c.check_outline.ensures, search rules, small)
 
-pub returns-in-Faulty : goal.returns-in-Faulty
-returns-in-Faulty c =
+pub returns-in_err-curves : goal.returns-in_err-curves
+returns-in_err-curves c =
     let a = c.args in
-    let both = exchanged_refused a.m a.tolerance a.outline.now a.number a.curve a.given a.records.now c.in-Faulty.refusal
-    (banded_faulty (lists a.m) (outlined 4096 a.m a.outline.now) a.tolerance _ (rows (goal.at.returns-in-Faulty c).Else-not-pieces_fine) (fine (goal.at.returns-in-Faulty c).Else-not-tolerance_fine)
-    (sym c.in-Faulty.is ∙ c.check_outline.ensures)) in
-    record { value = both.0; records_after = both.1 }
+    let g = goal.at.returns-in_err-curves c in
+    let p = err_from_is_err_and c.from_residual.result c.from_residual.ensures.1 in
+    let both = exchanged_refused a.m a.tolerance a.outline.now a.number a.curve a.given a.records.now _
+    (banded_faulty (lists a.m) (outlined 4096 a.m a.outline.now) a.tolerance _ (rows g.Else-not-pieces_fine) (fine g.Else-not-tolerance_fine)
+    (sym c.in_err-curves.was ∙ c.check_outline.ensures)) in
+    rw (p.1, p.2) (record { value = both.0; records_after = both.1 })
 
-pub returns-in-Curves : goal.returns-in-Curves
-returns-in-Curves c =
+pub returns : goal.returns
+returns c =
     let a = c.args in
     let v = rw (to_z-of_z c.ranges.tolerance, to_z-of_z (sfits_widen {w' = w64} tt c.ranges.tolerance)) at c.exchange_in.ensures in
     let e = v.value ∙ exchanged_read_law a.m a.tolerance a.outline.now a.number a.curve a.given a.records.now
-    (rows (goal.at.returns-in-Curves c).Else-not-pieces_fine) (fine (goal.at.returns-in-Curves c).Else-not-tolerance_fine) in
+    (rows (goal.at.returns c).Else-not-pieces_fine) (fine (goal.at.returns c).Else-not-tolerance_fine) in
     record { value = e; records_after = exchanged_list_law a.m a.tolerance a.outline.now a.number a.curve a.given a.records.now _ _ e v.records_after }

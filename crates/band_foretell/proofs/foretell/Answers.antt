@@ -1,71 +1,70 @@
 -- Foretelling, from the checks and the depths of the curves.
 use mathlib.Core.Path.{◌≡◌, sym, ◌∙◌, ap, subst}
-use mathlib.Core.List.{[]}
 use mathlib.Core.Bool.{true}
-use Prim.Native.Nat.{ℕ, ◌^◌, ◌≤◌}
-use borrow.Author.Tests.{not-true, not-false}
+use Prim.Native.Nat.{◌^◌, ◌≤◌}
 use lib.Dec.{lit≤}
 use lib.IntN.{ℤ, pos, nat_abs}
 use lib.Signed.{◌≤ℤ◌, pos-nat_abs, yes_non_neg}
 use mir.Syntax.{w32}
 use mir.Val.{SFits}
 use mir.Facts.{to_z-of_z}
+use Rattle.std.proofs.lemmas.Result.{err_from_is_err_and}
 use Rattle.integers.proofs.Order.{nonneg, pos_le, le_pos, ≤ℤ_trans}
 use Rattle.integers.proofs.Ranges.{stored}
 use Rattle.integers.proofs.Between.{between_low, between_high}
 use Rattle.integers.proofs.Machine.{machine, unsigned! }
 use Rattle.setting.specs.Setting.{lists, pieces_fine}
 use Rattle.setting.proofs.Pieces.{fine_has_rows}
-use Rattle.outline.specs.declared.Checked.TheVariants.{Curves}
 use Rattle.outline.specs.Checks.{tolerance_fine, outlined}
-use Rattle.band_passes.specs.declared.forms.Form.TheVariants.{Outline}
+use Rattle.band_passes.specs.Forms.{Outline}
 use Rattle.band_passes.specs.Inside.{curves_in}
 use Rattle.band_passes.proofs.Reading.{curves_count}
 use Rattle.outline.specs.Curves.{next_at, curve_at}
-use Rattle.band_banded.proofs.Answers.{Read, given_read}
+use Rattle.band_banded.proofs.Answers.{Read, outline_read}
 use Rattle.band_foretold.proofs.Answering.{foretold_pieces, unaltered, foretold_tolerance, foretold_faulty}
 use Rattle.band_foretold.proofs.Answering.{foretold_few, foretold_curves, written_curves}
 use Rattle.band_foretell.proofs.foretell.Goals as goal
-use Rattle.band_foretell.proofs.foretell.Goals.{After-check_outline, Else-not-pieces_fine, Else-not-tolerance_fine}
+use Rattle.band_foretell.proofs.foretell.Goals.{Else-not-pieces_fine, Else-not-tolerance_fine, In_ok-curves}
 
 pub returns-then-not-pieces_fine : goal.returns-then-not-pieces_fine
 returns-then-not-pieces_fine c =
     let a = c.args in
-    let e = foretold_pieces (lists a.m) a.outline.now a.tolerance _
-    (sym c.pieces_fine.ensures ∙ not-true c.pieces_fine.result c.if-not-pieces_fine.true-raw) in
+    let e = foretold_pieces (lists a.m) a.outline.now a.tolerance _ (sym c.if-not-pieces_fine.ensures) in
     record { value = e; depths_after = unaltered (lists a.m) a.outline.now a.tolerance a.depths.now e }
 
 -- past check 18
 rows : (c : Else-not-pieces_fine) → pieces_fine c.args.m ≡ true
-rows c = sym c.pieces_fine.ensures ∙ not-false c.pieces_fine.result c.if-not-pieces_fine.false-raw
+rows c = sym c.if-not-pieces_fine.ensures
 
 pub returns-then-not-tolerance_fine : goal.returns-then-not-tolerance_fine
 returns-then-not-tolerance_fine c =
     let a = c.args in
     let e = foretold_tolerance (lists a.m) a.outline.now a.tolerance (rows (goal.at.returns-then-not-tolerance_fine c).Else-not-pieces_fine) _
-    (rw (to_z-of_z c.ranges.tolerance) at (sym c.tolerance_fine.ensures
-    ∙ not-true c.tolerance_fine.result c.if-not-tolerance_fine.true-raw)) in
+    (rw (to_z-of_z c.ranges.tolerance) at (sym c.if-not-tolerance_fine.ensures)) in
     record { value = e; depths_after = unaltered (lists a.m) a.outline.now a.tolerance a.depths.now e }
 
 -- past check 1
 fine : (c : Else-not-tolerance_fine) → tolerance_fine c.args.tolerance ≡ true
-fine c =
-    rw (to_z-of_z c.ranges.tolerance) at
-    (sym c.tolerance_fine.ensures ∙ not-false c.tolerance_fine.result c.if-not-tolerance_fine.false-raw)
+fine c = rw (to_z-of_z c.ranges.tolerance) at (sym c.if-not-tolerance_fine.ensures)
+
+pub returns-in_err-curves : goal.returns-in_err-curves
+returns-in_err-curves c =
+    let a = c.args in
+    let p = err_from_is_err_and c.from_residual.result c.from_residual.ensures.1 in
+    let e = foretold_faulty (lists a.m) a.outline.now a.tolerance (rows (goal.at.returns-in_err-curves c).Else-not-pieces_fine)
+    (fine (goal.at.returns-in_err-curves c).Else-not-tolerance_fine) _ c.in_err-curves.ensures in
+    record { value = rw (p.1, p.2) e; depths_after = unaltered (lists a.m) a.outline.now a.tolerance a.depths.now e }
 
 -- past the checks of the outline: its curves
-abbrev read : (k : After-check_outline) {n : ℕ} → Curves n ≡ k.check_outline.result → let a = k.args in
-    Read (lists a.m) Outline a.outline.now (outlined 4096 a.m a.outline.now) n
-read k e =
-    let a = k.args in
-    given_read Outline 4096 1048576 a.m a.outline.now [] (lit≤ tt) (e ∙ k.check_outline.ensures)
+abbrev read : (k : In_ok-curves) → let a = k.args in Read (lists a.m) Outline a.outline.now (outlined 4096 a.m a.outline.now) k.in_ok-curves.curves
+read k = let a = k.args in outline_read 4096 1048576 a.m a.outline.now (lit≤ tt) k.in_ok-curves.ensures
 
 pub returns-then-depths-curves : goal.returns-then-depths-curves
 returns-then-depths-curves c =
     let a = c.args in
-    let n = c.in-Curves.curves in
+    let n = c.in_ok-curves.curves in
     let e = foretold_few (lists a.m) a.outline.now a.tolerance (rows (goal.at.returns-then-depths-curves c).Else-not-pieces_fine) (fine (goal.at.returns-then-depths-curves c).Else-not-tolerance_fine)
-    (curves_in Outline a.outline.now n) (read (goal.at.returns-then-depths-curves c).After-check_outline (sym c.in-Curves.is)).is (curves_count (curve_at a.outline.now) (next_at a.outline.now) n 0)
+    (curves_in Outline a.outline.now n) (read (goal.at.returns-then-depths-curves c).In_ok-curves).is (curves_count (curve_at a.outline.now) (next_at a.outline.now) n 0)
     _ c.if-depths-curves.true in
     record { value = e; depths_after = unaltered (lists a.m) a.outline.now a.tolerance a.depths.now e }
 
@@ -89,23 +88,18 @@ pub depths_of-requires : goal.depths_of-requires
 depths_of-requires c =
     let a = c.args in (
       fine_has_rows a.m (rows (goal.at.depths_of-requires c).Else-not-pieces_fine),
-      (read (goal.at.depths_of-requires c).After-check_outline (sym c.in-Curves.is)).readable,
+      (read (goal.at.depths_of-requires c).In_ok-curves).readable,
       cast-under c.ranges.tolerance (fine (goal.at.depths_of-requires c).Else-not-tolerance_fine),
       c.if-depths-curves.false,
     )
 
-pub returns-in-Faulty : goal.returns-in-Faulty
-returns-in-Faulty c =
+pub returns : goal.returns
+returns c =
     let a = c.args in
-    let e = foretold_faulty (lists a.m) a.outline.now a.tolerance (rows (goal.at.returns-in-Faulty c).Else-not-pieces_fine) (fine (goal.at.returns-in-Faulty c).Else-not-tolerance_fine) _
-    (sym c.in-Faulty.is ∙ c.check_outline.ensures) in
-    record { value = e; depths_after = unaltered (lists a.m) a.outline.now a.tolerance a.depths.now e }
-
-pub returns-else-depths-curves : goal.returns-else-depths-curves
-returns-else-depths-curves c =
-    let a = c.args in
-    let is = (read (goal.at.returns-else-depths-curves c).After-check_outline (sym c.in-Curves.is)).is in
-    let cs = curves_in Outline a.outline.now c.in-Curves.curves in
-    let w = rw (cast_is c.ranges.tolerance (fine (goal.at.returns-else-depths-curves c).Else-not-tolerance_fine)) at c.depths_of.ensures in
-    let b = w.value ∙ foretold_curves (lists a.m) a.outline.now a.tolerance (rows (goal.at.returns-else-depths-curves c).Else-not-pieces_fine) (fine (goal.at.returns-else-depths-curves c).Else-not-tolerance_fine) cs is _ in
-    record { value = b; depths_after = written_curves (lists a.m) a.outline.now a.tolerance (rows (goal.at.returns-else-depths-curves c).Else-not-pieces_fine) (fine (goal.at.returns-else-depths-curves c).Else-not-tolerance_fine) cs is a.depths.now _ b w.depths_after }
+    let r = rows (goal.at.returns c).Else-not-pieces_fine in
+    let t = fine (goal.at.returns c).Else-not-tolerance_fine in
+    let is = (read (goal.at.returns c).In_ok-curves).is in
+    let cs = curves_in Outline a.outline.now c.in_ok-curves.curves in
+    let w = rw (cast_is c.ranges.tolerance t) at c.depths_of.ensures in
+    let b = w.value ∙ foretold_curves (lists a.m) a.outline.now a.tolerance r t cs is _ in
+    record { value = b; depths_after = written_curves (lists a.m) a.outline.now a.tolerance r t cs is a.depths.now _ b w.depths_after }

@@ -1,4 +1,4 @@
--- The boxes at the break points of a curve. The loop's invariant: the boxes before i stand in their places. The measure is what is left of m + 1.
+-- The boxes at the break points of a curve. The loop's invariant: the boxes before i stand in their places.
 use mathlib.Core.Path.{◌≡◌, refl, ◌∙◌, ap}
 use mathlib.Core.List.{List}
 use Prim.Native.Nat.{ℕ, suc, ◌*◌}
@@ -34,7 +34,7 @@ terms_of-y-requires c =
     (record { least = p.2.least; most = p.3; values = (halvable (goal.at.terms_of-y-requires c).Start).y }, p.1.has.most)
 
 pub loop-i-init : goal.loop-i-init
-loop-i-init c = (omega arith, refl)
+loop-i-init c = refl
 
 -- the boxes as they are computed
 abbrev boxes : At-loop-i → ℕ → List ℤ
@@ -43,7 +43,7 @@ boxes l =
     box_by a.pieces.divisor (a.curve.degree * a.depth) a.rows.now l.terms_of-x.result l.terms_of-y.result
 
 same : (l : At-loop-i) → length l.loop-i.records ≡ length l.args.records.now
-same l = let a = l.args in kept a.records.now a.at (joined_to l.loop-i.i (boxes l)) l.loop-i.invariant.1
+same l = let a = l.args in kept a.records.now a.at (joined_to l.loop-i.i (boxes l)) l.loop-i.invariant
 
 pub put_box-requires : goal.put_box-requires
 put_box-requires c =
@@ -69,7 +69,7 @@ put_box-requires c =
 pub loop-i-preserved : goal.loop-i-preserved
 loop-i-preserved c =
     let a = c.args in
-    (omega arith, joined_more (boxes (goal.at.loop-i-preserved c).At-loop-i) (box_four _ _ _ _) a.records.now a.at c.loop-i.i c.loop-i.invariant.1 c.put_box.ensures)
+    joined_more (boxes (goal.at.loop-i-preserved c).At-loop-i) (box_four _ _ _ _) a.records.now a.at c.loop-i.i c.loop-i.invariant c.put_box.ensures
 
 pub shape_of-records : goal.shape_of-records
 shape_of-records c = same (goal.at.shape_of-records c).At-loop-i
@@ -84,7 +84,7 @@ returns c =
     (λ i hi. ap (λ (q : ℕ). box_by q (a.curve.degree * a.depth) a.rows.now c.terms_of-x.result c.terms_of-y.result i)
     (divisor_is p.1.has p.1.is)
     ∙ box_is σ p.1.has a.depth a.curve p.2 p.1.copied p.3 c.terms_of-x.ensures c.terms_of-y.ensures i hi)
-    a.records.now a.at e c.loop-i.invariant.1
+    a.records.now a.at e c.loop-i.invariant
 
 pub overflow_mul-place : goal.overflow_mul-place
 overflow_mul-place c = omega arith
@@ -92,8 +92,5 @@ overflow_mul-place c = omega arith
 pub overflow_add-place : goal.overflow_add-place
 overflow_add-place c = omega arith
 
-pub overflow_add-i : goal.overflow_add-i
-overflow_add-i c = omega arith
-
-pub loop-i-smaller : goal.loop-i-smaller
-loop-i-smaller c = omega arith
+pub overflow_add-i-end : goal.overflow_add-i-end
+overflow_add-i-end c = omega arith

@@ -21,8 +21,8 @@ returns-then-degree-lt3 c =
     let two : c.args.curve.degree ≡ 2 = omega (arith, c.if-degree-lt2.false, c.if-degree-lt3.true) in
     let ix = size_is c.difference_at.ensures c.size.ensures.0 in
     let iy = size_is c.difference_at-2.ensures c.size-2.ensures.0 in (
-      quadratic_bend c.args.curve c.larger-first.result ix iy two c.larger-first.ensures,
-      omega (arith, ix, iy, c.larger-first.ensures, difference_x c.requires.0 0, difference_y c.requires.0 0),
+      quadratic_bend c.args.curve c.max-first.result ix iy two c.max-first.ensures,
+      omega (arith, ix, iy, c.max-first.ensures, difference_x c.requires.0 0, difference_y c.requires.0 0),
     )
 
 pub difference_at-requires-3 : goal.difference_at-requires-3
@@ -38,16 +38,16 @@ returns c =
     let iy = size_is c.difference_at-2.ensures c.size-2.ensures.0 in
     let iu = size_is c.difference_at-3.ensures c.size-3.ensures.0 in
     let iv = size_is c.difference_at-4.ensures c.size-4.ensures.0 in (
-      cubic_bend c.args.curve c.larger.result ix iy iu iv three c.larger-first.ensures c.larger-second.ensures c.larger.ensures,
+      cubic_bend c.args.curve c.max.result ix iy iu iv three c.max-first.ensures c.max-second.ensures c.max.ensures,
       omega (
         arith,
         ix,
         iy,
         iu,
         iv,
-        c.larger-first.ensures,
-        c.larger-second.ensures,
-        c.larger.ensures,
+        c.max-first.ensures,
+        c.max-second.ensures,
+        c.max.ensures,
         difference_x c.requires.0 0,
         difference_y c.requires.0 0,
         difference_x c.requires.0 1,

@@ -1,7 +1,6 @@
--- The least depth at which no box is too long. The loop's invariant: `part` is bend over 4^depth. The measure is what is left of nine depths.
+-- The least depth at which no box is too long. The loop's invariant: `part` is bend over 4^depth.
 use mathlib.Core.Path.{sym, ◌∙◌}
 use Prim.Native.Nat.{◌^◌}
-use native.Mathlib.Nat.{not-suc-le-zero}
 use native.Mathlib.Omega.{arith}
 use borrow.Author.Tests.{not-true}
 use Rattle.integers.proofs.Machine.{fits!, flag! }
@@ -17,48 +16,33 @@ small c =
     let t = c.ranges.t in
     tolerance_small (flag! c.if-t-ltminus134217728.false (search (t, bounded) depth 40) tt) (flag! c.if-t-gt134217728.false (search (t, bounded) depth 40) tt)
 
-pub returns-then-t-ltminus134217728 : goal.returns-then-t-ltminus134217728
-returns-then-t-ltminus134217728 c = λ l. absurd (not-suc-le-zero l)
-
-pub returns-then-t-gt134217728 : goal.returns-then-t-gt134217728
-returns-then-t-gt134217728 c = λ l. absurd (not-suc-le-zero l)
-
 pub overflow_mul-square : goal.overflow_mul-square
 overflow_mul-square c = fits! (search (small c, bounded) depth 40) tt
 
 pub loop-depth-init : goal.loop-depth-init
-loop-depth-init c = (parted_start c.args.bend, omega arith)
+loop-depth-init c = parted_start c.args.bend
 
 pub overflow_cast-wide : goal.overflow_cast-wide
 overflow_cast-wide c =
-    record { sfits = wide_fits c.loop-depth.depth c.loop-depth.invariant.0 c.requires }
+    record { sfits = wide_fits c.loop-depth.depth c.loop-depth.invariant c.requires }
 
 pub overflow_add-wide : goal.overflow_add-wide
 overflow_add-wide c =
-    fits! (search (wide_computed c.loop-depth.depth c.loop-depth.invariant.0 c.requires, bounded) depth 40) tt
+    fits! (search (wide_computed c.loop-depth.depth c.loop-depth.invariant c.requires, bounded) depth 40) tt
 
 pub is_longer-requires : goal.is_longer-requires
 is_longer-requires c =
-    let w = wide_computed c.loop-depth.depth c.loop-depth.invariant.0 c.requires in
+    let w = wide_computed c.loop-depth.depth c.loop-depth.invariant c.requires in
     (small! (search (w, bounded) depth 40) tt, small! (search (w, bounded) depth 40) tt)
 
 pub returns-then-not-is_longer : goal.returns-then-not-is_longer
 returns-then-not-is_longer c =
-    let w = wide_computed c.loop-depth.depth c.loop-depth.invariant.0 c.requires in
-    λ _. reaches c.args.bend c.args.t c.loop-depth.depth (omega (arith, c.loop-depth-test.true)) c.loop-depth.invariant.0
+    let w = wide_computed c.loop-depth.depth c.loop-depth.invariant c.requires in
+    reaches c.args.bend c.args.t c.loop-depth.depth (omega (arith, c.loop-depth-test.true)) c.loop-depth.invariant
     (power_is (omega (arith, c.loop-depth-test.true)))
     (flag! (sym c.is_longer.ensures ∙ not-true c.is_longer.result c.if-not-is_longer.true-raw)
     (search (w, small (goal.at.returns-then-not-is_longer c).Else-t-gt134217728, bounded) depth 40) tt)
 
 pub loop-depth-preserved : goal.loop-depth-preserved
 loop-depth-preserved c =
-    (parted_next c.args.bend c.loop-depth.depth c.loop-depth.invariant.0, omega (arith, c.loop-depth-test.true))
-
-pub returns : goal.returns
-returns c = λ l. absurd (not-suc-le-zero l)
-
-pub overflow_add-depth : goal.overflow_add-depth
-overflow_add-depth c = omega arith
-
-pub loop-depth-smaller : goal.loop-depth-smaller
-loop-depth-smaller c = omega arith
+    parted_next c.args.bend c.loop-depth.depth c.loop-depth.invariant

@@ -1,10 +1,7 @@
--- The least depth at which no box is too long. The loop's invariant: `part` is bend over 4^depth. The measure is what is left of nine depths.
+-- The least depth at which no box is too long. The loop's invariant: `part` is bend over 4^depth.
 use mathlib.Core.Path.{◌≡◌}
-use Prim.Native.Nat.{◌-◌, ◌/◌, ◌^◌, ◌≤◌}
+use Prim.Native.Nat.{◌/◌, ◌^◌}
 use Rattle.band_room.proofs.leaves_by.Given as goal
 
 abbrev pub invariant-loop-depth : goal.invariant-loop-depth
-invariant-loop-depth l = (l.part ≡ l.bend / 4 ^ l.depth) × (l.depth ≤ 9)
-
-abbrev pub decreases-loop-depth : goal.decreases-loop-depth
-decreases-loop-depth l = 9 - l.depth
+invariant-loop-depth l = l.part ≡ l.bend / 4 ^ l.depth

@@ -3,6 +3,7 @@ use mathlib.Core.Path.{refl}
 use native.Mathlib.Nat.{mul-le-mul}
 use native.Mathlib.Omega.{arith}
 use mir.Facts.{to_z-of_z}
+use Rattle.std.proofs.lemmas.Option.{IfSome_then}
 use Rattle.bound_pieces.specs.Inside.{setting_of}
 use Rattle.band_room.proofs.Sure.{reaches_few}
 use Rattle.band_room.proofs.most_leaves.Goals as goal
@@ -22,5 +23,6 @@ leaves_by-requires c = mul-le-mul c.gap_for.ensures.1 c.largest_size.ensures.1
 pub returns : goal.returns
 returns c =
     let p = c.requires in
-    λ l. reaches_few (setting_of c.args.pieces) p.0 c.args.t c.args.curve p.2 p.3 c.largest_size.result c.largest_size.ensures.0
-    c.gap_for.ensures.0 refl (rw (to_z-of_z c.ranges.t) at (c.leaves_by.ensures l))
+    IfSome_then c.leaves_by.result (rw (to_z-of_z c.ranges.t) at c.leaves_by.ensures)
+    (λ n r. reaches_few (setting_of c.args.pieces) p.0 c.args.t c.args.curve p.2 p.3 c.largest_size.result c.largest_size.ensures.0
+    c.gap_for.ensures.0 refl r)

@@ -6,7 +6,7 @@ use lib.Ieee.Casts.{to_signed_in}
 use mir.ValLaws.{to_z-of_z}
 use Rattle.binary64.proofs.Near.{cut_fits, near_low, near_high, near_is, too_low, too_high}
 use Rattle.binary64.proofs.is_near.Goals as goal
-use Rattle.binary64.proofs.is_near.Goals.{After-truncating_f64_to_i64-cut}
+use Rattle.binary64.proofs.is_near.Goals.{After-truncating_f64_to_i64-cut, else-x-via-then-x+else-x-2, else-x-via-else-x}
 
 pub truncating_f64_to_i64-cut-requires : goal.truncating_f64_to_i64-cut-requires
 unfolding of_bits neg
@@ -38,10 +38,7 @@ returns-then-x-2 c =
     ∙ ap (λ (z : ℤ). eq (of_int binary64 z) x) (to_z-of_z w32 (to_signed 63 x) (cut_fits x p q))
     ∙ near_is x (search rules) p q
 
-pub returns-else-x-2 : goal.returns-else-x-2
+pub returns : goal.returns
 unfolding of_bits neg
-returns-else-x-2 c = too_high c.args.x c.if-x-2.false
-
-pub returns-else-x : goal.returns-else-x
-unfolding of_bits neg
-returns-else-x c = too_low c.args.x c.if-x.false
+returns c =
+    elim c.else-x.branch [ else-x-via-then-x+else-x-2 w ↦ too_high c.args.x w.if-x-2.false | else-x-via-else-x w ↦ too_low c.args.x w.if-x.false ]

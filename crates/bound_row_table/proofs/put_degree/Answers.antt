@@ -1,4 +1,4 @@
--- The rows of some second differences. The loop's invariant: the rows before k were put. The measure is what is left of n.
+-- The rows of some second differences. The loop's invariant: the rows before k were put.
 use mathlib.Core.Path.{◌≡◌}
 use native.Mathlib.Omega.{arith}
 use Rattle.bound_row_table.proofs.Copying.{row_inside, rows_none, rows_more}
@@ -7,20 +7,20 @@ use Rattle.bound_row_table.proofs.put_degree.Goals as goal
 pub put_row-requires : goal.put_row-requires
 put_row-requires c =
     let inside = row_inside c.args.m c.loop-k-test.true in
-    (c.requires.0, omega (arith, inside), c.requires.2, omega (arith, c.loop-k.invariant.1.whole))
+    (c.requires.0, omega (arith, inside), c.requires.2, omega (arith, c.loop-k.invariant.whole))
 
 pub loop-k-preserved : goal.loop-k-preserved
 loop-k-preserved c =
-    (omega arith, rows_more c.requires.2 c.put_row.ensures c.loop-k.invariant.1)
+    rows_more c.requires.2 c.put_row.ensures c.loop-k.invariant
 
 pub shape_of-rows : goal.shape_of-rows
-shape_of-rows c = c.loop-k.invariant.1.whole
+shape_of-rows c = c.loop-k.invariant.whole
 
 pub returns : goal.returns
-returns c = let e : c.loop-k.k ≡ c.args.n = omega arith in rw e at c.loop-k.invariant.1
+returns c = let e : c.loop-k.k ≡ c.args.n = omega arith in rw e at c.loop-k.invariant
 
 pub loop-k-init : goal.loop-k-init
-loop-k-init c = (omega arith, rows_none)
+loop-k-init c = rows_none
 
 pub overflow_mul-k : goal.overflow_mul-k
 overflow_mul-k c = omega arith
@@ -39,9 +39,3 @@ overflow_mul-k-in-loop-k c = omega (arith, row_inside c.args.m c.loop-k-test.tru
 
 pub overflow_add-from : goal.overflow_add-from
 overflow_add-from c = omega (arith, row_inside c.args.m c.loop-k-test.true)
-
-pub overflow_add-k : goal.overflow_add-k
-overflow_add-k c = omega arith
-
-pub loop-k-smaller : goal.loop-k-smaller
-loop-k-smaller c = omega arith

@@ -1,10 +1,6 @@
--- The rows of some second differences. The loop's invariant: the rows before k were put. The measure is what is left of n.
-use Prim.Native.Nat.{◌≤◌, ◌-◌}
+-- The rows of some second differences. The loop's invariant: the rows before k were put.
 use Rattle.bound_row_table.specs.Inside.{PutRows}
 use Rattle.bound_row_table.proofs.put_degree.Given as goal
 
 abbrev pub invariant-loop-k : goal.invariant-loop-k
-invariant-loop-k l = (l.k ≤ l.n) × PutRows l.at l.k l.m l.from l.initial.rows l.rows
-
-abbrev pub decreases-loop-k : goal.decreases-loop-k
-decreases-loop-k l = l.n - l.k
+invariant-loop-k l = PutRows l.at l.k l.m l.from l.initial.rows l.rows

@@ -1,4 +1,4 @@
--- The rows of one second difference. The loop's invariant: the numbers of the break points before i were put. The measure is what is left of m + 1.
+-- The rows of one second difference. The loop's invariant: the numbers of the break points before i were put.
 use mathlib.Core.Path.{◌≡◌}
 use Prim.Native.Nat.{◌+◌}
 use native.Mathlib.Omega.{arith}
@@ -11,20 +11,18 @@ use Rattle.bound_row_table.proofs.put_row.Goals as goal
 pub loop-i-preserved : goal.loop-i-preserved
 loop-i-preserved c =
     let a = c.args in
-    let p = c.requires in (
-      omega arith,
-      row_more a.m a.from p.0 (omega arith) p.3 (is! (search products depth 40) tt) (is! (search products depth 40) tt)
-          (is! (search products depth 40) tt) c.loop-i.invariant.1,
-    )
+    let p = c.requires in
+    row_more a.m a.from p.0 (omega arith) p.3 (is! (search products depth 40) tt) (is! (search products depth 40) tt)
+    (is! (search products depth 40) tt) c.loop-i.invariant
 
 pub shape_of-rows : goal.shape_of-rows
-shape_of-rows c = c.loop-i.invariant.1.whole
+shape_of-rows c = c.loop-i.invariant.whole
 
 pub returns : goal.returns
-returns c = let e : c.loop-i.i ≡ c.args.m + 1 = omega arith in rw e at c.loop-i.invariant.1
+returns c = let e : c.loop-i.i ≡ c.args.m + 1 = omega arith in rw e at c.loop-i.invariant
 
 pub loop-i-init : goal.loop-i-init
-loop-i-init c = (omega arith, put_none)
+loop-i-init c = put_none
 
 pub overflow_cast-high : goal.overflow_cast-high
 overflow_cast-high c = fits! (search products depth 40) tt

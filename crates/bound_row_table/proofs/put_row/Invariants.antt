@@ -1,11 +1,8 @@
--- The rows of one second difference. The loop's invariant: the numbers of the break points before i were put. The measure is what is left of m + 1.
-use Prim.Native.Nat.{◌≤◌, ◌-◌, ◌+◌, ◌*◌}
+-- The rows of one second difference. The loop's invariant: the numbers of the break points before i were put.
+use Prim.Native.Nat.{◌*◌}
 use Rattle.bound_rows.specs.Table.{row_from}
 use Rattle.bound_row_table.specs.Inside.{copied_number, Put}
 use Rattle.bound_row_table.proofs.put_row.Given as goal
 
 abbrev pub invariant-loop-i : goal.invariant-loop-i
-invariant-loop-i l = (l.i ≤ l.m + 1) × Put l.at (3 * l.i) (copied_number l.m (row_from l.m l.from)) l.initial.rows l.rows
-
-abbrev pub decreases-loop-i : goal.decreases-loop-i
-decreases-loop-i l = l.m + 1 - l.i
+invariant-loop-i l = Put l.at (3 * l.i) (copied_number l.m (row_from l.m l.from)) l.initial.rows l.rows

@@ -1,4 +1,4 @@
--- The test of a node by its boxes. The loop's invariant: no box before i is too long. The measure is what is left of m + 1.
+-- The test of a node by its boxes. The loop's invariant: no box before i is too long.
 use mathlib.Core.Path.{◌∙◌}
 use Prim.Native.Nat.{◌*◌}
 use native.Mathlib.Omega.{arith}
@@ -64,11 +64,8 @@ returns c = boxes_pass (boxes (goal.at.returns c).After-terms_of-y) c.loop-i.inv
 pub loop-i-init : goal.loop-i-init
 loop-i-init c = passed_none
 
-pub overflow_add-i : goal.overflow_add-i
-overflow_add-i c = omega (arith, c.requires.0.has.most)
-
-pub loop-i-smaller : goal.loop-i-smaller
-loop-i-smaller c = omega arith
+pub overflow_add-i-end : goal.overflow_add-i-end
+overflow_add-i-end c = omega (arith, c.requires.0.has.most)
 
 pub loop-i-preserved : goal.loop-i-preserved
 loop-i-preserved c = passed_next c.loop-i.invariant (omega arith) c.is_wide.ensures c.if-is_wide.false

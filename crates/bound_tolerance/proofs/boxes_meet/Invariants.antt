@@ -1,11 +1,7 @@
--- The test of a node by its boxes. The loop's invariant: no box before i is too long. The measure is what is left of m + 1.
-use Prim.Native.Nat.{◌+◌, ◌-◌}
+-- The test of a node by its boxes. The loop's invariant: no box before i is too long.
 use Rattle.bound_pieces.specs.Inside.{across_by}
 use Rattle.bound_tolerance.proofs.ToleranceLaws.{Passed}
 use Rattle.bound_tolerance.proofs.boxes_meet.Given as goal
 
 abbrev pub invariant-loop-i : goal.invariant-loop-i
 invariant-loop-i l = Passed l.m l.square (across_by l.divisor l.shift l.rows l.x l.y) l.i
-
-abbrev pub decreases-loop-i : goal.decreases-loop-i
-decreases-loop-i l = l.m + 1 - l.i

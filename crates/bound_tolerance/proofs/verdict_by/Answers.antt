@@ -41,12 +41,12 @@ pub sums-y-requires : goal.sums-y-requires
 sums-y-requires c = let p = c.requires in (p.0, p.1, boundable_y p.2 p.3 p.4)
 
 pub rounded_up-width-requires : goal.rounded_up-width-requires
-rounded_up-width-requires c = rounding_asked 3750 tt (shift_small c.requires.3 c.requires.4) (omega (arith, under (goal.at.rounded_up-width-requires c).After-sums-y, c.larger.ensures))
+rounded_up-width-requires c = rounding_asked 3750 tt (shift_small c.requires.3 c.requires.4) (omega (arith, under (goal.at.rounded_up-width-requires c).After-sums-y, c.max.ensures))
 
 pub returns-then-not-is_longer : goal.returns-then-not-is_longer
 returns-then-not-is_longer c =
     close_meets (setting_of c.args.pieces) c.requires.0 c.args.t c.requires.2 c.requires.3 c.sums-x.ensures c.sums-y.ensures
-    c.larger.ensures c.larger-2.ensures
+    c.max.ensures c.max-2.ensures
     (flag! (sym c.is_longer.ensures ∙ not-true c.is_longer.result c.if-not-is_longer.true-raw)
     (search (c.rounded_up-width.ensures, c.rounded_up-height.ensures, c.requires.5, bounded) depth 40) tt)
 
@@ -61,7 +61,7 @@ pub returns-then-is_longer : goal.returns-then-is_longer
 returns-then-is_longer c =
     let exact = sym c.is_exact.ensures ∙ c.if-is_exact.true in
     wider_fails (setting_of c.args.pieces) c.requires.0 c.args.t c.requires.2 c.requires.3 c.sums-x.ensures c.sums-y.ensures exact
-    c.larger.ensures (elim c.if-x1-x2.branch [
+    c.max.ensures (elim c.if-x1-x2.branch [
       | then-x1-x2 w ↦ inl (w.if-x1-x2.true, w.there-is)
       | else-x1-x2 w ↦ inr (w.if-x1-x2.false, w.there-is)
     ])
@@ -134,7 +134,7 @@ pub overflow_sub-more : goal.overflow_sub-more
 overflow_sub-more c = rw (unit_is 3750 tt (shift_small c.requires.3 c.requires.4)) (unit_some 3750 (c.args.curve.degree * c.args.depth) (lit≤ tt))
 
 pub rounded_up-height-requires : goal.rounded_up-height-requires
-rounded_up-height-requires c = rounding_asked 3750 tt (shift_small c.requires.3 c.requires.4) (omega (arith, under (goal.at.rounded_up-height-requires c).After-sums-y, c.larger-2.ensures))
+rounded_up-height-requires c = rounding_asked 3750 tt (shift_small c.requires.3 c.requires.4) (omega (arith, under (goal.at.rounded_up-height-requires c).After-sums-y, c.max-2.ensures))
 
 pub overflow_add-width : goal.overflow_add-width
 overflow_add-width c = more_fits c.rounded_up-width.ensures

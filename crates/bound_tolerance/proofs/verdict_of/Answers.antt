@@ -11,7 +11,8 @@ use Rattle.bound_pieces.proofs.Boxes.{low_takes}
 use Rattle.bound_pieces.proofs.Apart.{below_meets, above_meets, tolerance_small}
 use Rattle.bound_tolerance.specs.Verdicts.{VerdictRight}
 use Rattle.bound_tolerance.proofs.verdict_of.Goals as goal
-use Rattle.bound_tolerance.proofs.verdict_of.Goals.{Else-t-gt134217728}
+use Rattle.bound_tolerance.proofs.verdict_of.Goals.{Else-t-gt134217728, then-t-ltminus134217728-via-then-t-ltminus134217728}
+use Rattle.bound_tolerance.proofs.verdict_of.Goals.{then-t-ltminus134217728-via-else-t-ltminus134217728+then-t-gt134217728}
 
 small : (c : Else-t-gt134217728) → Small (2 ^ 27) c.args.t
 small c =
@@ -20,13 +21,15 @@ small c =
 
 pub returns-then-t-ltminus134217728 : goal.returns-then-t-ltminus134217728
 returns-then-t-ltminus134217728 c =
-    below_meets (setting_of c.args.pieces) c.requires.0 c.args.t c.args.depth c.args.curve c.requires.2
-    (low_takes c.args.curve.degree c.args.pieces.m c.requires.3) (lt_yes (flag! c.if-t-ltminus134217728.true (search (c.ranges.t, bounded) depth 40) tt))
-
-pub returns-then-t-gt134217728 : goal.returns-then-t-gt134217728
-returns-then-t-gt134217728 c =
-    above_meets (setting_of c.args.pieces) c.requires.0 c.args.t c.args.depth c.args.curve c.requires.2
-    (low_takes c.args.curve.degree c.args.pieces.m c.requires.3) (lt_yes (flag! c.if-t-gt134217728.true (search (c.ranges.t, bounded) depth 40) tt))
+    let a = c.args in
+    let p = c.requires in
+    let takes = low_takes a.curve.degree a.pieces.m p.3 in
+    elim c.then-t-ltminus134217728.branch [
+      | then-t-ltminus134217728-via-then-t-ltminus134217728 w ↦ below_meets (setting_of a.pieces) p.0 a.t a.depth a.curve p.2 takes
+          (lt_yes (flag! w.if-t-ltminus134217728.true (search (c.ranges.t, bounded) depth 40) tt))
+      | then-t-ltminus134217728-via-else-t-ltminus134217728+then-t-gt134217728 w ↦ above_meets (setting_of a.pieces) p.0 a.t a.depth a.curve p.2 takes
+          (lt_yes (flag! w.if-t-gt134217728.true (search (c.ranges.t, bounded) depth 40) tt))
+    ]
 
 pub verdict_by-requires : goal.verdict_by-requires
 verdict_by-requires c =

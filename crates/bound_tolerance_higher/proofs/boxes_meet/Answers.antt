@@ -1,4 +1,4 @@
--- The test of a node of degree 4 or 5 by its boxes. The loop's invariant: no box before i is too long. The measure is what is left of m + 1.
+-- The test of a node of degree 4 or 5 by its boxes. The loop's invariant: no box before i is too long.
 use Prim.Native.Nat.{◌*◌}
 use native.Mathlib.Nat.{mul-le-mul}
 use native.Mathlib.Omega.{arith}
@@ -53,11 +53,8 @@ loop-i-init c = passed_none
 pub returns-then-is_wide : goal.returns-then-is_wide
 returns-then-is_wide c = box_fails (boxes (goal.at.returns-then-is_wide c).After-higher_of-y) c.loop-i.i (omega arith) c.is_wide.ensures c.if-is_wide.true
 
-pub overflow_add-i : goal.overflow_add-i
-overflow_add-i c = omega (arith, c.requires.0.has.most)
-
-pub loop-i-smaller : goal.loop-i-smaller
-loop-i-smaller c = omega arith
+pub overflow_add-i-end : goal.overflow_add-i-end
+overflow_add-i-end c = omega (arith, c.requires.0.has.most)
 
 pub loop-i-preserved : goal.loop-i-preserved
 loop-i-preserved c = passed_next c.loop-i.invariant (omega arith) c.is_wide.ensures c.if-is_wide.false

@@ -26,6 +26,8 @@ use Rattle.bound_tolerance.proofs.ToleranceLaws.{square_fits, square_is}
 use Rattle.bound_tolerance_higher.proofs.HigherLaws.{most_covers_times, times_reaches, first_reaches, last_reaches, spread, spread_at}
 use Rattle.bound_tolerance_higher.proofs.verdict_of.Goals as goal
 use Rattle.bound_tolerance_higher.proofs.verdict_of.Goals.{After-sizes_of-y, Else-t-gt134217728, Start}
+use Rattle.bound_tolerance_higher.proofs.verdict_of.Goals.{then-t-ltminus134217728-via-then-t-ltminus134217728}
+use Rattle.bound_tolerance_higher.proofs.verdict_of.Goals.{then-t-ltminus134217728-via-else-t-ltminus134217728+then-t-gt134217728}
 
 -- ---- what the code knows of the tolerance, once it is tested
 small : (c : Else-t-gt134217728) → Small (2 ^ 27) c.args.t
@@ -41,13 +43,15 @@ takes s = many_takes s.args.curve.degree s.args.pieces.m s.requires.2
 
 pub returns-then-t-ltminus134217728 : goal.returns-then-t-ltminus134217728
 returns-then-t-ltminus134217728 c =
-    below_meets (setting_of c.args.pieces) c.requires.0 c.args.t c.args.depth c.args.curve c.requires.3 (takes (goal.at.returns-then-t-ltminus134217728 c).Start)
-    (lt_yes (flag! c.if-t-ltminus134217728.true (search (c.ranges.t, bounded) depth 40) tt))
-
-pub returns-then-t-gt134217728 : goal.returns-then-t-gt134217728
-returns-then-t-gt134217728 c =
-    above_meets (setting_of c.args.pieces) c.requires.0 c.args.t c.args.depth c.args.curve c.requires.3 (takes (goal.at.returns-then-t-gt134217728 c).Start)
-    (lt_yes (flag! c.if-t-gt134217728.true (search (c.ranges.t, bounded) depth 40) tt))
+    let a = c.args in
+    let p = c.requires in
+    let enough = takes (goal.at.returns-then-t-ltminus134217728 c).Start in
+    elim c.then-t-ltminus134217728.branch [
+      | then-t-ltminus134217728-via-then-t-ltminus134217728 w ↦ below_meets (setting_of a.pieces) p.0 a.t a.depth a.curve p.3 enough
+          (lt_yes (flag! w.if-t-ltminus134217728.true (search (c.ranges.t, bounded) depth 40) tt))
+      | then-t-ltminus134217728-via-else-t-ltminus134217728+then-t-gt134217728 w ↦ above_meets (setting_of a.pieces) p.0 a.t a.depth a.curve p.3 enough
+          (lt_yes (flag! w.if-t-gt134217728.true (search (c.ranges.t, bounded) depth 40) tt))
+    ]
 
 pub gaps_for-gaps-requires : goal.gaps_for-gaps-requires
 gaps_for-gaps-requires c = let p = c.requires in (p.0, p.1, p.4, p.3.most)

@@ -2,8 +2,8 @@
 use Rattle.boxes_binary64.proofs.Checked.{faulty, fine}
 use Rattle.boxes_binary64.proofs.hand_out.Goals as goal
 
-pub returns-then-place-lt4 : goal.returns-then-place-lt4
-returns-then-place-lt4 c = faulty c.args.b c.fault-place.ensures c.if-place-lt4.true
+pub returns-in-Some : goal.returns-in-Some
+returns-in-Some c = faulty c.args.b c.in-Some.ensures
 
-pub returns : goal.returns
-returns c = (fine c.args.b c.fault-place.ensures c.if-place-lt4.false, c.in_units.ensures)
+pub returns-in-None : goal.returns-in-None
+returns-in-None c = (fine c.args.b c.in-None.ensures, c.in_units.ensures)

@@ -1,6 +1,7 @@
 -- `boxes_binary64::short_of` meets its contract: the two tests say whether the box is a single point, and each number is what its function ensures.
 use borrow.Author.Rules.{rules}
 use mathlib.Core.Path.{ap}
+use mathlib.Core.Logic.{⊎_elim}
 use lib.IntN.{ℤ, ◌+ℤ◌, ◌-ℤ◌}
 use mir.Syntax.{w32}
 use mir.Val.{of_z}
@@ -9,7 +10,7 @@ use Rattle.boxes_binary64.proofs.Handed.{read_back, read_two, same_bits}
 use Rattle.boxes_binary64.proofs.Checked.{intervals}
 use Rattle.boxes_binary64.proofs.Sums.{sum_fits, difference_fits, held_sum, held_difference}
 use Rattle.boxes_binary64.proofs.short_of.Goals as goal
-use Rattle.boxes_binary64.proofs.short_of.Goals.{Start, then-x_low-x_high+else-y_low-y_high, else-x_low-x_high}
+use Rattle.boxes_binary64.proofs.short_of.Goals.{Start}
 
 pub returns-then-y_low-y_high : goal.returns-then-y_low-y_high
 returns-then-y_low-y_high c =
@@ -29,10 +30,7 @@ sides s = intervals s.args.b s.requires
 pub returns : goal.returns
 returns c =
     let b = c.args.b in (
-      (λ p. elim c.if-x_low-x_high.branch [
-        | then-x_low-x_high+else-y_low-y_high w ↦ w.if-y_low-y_high.false (ap (of_z w32) p.y)
-        | else-x_low-x_high w ↦ w.if-x_low-x_high.false (ap (of_z w32) p.x)
-      ]),
+      (λ p. ⊎_elim (λ f. f.1 (ap (of_z w32) p.y)) (λ f. f (ap (of_z w32) p.x)) c.else-x_low-x_high.either),
       read_two (λ (x y : ℤ). x +ℤ y) c.thirty_second.result b.x_low b.x_high 32 (search rules) (search rules)
           (sum_fits (sides (goal.at.returns c).Start).0) c.thirty_second.ensures,
       read_two (λ (x y : ℤ). x +ℤ y) c.thirty_second-2.result b.y_low b.y_high 32 (search rules) (search rules)

@@ -5,10 +5,10 @@ use Rattle.contour_band.specs.Bytes.{AppendsFront}
 use Rattle.contour_band.proofs.Fronts.{of_front}
 use Rattle.contour_band.proofs.run.Goals as goal
 
-pub returns-in-Ok-clause-whole : goal.returns-in-Ok-clause-whole
-returns-in-Ok-clause-whole g c =
-    of_front _ _ c.read_text.new.text (Appends _ _) (search rules) c.in-Text.ensures.front c.in-Ok.ensures.whole
+pub returns-in-Ok-put_answer-clause-whole : goal.returns-in-Ok-put_answer-clause-whole
+returns-in-Ok-put_answer-clause-whole g c =
+    of_front _ _ c.read_text.new.text (Appends _ _) (search rules) c.in-Ok.ensures.front c.in-Ok-put_answer.ensures.whole
 
-pub returns-in-Err-clause-part : goal.returns-in-Err-clause-part
-returns-in-Err-clause-part g c =
-    of_front _ _ c.read_text.new.text (AppendsFront _ _) (search rules) c.in-Text.ensures.front c.in-Err.ensures.part
+pub returns-in-Err-put_answer-clause-part : goal.returns-in-Err-put_answer-clause-part
+returns-in-Err-put_answer-clause-part g c =
+    of_front _ _ c.read_text.new.text (AppendsFront _ _) (search rules) c.in-Ok.ensures.front c.in-Err-put_answer.ensures.part

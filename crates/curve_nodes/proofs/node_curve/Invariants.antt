@@ -1,5 +1,5 @@
 -- The curve of a node, along its bits from the highest on. The loop's invariant: with i bits left, the curve so far is that of node >> i, which
--- is a node. The measure is i.
+-- is a node.
 use mathlib.Core.Path.{◌≡◌}
 use Prim.Native.Nat.{ℕ, ◌/◌, ◌^◌, ◌≤◌, ◌<◌}
 use Rattle.curve_nodes.specs.declared.Curve.{Curve}
@@ -14,6 +14,3 @@ pub record Reached (root : Curve) (node : ℕ) (curve : Curve) (i : ℕ) : Type 
 
 abbrev pub invariant-loop-i : goal.invariant-loop-i
 invariant-loop-i l = Reached l.initial.curve l.node l.curve l.i
-
-abbrev pub decreases-loop-i : goal.decreases-loop-i
-decreases-loop-i l = l.i

@@ -1,6 +1,11 @@
 -- `judge::judge_point` meets its contract: each return is check 11 of a coordinate, or what the search finds.
-use mathlib.Core.Path.{◌≡◌}
+use mathlib.Core.Path.{◌≡◌, subst}
+use mathlib.Core.Option.{none}
+use mir.Syntax.{w32}
+use Rattle.integers.proofs.Ranges.{stored}
+use Rattle.judge.specs.Judging.{Verdict}
 use mathlib.Core.Bool.{true}
+use Rattle.std.specs.Prelude.{Ok}
 use mir.Facts.{to_z-of_z}
 use Rattle.setting.specs.Setting.{lists}
 use Rattle.boxes.specs.Ranges.{in_range}
@@ -39,6 +44,7 @@ pub returns : goal.returns
 returns c =
     let a = c.args in
     let f = both-fine (goal.at.returns c).Else-not-in_range-2 in
-    judged_found (lists a.m) a.leaves.now a.x a.y c.find.result
+    judged_found (lists a.m) a.leaves.now a.x a.y (Ok c.find.result)
     (none_bad (lists a.m) a.leaves.now a.x a.y c.requires.0 c.requires.1 f.0 f.1)
-    (rw (to_z-of_z c.ranges.x, to_z-of_z c.ranges.y) at c.find.ensures)
+    (subst (λ x. Verdict (lists a.m) none a.leaves.now x a.y (Ok c.find.result)) (to_z-of_z c.ranges.x)
+    (subst (λ y. Verdict (lists a.m) none a.leaves.now (stored w32 a.x) y (Ok c.find.result)) (to_z-of_z c.ranges.y) c.find.ensures))

@@ -3,32 +3,29 @@ use Rattle.text_outline.proofs.Filling.{keeping_start, keep-past, keep-stops}
 use Rattle.text_lines.proofs.Lines.{line-less}
 use Rattle.text_outline.proofs.keep_outline.Goals as goal
 
-pub loop-i-init : goal.loop-i-init
-loop-i-init c = keeping_start _ _ c.requires
-
-pub returns-in-NoForm : goal.returns-in-NoForm
-returns-in-NoForm c = search keep-stops
+pub loop-form-init : goal.loop-form-init
+loop-form-init c = keeping_start _ _ c.requires
 
 pub returns-then-left-eq0 : goal.returns-then-left-eq0
-returns-then-left-eq0 c = search keep-stops
+returns-then-left-eq0 c = search (keep-stops, c.in-Some.ensures)
 
-pub loop-i-smaller-in-Curve-1 : goal.loop-i-smaller-in-Curve-1
-loop-i-smaller-in-Curve-1 c = search line-less
+pub loop-form-smaller-in-Curve-1 : goal.loop-form-smaller-in-Curve-1
+loop-form-smaller-in-Curve-1 c = search (line-less, c.in-Some.ensures)
 
-pub loop-i-preserved-in-Curve-1 : goal.loop-i-preserved-in-Curve-1
-loop-i-preserved-in-Curve-1 c = search keep-past
+pub loop-form-preserved-in-Curve-1 : goal.loop-form-preserved-in-Curve-1
+loop-form-preserved-in-Curve-1 c = search (keep-past, c.in-Some.ensures)
 
-pub loop-i-smaller-in-Tolerance : goal.loop-i-smaller-in-Tolerance
-loop-i-smaller-in-Tolerance c = search line-less
+pub loop-form-smaller-in-Tolerance : goal.loop-form-smaller-in-Tolerance
+loop-form-smaller-in-Tolerance c = search (line-less, c.in-Some.ensures)
 
-pub loop-i-preserved-in-Tolerance : goal.loop-i-preserved-in-Tolerance
-loop-i-preserved-in-Tolerance c = search keep-past
+pub loop-form-preserved-in-Tolerance : goal.loop-form-preserved-in-Tolerance
+loop-form-preserved-in-Tolerance c = search (keep-past, c.in-Some.ensures)
 
-pub loop-i-smaller : goal.loop-i-smaller
-loop-i-smaller c = search line-less
+pub loop-form-smaller : goal.loop-form-smaller
+loop-form-smaller c = search (line-less, c.in-Some.ensures)
 
-pub loop-i-preserved : goal.loop-i-preserved
-loop-i-preserved c = search keep-past
+pub loop-form-preserved : goal.loop-form-preserved
+loop-form-preserved c = search (keep-past, c.in-Some.ensures)
 
 pub returns : goal.returns
-returns c = search keep-stops
+returns c = search (keep-stops, c.in_default.ensures)

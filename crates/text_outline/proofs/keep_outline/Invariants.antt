@@ -4,8 +4,8 @@ use Rattle.text_outline.proofs.Filling.{Keeping}
 use lib.ListN.{length}
 use Rattle.text_outline.proofs.keep_outline.Given as goal
 
-abbrev pub invariant-loop-i : goal.invariant-loop-i
-invariant-loop-i l = Keeping l.text l.initial.numbers l.numbers l.at l.i l.left
+abbrev pub invariant-loop-form : goal.invariant-loop-form
+invariant-loop-form l = Keeping l.text l.initial.numbers l.numbers l.at l.i l.left
 
-abbrev pub decreases-loop-i : goal.decreases-loop-i
-decreases-loop-i l = length l.text - l.i
+abbrev pub decreases-loop-form : goal.decreases-loop-form
+decreases-loop-form l = length l.text - l.i

@@ -4,8 +4,8 @@ use lib.ListN.{length}
 use Rattle.text_answers.proofs.Judging.{Putting}
 use Rattle.answer.proofs.point_answers.put_points.Given as goal
 
-abbrev pub invariant-loop-i : goal.invariant-loop-i
-invariant-loop-i l = Putting l.leaves l.text l.initial.out l.from l.out l.at l.i
+abbrev pub invariant-loop-form : goal.invariant-loop-form
+invariant-loop-form l = Putting l.leaves l.text l.initial.out l.from l.out l.at l.i
 
-abbrev pub decreases-loop-i : goal.decreases-loop-i
-decreases-loop-i l = length l.text - l.i
+abbrev pub decreases-loop-form : goal.decreases-loop-form
+decreases-loop-form l = length l.text - l.i

@@ -33,15 +33,15 @@ try_higher_box-requires c =
       omega arith,
     )
 
-pub returns-in-Wide : goal.returns-in-Wide
-returns-in-Wide c =
-    going_wide (high_found c.requires.0 c.requires.1 c.higher_of-x.ensures c.higher_of-y.ensures)
-    c.args.given.now c.args.reach c.args.at c.loop-i.i _ (omega arith) (sym c.in-Wide.is ∙ c.try_higher_box.ensures)
+pub returns-in_err-to : goal.returns-in_err-to
+returns-in_err-to c =
+    c.from_residual.ensures ∙ going_wide (high_found c.requires.0 c.requires.1 c.higher_of-x.ensures c.higher_of-y.ensures)
+    c.args.given.now c.args.reach c.args.at c.loop-i.i _ (omega arith) (sym c.in_err-to.was ∙ c.try_higher_box.ensures)
 
 pub loop-i-preserved : goal.loop-i-preserved
 loop-i-preserved c =
     going_on _ _ _ _ _ _ _ (box_four _ _ _ _) c.loop-i.invariant (omega arith) _
-    (sym c.in-Narrow.is ∙ c.try_higher_box.ensures)
+    (sym c.in_ok-to.was ∙ c.try_higher_box.ensures)
 
 pub returns : goal.returns
 returns c =
@@ -60,8 +60,5 @@ overflow_mul-i c = omega (arith, c.requires.0.lent.has.most)
 pub overflow_add-at : goal.overflow_add-at
 overflow_add-at c = omega (arith, c.requires.0.lent.has.most, c.requires.0.place)
 
-pub overflow_add-i : goal.overflow_add-i
-overflow_add-i c = omega (arith, c.requires.0.lent.has.most)
-
-pub loop-i-smaller : goal.loop-i-smaller
-loop-i-smaller c = omega arith
+pub overflow_add-i-end : goal.overflow_add-i-end
+overflow_add-i-end c = omega (arith, c.requires.0.lent.has.most)

@@ -1,6 +1,6 @@
 -- A node tried: its two numbers, then its boxes.
 use mathlib.Core.Path.{◌≡◌, ◌∙◌, ap}
-use Prim.Native.Nat.{◌+◌, ◌^◌, ◌≤◌}
+use Prim.Native.Nat.{ℕ, ◌+◌, ◌^◌, ◌≤◌}
 use native.Mathlib.Nat.{lt_trans}
 use native.Mathlib.Omega.{arith}
 use lib.Dec.{lit<}
@@ -14,7 +14,7 @@ use Rattle.curve_nodes.specs.Nodes.{depth}
 use Rattle.bound_node.specs.Boxes.{meets}
 use Rattle.band_records.specs.Records.{boxes_to, node_numbers}
 use Rattle.integers.proofs.Ranges.{stored}
-use Rattle.band_comparing.specs.declared.trying.Tried.{Tried}
+use Rattle.std.specs.Prelude.{Option}
 use Rattle.band_comparing.specs.Inside.{reach_of, tried_of, Tryable}
 use Rattle.band_comparing.proofs.ReachLaws.{number_under}
 use Rattle.band_comparing.proofs.TryLaws.{node_head}
@@ -41,7 +41,7 @@ tryable d =
     }
 
 -- the boxes after the two numbers, at the tolerance and the depth that are meant
-tried : {r : Tried} (d : After-depth-depth) → let a = d.args in let σ = lists a.by.m in
+tried : {r : Option ℕ} (d : After-depth-depth) → let a = d.args in let σ = lists a.by.m in
     r ≡ tried_of (meets σ (stored w64 a.t) d.depth-depth.result a.curve)
     (reach_of a.given.now d.reach_number-second.result (a.at + 2) (boxes_to σ (break_points σ) d.depth-depth.result a.curve))
     → r ≡ tried_of (meets σ a.t (depth a.node) a.curve)

@@ -1,4 +1,4 @@
--- Numbers moved towards the end. The loop's invariant: all but the first `left` of them stand at their new places. The measure is how many are left.
+-- Numbers moved towards the end. The loop's invariant: all but the first `left` of them stand at their new places.
 use mathlib.Core.Path.{◌≡◌, sym, ◌∙◌, ap}
 use Prim.Native.Nat.{suc, ◌+◌, ◌-◌}
 use native.Mathlib.Omega.{arith}
@@ -9,35 +9,30 @@ use Rattle.band_exchange.proofs.moving.move_back.Goals as goal
 use Rattle.band_exchange.proofs.moving.move_back.Goals.{At-loop-left}
 
 pub loop-left-init : goal.loop-left-init
-loop-left-init c = let a = c.args in (sym (back_start a.list.now a.from a.to a.n), omega arith)
+loop-left-init c = let a = c.args in sym (back_start a.list.now a.from a.to a.n)
 
 kept : (l : At-loop-left) → length l.loop-left.list ≡ length l.args.list.now
 kept l =
     let a = l.args in
     let left = l.loop-left.left in
-    ap length l.loop-left.invariant.0 ∙ length-sets a.list.now (a.to + left) (take (a.n - left) (drop (a.from + left) a.list.now))
+    ap length l.loop-left.invariant ∙ length-sets a.list.now (a.to + left) (take (a.n - left) (drop (a.from + left) a.list.now))
 
 pub loop-left-preserved : goal.loop-left-preserved
 loop-left-preserved c =
     let a = c.args in
     let old = a.list.now in
     let j = c.loop-left.left - 1 in
-    let s : c.loop-left.left ≡ suc j = omega arith in (
-      read_and_put (a.from + j) (a.to + j) c.z-1.given (c.loop-left.invariant.0 ∙ ap (moved_from old a.from a.to a.n) s)
-          ∙ ap (set (moved_from old a.from a.to a.n (suc j)) (a.to + j))
-          (back_read old a.from a.to a.n j (omega arith) c.requires.1)
-          ∙ back_step old a.from a.to a.n j (omega arith) (omega arith),
-      omega arith,
-    )
+    let s : c.loop-left.left ≡ suc j = omega arith in
+    read_and_put (a.from + j) (a.to + j) c.z-1.given (c.loop-left.invariant ∙ ap (moved_from old a.from a.to a.n) s)
+    ∙ ap (set (moved_from old a.from a.to a.n (suc j)) (a.to + j))
+    (back_read old a.from a.to a.n j (omega arith) c.requires.1)
+    ∙ back_step old a.from a.to a.n j (omega arith) (omega arith)
 
 pub returns : goal.returns
 returns c =
     let a = c.args in
     let i : c.loop-left.left ≡ 0 = omega arith in
-    c.loop-left.invariant.0 ∙ ap (moved_from a.list.now a.from a.to a.n) i ∙ back_done a.list.now a.from a.to a.n
-
-pub overflow_sub-left : goal.overflow_sub-left
-overflow_sub-left c = omega arith
+    c.loop-left.invariant ∙ ap (moved_from a.list.now a.from a.to a.n) i ∙ back_done a.list.now a.from a.to a.n
 
 pub overflow_add-z : goal.overflow_add-z
 overflow_add-z c = omega (arith, kept (goal.at.overflow_add-z c).At-loop-left)
@@ -56,9 +51,6 @@ offset_bounds-list-to c = omega (arith, kept (goal.at.offset_bounds-list-to c).A
 
 pub bounds-list-to : goal.bounds-list-to
 bounds-list-to c = omega (arith, kept (goal.at.bounds-list-to c).At-loop-left)
-
-pub loop-left-smaller : goal.loop-left-smaller
-loop-left-smaller c = omega arith
 
 pub shape_of-list : goal.shape_of-list
 shape_of-list c = kept (goal.at.shape_of-list c).At-loop-left

@@ -1,4 +1,4 @@
--- Numbers moved towards the front. The loop's invariant: the first i of them stand at their new places. The measure is how many are left.
+-- Numbers moved towards the front. The loop's invariant: the first i of them stand at their new places.
 use mathlib.Core.Path.{◌≡◌, refl, ◌∙◌, ap}
 use Prim.Native.Nat.{◌+◌}
 use native.Mathlib.Omega.{arith}
@@ -10,29 +10,27 @@ use Rattle.band_exchange.proofs.moving.move_forward.Goals as goal
 use Rattle.band_exchange.proofs.moving.move_forward.Goals.{At-loop-i}
 
 pub loop-i-init : goal.loop-i-init
-loop-i-init c = (refl, omega arith)
+loop-i-init c = refl
 
 kept : (l : At-loop-i) → length l.loop-i.list ≡ length l.args.list.now
 kept l =
     let a = l.args in
-    ap length l.loop-i.invariant.0 ∙ length-sets a.list.now a.to (take l.loop-i.i (drop a.from a.list.now))
+    ap length l.loop-i.invariant ∙ length-sets a.list.now a.to (take l.loop-i.i (drop a.from a.list.now))
 
 pub loop-i-preserved : goal.loop-i-preserved
 loop-i-preserved c =
     let a = c.args in
     let old = a.list.now in
-    let i = c.loop-i.i in (
-      read_and_put (a.from + i) (a.to + i) c.z-1.given c.loop-i.invariant.0
-          ∙ ap (set (moved_to old a.from a.to i) (a.to + i)) (forward_read old a.from a.to i (omega arith) c.requires.1)
-          ∙ forward_step old a.from a.to i (omega arith),
-      omega arith,
-    )
+    let i = c.loop-i.i in
+    read_and_put (a.from + i) (a.to + i) c.z-1.given c.loop-i.invariant
+    ∙ ap (set (moved_to old a.from a.to i) (a.to + i)) (forward_read old a.from a.to i (omega arith) c.requires.1)
+    ∙ forward_step old a.from a.to i (omega arith)
 
 pub returns : goal.returns
 returns c =
     let a = c.args in
     let i : c.loop-i.i ≡ a.n = omega arith in
-    c.loop-i.invariant.0 ∙ ap (moved_to a.list.now a.from a.to) i
+    c.loop-i.invariant ∙ ap (moved_to a.list.now a.from a.to) i
 
 pub overflow_add-z : goal.overflow_add-z
 overflow_add-z c = omega arith
@@ -51,12 +49,6 @@ offset_bounds-list-to c = omega (arith, kept (goal.at.offset_bounds-list-to c).A
 
 pub bounds-list-to : goal.bounds-list-to
 bounds-list-to c = omega (arith, kept (goal.at.bounds-list-to c).At-loop-i)
-
-pub overflow_add-i : goal.overflow_add-i
-overflow_add-i c = omega arith
-
-pub loop-i-smaller : goal.loop-i-smaller
-loop-i-smaller c = omega arith
 
 pub shape_of-list : goal.shape_of-list
 shape_of-list c = kept (goal.at.shape_of-list c).At-loop-i

@@ -1,45 +1,32 @@
 -- The leaves of a curve, as banding of it alone says them.
 use mathlib.Core.Path.{◌≡◌, sym, ◌∙◌}
-use native.Mathlib.Omega.{arith}
 use mir.Facts.{to_z-of_z}
+use Rattle.std.specs.Prelude.{Err}
 use Rattle.outline.specs.Curves.{curve_at}
-use Rattle.band_banded.specs.declared.banding.Banded.TheVariants.{Refused}
-use Rattle.band_exchange.proofs.Alone.{alone, alone_done, alone_wide, alone_node, alone_leaves}
+use Rattle.band_exchange.proofs.Alone.{alone, alone_done, alone_wide, alone_leaves}
 use Rattle.band_exchange.proofs.replacing.leaves_in.Goals as goal
-use Rattle.band_exchange.proofs.replacing.leaves_in.Goals.{In-Refused}
+use Rattle.band_exchange.proofs.replacing.leaves_in.Goals.{In-Err}
 
 -- the refusal of the curve alone
-refused : (k : In-Refused) → let a = k.args in
-    Refused k.in-Refused.refusal ≡ alone a.m a.t (curve_at a.curve.now 0) 1
+refused : (k : In-Err) → let a = k.args in
+    Err k.in-Err.refusal ≡ alone a.m a.t (curve_at a.curve.now 0) 1
 refused k =
-    rw (to_z-of_z k.ranges.t) at (sym k.in-Refused.is ∙ k.band_curves.ensures.value)
+    rw (to_z-of_z k.ranges.t) at (sym k.in-Err.is ∙ k.band_curves.ensures.value)
 
-pub overflow_cast-result : goal.overflow_cast-result
-overflow_cast-result c =
-    let a = c.args in
-    omega (
-      arith,
-      c.spot-spot.ensures,
-      alone_node a.m a.t (curve_at a.curve.now 0) 1 c.in-Refused.refusal (refused (goal.at.overflow_cast-result c).In-Refused)
-          (sym c.number.ensures ∙ c.if-number-eq7.true),
-    )
-
-pub returns-then-number-eq7 : goal.returns-then-number-eq7
-returns-then-number-eq7 c =
-    let a = c.args in
-    rw c.spot-spot.ensures
-    (alone_wide a.m a.t (curve_at a.curve.now 0) 1 c.in-Refused.refusal (refused (goal.at.returns-then-number-eq7 c).In-Refused)
-    (sym c.number.ensures ∙ c.if-number-eq7.true))
-
-pub returns-in-Done : goal.returns-in-Done
-returns-in-Done c =
+pub returns-in-Ok : goal.returns-in-Ok
+returns-in-Ok c =
     let a = c.args in
     alone_done a.m a.t (curve_at a.curve.now 0) 1 _ _ _
-    (rw (to_z-of_z c.ranges.t) at (sym c.in-Done.is ∙ c.band_curves.ensures.value))
+    (rw (to_z-of_z c.ranges.t) at (sym c.in-Ok.is ∙ c.band_curves.ensures.value))
 
-pub returns-else-number-eq7 : goal.returns-else-number-eq7
-returns-else-number-eq7 c =
+pub returns-in-TooWide : goal.returns-in-TooWide
+returns-in-TooWide c =
     let a = c.args in
-    rw c.spot-spot.ensures
-    (alone_leaves a.m a.t (curve_at a.curve.now 0) 1 c.in-Refused.refusal (refused (goal.at.returns-else-number-eq7 c).In-Refused)
-    (λ e. c.if-number-eq7.false (c.number.ensures ∙ e)))
+    alone_wide a.m a.t (curve_at a.curve.now 0) 1 _ _ (rw c.in-TooWide.is at (refused (goal.at.returns-in-TooWide c).In-Err))
+
+pub returns-in_default : goal.returns-in_default
+returns-in_default c =
+    let a = c.args in
+    let d = c.in_default in
+    rw c.spot.ensures
+    (alone_leaves a.m a.t (curve_at a.curve.now 0) 1 c.in-Err.refusal (refused (goal.at.returns-in_default c).In-Err) d.not-TooWide)

@@ -7,6 +7,3 @@ use Rattle.band_foretell.proofs.bending.bend.Given as goal
 
 abbrev pub invariant-loop-k : goal.invariant-loop-k
 invariant-loop-k l = (l.k ≤ l.degree - 1) × (l.most ≡ largest_of l.k (λ i. nat_abs (difference l.c i)))
-
-abbrev pub decreases-loop-k : goal.decreases-loop-k
-decreases-loop-k l = l.degree - 1 - l.k

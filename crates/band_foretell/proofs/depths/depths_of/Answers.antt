@@ -1,10 +1,10 @@
 -- The depths of the curves of an outline. The loop's invariant: with k curves done, their depths stand at the front of the list and are added up.
--- The measure is the number of curves left.
 use mathlib.Core.Path.{sym, ◌∙◌, ap}
 use native.Mathlib.Omega.{arith}
 use lib.IntN.{pos}
+use Rattle.std.specs.Prelude.{Ok}
 use Rattle.setting.specs.Setting.{lists}
-use Rattle.band_passes.specs.declared.forms.Form.TheVariants.{Outline}
+use Rattle.band_passes.specs.Forms.{Outline}
 use Rattle.band_passes.specs.Inside.{curves_in}
 use Rattle.band_passes.proofs.Reading.{rest_next}
 use Rattle.band_foretold.specs.Foretelling.{depths_of, depth_numbers, numbers_written}
@@ -36,9 +36,6 @@ pub next_at-at-requires : goal.next_at-at-requires
 next_at-at-requires c =
     (rest_next c.loop-k.invariant.rest c.loop-k-test.true).here.stands.0
 
-pub overflow_add-k : goal.overflow_add-k
-overflow_add-k c = omega (arith, c.requires.1.few)
-
 pub loop-k-preserved : goal.loop-k-preserved
 loop-k-preserved c =
     rw c.next_at-at.ensures
@@ -53,11 +50,8 @@ returns c =
     let a = c.args in
     let h = c.loop-k-test.false in
     let f = c.loop-k.invariant in record {
-      value = c.answer_of.ensures ∙ telling_answer f h c.requires.3;
+      value = ap Ok c.answer_of.ensures ∙ telling_answer f h c.requires.3;
       depths_after = telling_list f h c.requires.3
-          ∙ sym (ap (λ r. numbers_written r (depth_numbers (depths_of (lists a.m) (pos a.t) (curves_in Outline a.ns.now a.curves))) a.depths.now)
+          ∙ sym (ap (λ r. numbers_written (Ok r) (depth_numbers (depths_of (lists a.m) (pos a.t) (curves_in Outline a.ns.now a.curves))) a.depths.now)
           c.answer_of.ensures);
     }
-
-pub loop-k-smaller : goal.loop-k-smaller
-loop-k-smaller c = omega arith

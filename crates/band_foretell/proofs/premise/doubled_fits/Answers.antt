@@ -24,15 +24,3 @@ loop-q-preserved c =
     let p-is : q' + p' ≡ l.p = omega arith in
     let q-is : q' + 2 * p' ≡ l.q = omega arith in
     (steps p' q' l.turned ∙ ap₂ (asked l.turned) p-is q-is ∙ l.invariant.0, λ e. omega arith, omega arith, omega arith)
-
-pub overflow_mul-p : goal.overflow_mul-p
-overflow_mul-p c = omega arith
-
-pub overflow_mul-q : goal.overflow_mul-q
-overflow_mul-q c = omega arith
-
-pub overflow_sub-q : goal.overflow_sub-q
-overflow_sub-q c = omega arith
-
-pub loop-q-smaller : goal.loop-q-smaller
-loop-q-smaller c = omega arith

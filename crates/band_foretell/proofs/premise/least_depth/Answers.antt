@@ -35,7 +35,7 @@ answered c e =
     let l = c.loop-j in
     let a = c.args in
     ap not
-    (ap (λ n. doubled_fits (pos (a.gap * a.largest + 1250 * n)) (pos (625 * a.t * n))) (sym l.invariant.1) ∙ sym c.doubled_fits.ensures ∙ e)
+    (ap (λ n. doubled_fits (pos (a.gap * a.largest + 1250 * n)) (pos (625 * a.t * n))) (sym l.invariant.0) ∙ sym c.doubled_fits.ensures ∙ e)
 
 pub overflow_mul-bend : goal.overflow_mul-bend
 overflow_mul-bend c = omega (arith, mul-le-mul c.requires.0 c.requires.1)
@@ -45,7 +45,7 @@ overflow_mul-wide c = omega arith
 
 pub loop-j-init : goal.loop-j-init
 unfolding least_depth
-loop-j-init c = let e : c.args.deepest + 1 - 0 ≡ c.args.deepest + 1 = omega arith in (omega arith, refl, rw e refl)
+loop-j-init c = let e : c.args.deepest + 1 - 0 ≡ c.args.deepest + 1 = omega arith in (refl, rw e refl)
 
 pub overflow_mul-parts : goal.overflow_mul-parts
 overflow_mul-parts c = omega (arith, parts-small (goal.at.overflow_mul-parts c).In-loop-j)
@@ -64,7 +64,7 @@ returns-then-doubled_fits c =
     let l = c.loop-j in
     let a = c.args in
     sym (ap depth_found
-    (l.invariant.2 ∙ bad_here (missed a.gap a.largest a.t) (a.deepest + 1) l.j (omega arith) (answered (goal.at.returns-then-doubled_fits c).After-doubled_fits c.if-doubled_fits.true)))
+    (l.invariant.1 ∙ bad_here (missed a.gap a.largest a.t) (a.deepest + 1) l.j (omega arith) (answered (goal.at.returns-then-doubled_fits c).After-doubled_fits c.if-doubled_fits.true)))
 
 pub overflow_mul-parts-in-loop-j : goal.overflow_mul-parts-in-loop-j
 overflow_mul-parts-in-loop-j c = omega (arith, parts-small (goal.at.overflow_mul-parts-in-loop-j c).In-loop-j)
@@ -73,19 +73,21 @@ pub loop-j-preserved : goal.loop-j-preserved
 loop-j-preserved c =
     let l = c.loop-j in
     let a = c.args in (
-      omega arith,
-      rw (add-one, pow-suc) (ap (λ (n : ℕ). n * 4) l.invariant.1),
-      l.invariant.2 ∙ bad_on (missed a.gap a.largest a.t) (a.deepest + 1) l.j (omega arith) (answered (goal.at.loop-j-preserved c).After-doubled_fits c.if-doubled_fits.false),
+      rw (add-one, pow-suc) (ap (λ (n : ℕ). n * 4) l.invariant.0),
+      l.invariant.1 ∙ bad_on (missed a.gap a.largest a.t) (a.deepest + 1) l.j (omega arith) (answered (goal.at.loop-j-preserved c).After-doubled_fits c.if-doubled_fits.false),
     )
 
 pub returns : goal.returns
 returns c =
     let l = c.loop-j in
     let a = c.args in
-    sym (ap depth_found (l.invariant.2 ∙ bad_ended (missed a.gap a.largest a.t) (a.deepest + 1) l.j (omega arith)))
+    sym (ap depth_found (l.invariant.1 ∙ bad_ended (missed a.gap a.largest a.t) (a.deepest + 1) l.j (omega arith)))
 
-pub overflow_add-j : goal.overflow_add-j
-overflow_add-j c = omega arith
-
-pub loop-j-smaller : goal.loop-j-smaller
-loop-j-smaller c = omega arith
+pub returns-else-doubled_fits : goal.returns-else-doubled_fits
+returns-else-doubled_fits c =
+    let l = c.loop-j in
+    let a = c.args in
+    sym (ap depth_found
+    (l.invariant.1
+    ∙ bad_on (missed a.gap a.largest a.t) (a.deepest + 1) l.j (omega arith) (answered (goal.at.returns-else-doubled_fits c).After-doubled_fits c.if-doubled_fits.false)
+    ∙ bad_ended (missed a.gap a.largest a.t) (a.deepest + 1) (l.j + 1) (omega arith)))

@@ -1,14 +1,9 @@
--- The records of every leaf of a list's curves. The loop's invariant: with k curves done, the front of the list holds their records. The measure is the
--- number of curves left.
-use Prim.Native.Nat.{◌-◌}
+-- The records of every leaf of a list's curves. The loop's invariant: with k curves done, the front of the list holds their records.
 use Rattle.bound_pieces.specs.Inside.{setting_of}
-use Rattle.band_passes.specs.Inside.{numbers_of}
+use Rattle.band_passes.specs.Inside.{form_of, numbers_of}
 use Rattle.band_passes.proofs.Filling.{Filled}
 use Rattle.band_passes.proofs.leaf_writing.write_all.Given as goal
 
 abbrev pub invariant-loop-k : goal.invariant-loop-k
 invariant-loop-k l =
-    Filled (setting_of l.pieces) l.t l.form (numbers_of l.form l.ns l.xs) l.curves l.initial.records l.k l.at l.place l.records
-
-abbrev pub decreases-loop-k : goal.decreases-loop-k
-decreases-loop-k l = l.curves - l.k
+    Filled (setting_of l.pieces) l.t (form_of l.list) (numbers_of l.list) l.curves l.initial.records l.k l.at l.place l.records

@@ -1,5 +1,4 @@
 -- The low and the high of one coordinate at every break point: each fits 32 bits. The loop's invariant: those before i stand in their places.
--- The measure is what is left of m + 1.
 use mathlib.Core.Path.{◌≡◌, refl, ◌∙◌, ap}
 use Prim.Native.Nat.{suc}
 use native.Mathlib.Omega.{arith}
@@ -13,13 +12,13 @@ use Rattle.band_records.proofs.higher.put_coordinate.Goals as goal
 use Rattle.band_records.proofs.higher.put_coordinate.Goals.{At-loop-i}
 
 pub loop-i-init : goal.loop-i-init
-loop-i-init c = (omega arith, refl)
+loop-i-init c = refl
 
 -- ---- the loop
 same : (l : At-loop-i) → length l.loop-i.records ≡ length l.args.records.now
 same l =
     let a = l.args in
-    ap length l.loop-i.invariant.1
+    ap length l.loop-i.invariant
     ∙ pairs_length a.records.now a.at (higher_low a.m a.shift a.rows.now a.z) (higher_high a.m a.shift a.rows.now a.z)
     l.loop-i.i
 
@@ -43,13 +42,11 @@ bounds-records-at-in-loop-i c = simp length-set (omega (arith, same (goal.at.bou
 
 pub loop-i-preserved : goal.loop-i-preserved
 loop-i-preserved c =
-    let a = c.args in (
-      omega arith,
-      pairs_more a.records.now a.at (higher_low a.m a.shift a.rows.now a.z) (higher_high a.m a.shift a.rows.now a.z)
-          c.loop-i.i c.loop-i.invariant.1
-          (is! (search (c.low_at-low.ensures, bounded) depth 40) tt)
-          (is! (search (c.high_at-high.ensures, bounded) depth 40) tt),
-    )
+    let a = c.args in
+    pairs_more a.records.now a.at (higher_low a.m a.shift a.rows.now a.z) (higher_high a.m a.shift a.rows.now a.z)
+    c.loop-i.i c.loop-i.invariant
+    (is! (search (c.low_at-low.ensures, bounded) depth 40) tt)
+    (is! (search (c.high_at-high.ensures, bounded) depth 40) tt)
 
 pub shape_of-records : goal.shape_of-records
 shape_of-records c = same (goal.at.shape_of-records c).At-loop-i
@@ -58,7 +55,7 @@ pub returns : goal.returns
 returns c =
     let a = c.args in
     let e : c.loop-i.i ≡ suc a.m = omega arith in
-    c.loop-i.invariant.1 ∙ ap (put_pairs_by a.records.now a.at a.m a.shift a.rows.now a.z) e
+    c.loop-i.invariant ∙ ap (put_pairs_by a.records.now a.at a.m a.shift a.rows.now a.z) e
 
 pub overflow_mul-records : goal.overflow_mul-records
 overflow_mul-records c = omega arith
@@ -81,8 +78,5 @@ overflow_add-at-in-loop-i c = omega arith
 pub offset_bounds-records-at-in-loop-i : goal.offset_bounds-records-at-in-loop-i
 offset_bounds-records-at-in-loop-i c = omega arith
 
-pub overflow_add-i : goal.overflow_add-i
-overflow_add-i c = omega arith
-
-pub loop-i-smaller : goal.loop-i-smaller
-loop-i-smaller c = omega arith
+pub overflow_add-i-end : goal.overflow_add-i-end
+overflow_add-i-end c = omega arith

@@ -3,7 +3,7 @@ use mathlib.Core.Path.{sym, ◌∙◌}
 use Prim.Native.Nat.{◌+◌, ◌/◌}
 use native.Mathlib.Omega.{arith}
 use Rattle.setting.specs.Setting.{lists}
-use Rattle.band_passes.specs.declared.forms.Form.TheVariants.{Outline}
+use Rattle.band_passes.specs.Forms.{Outline}
 use Rattle.band_passes.specs.Inside.{curves_in}
 use Rattle.band_tightest.proofs.Span.{around_all, around_upper, around_lower, nothing_fits, least_found}
 use Rattle.band_tighten.proofs.outline_tightest.tightest_curves.Goals as goal

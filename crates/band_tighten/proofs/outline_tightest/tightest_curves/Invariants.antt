@@ -1,7 +1,7 @@
 -- The least tolerance that fits. The loop's invariant: all up to `low` are too tight, and `high` is not. The measure is how far apart they are.
 use Prim.Native.Nat.{◌-◌}
 use Rattle.setting.specs.Setting.{lists}
-use Rattle.band_passes.specs.declared.forms.Form.TheVariants.{Outline}
+use Rattle.band_passes.specs.Forms.{Outline}
 use Rattle.band_passes.specs.Inside.{curves_in}
 use Rattle.band_tightest.proofs.Span.{Around}
 use Rattle.band_tighten.proofs.outline_tightest.tightest_curves.Given as goal

@@ -3,8 +3,8 @@ use mathlib.Core.Path.{sym, ap}
 use Rattle.contour.specs.Drawings.{drawing_of}
 use Rattle.contour.proofs.c_answers.drawing_in_numbers.Goals as goal
 
-pub returns-in-Vertices : goal.returns-in-Vertices
-returns-in-Vertices c = ap drawing_of (sym c.in-Vertices.is)
+pub returns-in-Ok : goal.returns-in-Ok
+returns-in-Ok c = ap drawing_of (sym c.in-Ok.is)
 
-pub returns-in-Refused : goal.returns-in-Refused
-returns-in-Refused c = rw (c.number.ensures, c.spot.ensures) (ap drawing_of (sym c.in-Refused.is))
+pub returns-in-Err : goal.returns-in-Err
+returns-in-Err c = rw (c.number.ensures, c.spot.ensures) (ap drawing_of (sym c.in-Err.is))

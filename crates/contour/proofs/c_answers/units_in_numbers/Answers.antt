@@ -4,10 +4,10 @@ use lib.Ieee.{of_bits}
 use Rattle.contour.specs.BoxForms.{units_of}
 use Rattle.contour.proofs.c_answers.units_in_numbers.Goals as goal
 
-pub returns-in-Units : goal.returns-in-Units
+pub returns-in-Ok : goal.returns-in-Ok
 unfolding of_bits
-returns-in-Units c = ap units_of (sym c.in-Units.is)
+returns-in-Ok c = ap units_of (sym c.in-Ok.is)
 
-pub returns-in-Refused : goal.returns-in-Refused
+pub returns-in-Err : goal.returns-in-Err
 unfolding of_bits
-returns-in-Refused c = rw (c.number.ensures, c.spot.ensures) (ap units_of (sym c.in-Refused.is))
+returns-in-Err c = rw (c.number.ensures, c.spot.ensures) (ap units_of (sym c.in-Err.is))

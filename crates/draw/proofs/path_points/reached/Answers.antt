@@ -1,16 +1,18 @@
--- `draw::path_points::reached` meets its contract: each return is one outcome of the two comparisons.
-use mathlib.Core.Path.{◌∙◌}
-use Rattle.draw.proofs.Spans.{reached_first, reached_second, reached_both}
+-- `draw::path_points::reached` meets its contract: each arm is one outcome of the comparison.
+use Rattle.std.proofs.Common.{rules, arith}
+use Rattle.std.proofs.lemmas.Grind.{common_steps}
+use mir.Facts.{to_z-of_z}
+use Rattle.draw_polygon.specs.Polygon.{reached}
 use Rattle.draw.proofs.path_points.reached.Goals as goal
 
-pub returns-then-a-b : goal.returns-then-a-b
-returns-then-a-b c = reached_first c.ranges.a c.ranges.b _ _ c.if-a-b.true
+pub returns-in-Less : goal.returns-in-Less
+unfolding reached
+returns-in-Less c = search (rules, to_z-of_z)
 
-pub returns-then-b-a : goal.returns-then-b-a
-returns-then-b-a c =
-    reached_second c.ranges.a c.ranges.b c.args.first c.args.second c.if-a-b.false c.if-b-a.true
+pub returns-in-Greater : goal.returns-in-Greater
+unfolding reached
+returns-in-Greater c = search (rules, to_z-of_z)
 
-pub returns : goal.returns
-returns c =
-    c.joined_span.ensures
-    ∙ reached_both c.ranges.a c.ranges.b c.args.first c.args.second c.if-a-b.false c.if-b-a.false
+pub returns-in-Equal : goal.returns-in-Equal
+unfolding reached
+returns-in-Equal c = grind (arith, common_steps, to_z-of_z)

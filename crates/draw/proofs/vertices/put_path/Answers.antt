@@ -68,8 +68,5 @@ returns c =
 pub overflow_add-k : goal.overflow_add-k
 overflow_add-k c = omega arith
 
-pub overflow_add-k-in-loop-k : goal.overflow_add-k-in-loop-k
-overflow_add-k-in-loop-k c = omega arith
-
 pub loop-k-smaller : goal.loop-k-smaller
 loop-k-smaller c = omega arith

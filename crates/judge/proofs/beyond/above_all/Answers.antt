@@ -9,7 +9,7 @@ use Rattle.judge.proofs.beyond.above_all.Goals.{After-high-1}
 turn : (c : After-high-1)
     → let a = c.args in Reading (λ y x. lt_z x y) le_z a.z a.leaves.now a.at (suc a.m) c.loop-i.i
 turn c =
-    reading (λ y x. lt_z x y) c.ranges.z le_z turned c.loop-i.invariant c.loop-i-test.true c.high-1.given
+    reading (λ y x. lt_z x y) c.ranges.z le_z turned c.loop-i.invariant (omega (arith, c.loop-i-test.true)) c.high-1.given
 
 pub loop-i-init : goal.loop-i-init
 loop-i-init c = pass_none _ _ _ _
@@ -24,4 +24,4 @@ pub loop-i-preserved : goal.loop-i-preserved
 loop-i-preserved c = (turn (goal.at.loop-i-preserved c).After-high-1).passes c.if-z-high.false
 
 pub returns : goal.returns
-returns c = all_read (λ y x. lt_z x y) c.ranges.z c.loop-i.invariant c.loop-i-test.false
+returns c = all_read (λ y x. lt_z x y) c.ranges.z c.loop-i.invariant (omega (arith, c.loop-i-test.false))

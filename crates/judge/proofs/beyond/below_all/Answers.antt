@@ -9,7 +9,7 @@ use Rattle.judge.proofs.beyond.below_all.Goals.{After-low-1}
 turn : (c : After-low-1)
     → let a = c.args in Reading lt_z (λ y x. le_z x y) a.z a.leaves.now a.at (suc a.m) c.loop-i.i
 turn c =
-    reading lt_z c.ranges.z (λ y x. le_z x y) (λ y x. turned x y) c.loop-i.invariant c.loop-i-test.true c.low-1.given
+    reading lt_z c.ranges.z (λ y x. le_z x y) (λ y x. turned x y) c.loop-i.invariant (omega (arith, c.loop-i-test.true)) c.low-1.given
 
 pub loop-i-init : goal.loop-i-init
 loop-i-init c = pass_none _ _ _ _
@@ -24,4 +24,4 @@ pub loop-i-preserved : goal.loop-i-preserved
 loop-i-preserved c = (turn (goal.at.loop-i-preserved c).After-low-1).passes c.if-low-z.false
 
 pub returns : goal.returns
-returns c = all_read lt_z c.ranges.z c.loop-i.invariant c.loop-i-test.false
+returns c = all_read lt_z c.ranges.z c.loop-i.invariant (omega (arith, c.loop-i-test.false))

@@ -1,10 +1,11 @@
 -- `judge::holder::first_cover` meets its contract. The loop's invariant: none of the first i covers holds the point.
-use mathlib.Core.Path.{◌≡◌, sym, ◌∙◌, subst}
+use mathlib.Core.Path.{◌≡◌, sym, ◌∙◌, ap, subst}
 use Prim.Native.Nat.{◌+◌, ◌*◌, ◌<◌}
 use native.Mathlib.Omega.{arith}
 use borrow.Author.Rules.{rules}
 use mir.Facts.{to_z-of_z}
 use Rattle.setting.specs.Setting.{lists}
+use Rattle.boxes.specs.Ranges.{place_of}
 use Rattle.boxes.specs.Records.{box_at_index}
 use Rattle.judge_cover.specs.Inside.{BoxInRange}
 use Rattle.judge.proofs.Holders.{held_is, missed_none, missed_more, cover_found, all_missed, box_in_range}
@@ -48,7 +49,7 @@ returns-then-holds c =
     c.box_in-second.ensures in
     let f = cover_found (lists a.m) a.leaves.now _ _ a.at c.loop-i.i c.loop-i.invariant (in_turn (goal.at.returns-then-holds c).In-loop-i)
     (sym e ∙ sym c.holds.ensures ∙ c.if-holds.true) in
-    rw (to_z-of_z c.ranges.x, to_z-of_z c.ranges.y) at f
+    rw (to_z-of_z c.ranges.x, to_z-of_z c.ranges.y) at (sym (ap place_of f))
 
 pub loop-i-preserved : goal.loop-i-preserved
 loop-i-preserved c =
@@ -62,7 +63,7 @@ pub returns : goal.returns
 returns c =
     let a = c.args in
     let f = all_missed (lists a.m) a.leaves.now _ _ a.at c.loop-i.i c.loop-i.invariant c.loop-i-test.false in
-    rw (to_z-of_z c.ranges.x, to_z-of_z c.ranges.y) at f
+    rw (to_z-of_z c.ranges.x, to_z-of_z c.ranges.y) at (sym (ap place_of f))
 
 pub loop-i-smaller : goal.loop-i-smaller
 loop-i-smaller c = omega arith

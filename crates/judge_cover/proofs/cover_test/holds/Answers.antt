@@ -17,21 +17,21 @@ returns-then-apart c =
 in_y : (c : After-sides-in_y) → let a = c.args in Seen c.sides-in_y.result (sides_y a.first a.second a.y)
 in_y c = seen c.ranges.y c.requires.0.y c.requires.1.y c.requires.3 c.sides-in_y.ensures
 
-pub returns-then-apart-2 : goal.returns-then-apart-2
-returns-then-apart-2 c =
+pub returns-else-not-apart : goal.returns-else-not-apart
+returns-else-not-apart c =
     let a = c.args in
-    apart_y a.first a.second a.x a.y (apart_seen (in_x (goal.at.returns-then-apart-2 c).After-sides-in_x) c.apart.ensures c.if-apart.false)
-    (apart_seen (in_y (goal.at.returns-then-apart-2 c).After-sides-in_y) c.apart-2.ensures c.if-apart-2.true)
+    rw c.if-not-apart.false (apart_y a.first a.second a.x a.y (apart_seen (in_x (goal.at.returns-else-not-apart c).After-sides-in_x) c.apart.ensures c.if-apart.false)
+    (apart_seen (in_y (goal.at.returns-else-not-apart c).After-sides-in_y) c.apart-2.ensures c.if-not-apart.false))
 
-pub returns : goal.returns
-returns c =
+pub returns-then-not-apart : goal.returns-then-not-apart
+returns-then-not-apart c =
     let a = c.args in
-    let sx = in_x (goal.at.returns c).After-sides-in_x in
-    let sy = in_y (goal.at.returns c).After-sides-in_y in
+    let sx = in_x (goal.at.returns-then-not-apart c).After-sides-in_x in
+    let sy = in_y (goal.at.returns-then-not-apart c).After-sides-in_y in
     c.held_by.ensures
     ∙ ap₂ held_by sx.is sy.is
     ∙ not_apart a.first a.second a.x a.y (apart_seen sx c.apart.ensures c.if-apart.false)
-    (apart_seen sy c.apart-2.ensures c.if-apart-2.false)
+    (apart_seen sy c.apart-2.ensures c.if-not-apart.true)
 
 pub apart-requires : goal.apart-requires
 apart-requires c = (in_x c).small

@@ -1,69 +1,59 @@
 -- `judge_list::leaf_faults::record_fault` meets its contract: the curve, the node, and then the boxes.
-use mathlib.Core.Path.{◌≡◌, ◌∙◌, ap}
-use mathlib.Core.Bool.{true, false}
-use mathlib.Core.List.{List}
-use Prim.Native.Nat.{ℕ, ◌+◌, ◌*◌}
+use Rattle.std.proofs.Common.{rules, ◌≡◌, sym, ◌∙◌, ap, ◌+◌}
 use native.Mathlib.Nat.{add-zero}
-use native.Mathlib.Omega.{arith}
-use lib.IntN.{ℤ, pos}
-use lib.Signed.{le_z, lt_z}
-use mir.Syntax.{w32}
-use mir.Val.{SFits}
-use Rattle.integers.specs.Entry.{entry}
-use Rattle.integers.proofs.Ranges.{stored}
-use Rattle.integers.proofs.Between.{element_fits, found_below, found_above, found_within}
-use Rattle.setting.specs.Setting.{lists, break_points, greatest_node}
-use Rattle.boxes.proofs.Faults.{place_most}
-use Rattle.judge_list.specs.Inside.{box_fine_at, fine_at}
-use Rattle.judge_list.proofs.Numbers.{curve_negative, curve_past, curve_fine, curve_bad, node_bad, boxes_next}
+use Rattle.integers.proofs.Between.{element_fits}
+use Rattle.integers.proofs.First.{moved}
+use Rattle.setting.specs.Setting.{lists}
+use Rattle.boxes.specs.Ranges.{place_of}
+use Rattle.boxes.proofs.Faults.{place_some, place_none}
+use Rattle.judge_list.specs.Inside.{in_boxes, fine_at}
+use Rattle.judge_list.proofs.Numbers.{boxes_below, curve_bad, node_bad, boxes_next}
 use Rattle.judge_list.proofs.leaf_faults.record_fault.Goals as goal
+use Rattle.judge_list.proofs.leaf_faults.record_fault.Goals.{After-contains, After-contains-2}
 
-pub returns-then-curve-lt0 : goal.returns-then-curve-lt0
-returns-then-curve-lt0 c =
+curve : (c : After-contains) → c.contains.result ≡ fine_at (lists c.args.m).most c.args.leaves.now c.args.at 0
+curve c =
     let a = c.args in
-    let ns = a.leaves.now in
-    curve_bad (lists a.m) ns a.at
-    (rw add-zero (curve_negative (lists a.m).most (entry ns (a.at + 1)) (element_fits ns a.at c.curve-1.given) c.if-curve-lt0.true))
+    let fits = element_fits a.leaves.now a.at c.curve-1.given in
+    rw add-zero (search rules)
 
-pub returns-then-curve-ge4096 : goal.returns-then-curve-ge4096
-returns-then-curve-ge4096 c =
+node : (c : After-contains-2) → c.contains-2.result ≡ fine_at (lists c.args.m).most c.args.leaves.now c.args.at 1
+node c =
     let a = c.args in
-    let ns = a.leaves.now in
-    curve_bad (lists a.m) ns a.at
-    (rw add-zero (curve_past (lists a.m).most (entry ns (a.at + 1)) (element_fits ns a.at c.curve-1.given) c.if-curve-ge4096.true))
+    let fits = element_fits a.leaves.now (a.at + 1) c.node-1.given in
+    search rules
 
-curve-passed : (most : ℕ) (ns : List ℤ) (at : ℕ) → SFits w32 (entry ns at) → lt_z (stored w32 (entry ns at)) (pos 0) ≡ false
-    → le_z (pos most) (stored w32 (entry ns at)) ≡ false → fine_at most ns at 0 ≡ true
-curve-passed most ns at h low high = rw add-zero (curve_fine most (entry ns (at + 1)) h low high)
-
-pub returns-then-node-lt1 : goal.returns-then-node-lt1
-returns-then-node-lt1 c =
+pub returns-then-not-contains : goal.returns-then-not-contains
+returns-then-not-contains c =
     let a = c.args in
-    let ns = a.leaves.now in
-    let fits = element_fits ns a.at c.curve-1.given in
-    let below = found_below (element_fits ns (a.at + 1) c.node-1.given) (pos 1) (pos greatest_node) c.if-node-lt1.true in
-    node_bad (lists a.m) ns a.at (curve-passed (lists a.m).most ns a.at fits c.if-curve-lt0.false c.if-curve-ge4096.false) below
+    sym (ap place_of (curve_bad (lists a.m) a.leaves.now a.at (sym (curve (goal.at.returns-then-not-contains c).After-contains) ∙ c.if-not-contains.true)))
 
-pub returns-then-node-gt511 : goal.returns-then-node-gt511
-returns-then-node-gt511 c =
+pub returns-then-not-contains-2 : goal.returns-then-not-contains-2
+returns-then-not-contains-2 c =
     let a = c.args in
-    let ns = a.leaves.now in
-    let fits = element_fits ns a.at c.curve-1.given in
-    let above = found_above (element_fits ns (a.at + 1) c.node-1.given) (pos 1) (pos greatest_node) c.if-node-gt511.true in
-    node_bad (lists a.m) ns a.at (curve-passed (lists a.m).most ns a.at fits c.if-curve-lt0.false c.if-curve-ge4096.false) above
+    let at = goal.at.returns-then-not-contains-2 c in
+    let curve-fine = sym (curve at.After-contains) ∙ c.if-not-contains.false in
+    sym (ap place_of (node_bad (lists a.m) a.leaves.now a.at curve-fine (sym (node at.After-contains-2) ∙ c.if-not-contains-2.true)))
+
+-- past both tests a fault of the record is one of its boxes
+pub returns-in_err-place : goal.returns-in_err-place
+returns-in_err-place c =
+    let a = c.args in
+    let at = goal.at.returns-in_err-place c in
+    let e = boxes_next (lists a.m) a.leaves.now a.at (sym (curve at.After-contains) ∙ c.if-not-contains.false)
+    (sym (node at.After-contains-2) ∙ c.if-not-contains-2.false) in
+    c.from_residual.ensures ∙ sym (ap place_of (e ∙ ap (moved 2) (place_none _ c.in_err-place.ensures)))
 
 pub overflow_add-result : goal.overflow_add-result
 overflow_add-result c =
     let a = c.args in
-    let m = place_most (box_fine_at a.leaves.now (a.at + 2)) (4 * break_points (lists a.m)) in
-    omega (arith, c.boxes_fault.ensures)
+    let b = boxes_below a.leaves.now (a.at + 2) (in_boxes (lists a.m)) _ (place_some _ c.in_ok-place.ensures) in
+    search rules
 
 pub returns : goal.returns
 returns c =
     let a = c.args in
-    let ns = a.leaves.now in
-    let fits = element_fits ns a.at c.curve-1.given in
-    let within = found_within (element_fits ns (a.at + 1) c.node-1.given) (pos 1) (pos greatest_node) c.if-node-lt1.false c.if-node-gt511.false in
-    ap (λ n. 2 + n) c.boxes_fault.ensures
-    ∙ boxes_next (lists a.m) ns a.at
-    (curve-passed (lists a.m).most ns a.at fits c.if-curve-lt0.false c.if-curve-ge4096.false) within
+    let at = goal.at.returns c in
+    let e = boxes_next (lists a.m) a.leaves.now a.at (sym (curve at.After-contains) ∙ c.if-not-contains.false)
+    (sym (node at.After-contains-2) ∙ c.if-not-contains-2.false) in
+    sym (ap place_of (e ∙ ap (moved 2) (place_some _ c.in_ok-place.ensures)))

@@ -5,7 +5,7 @@ use borrow.Author.Rules.{rules}
 use borrow.Author.Tests.{not-true, not-false}
 use Rattle.setting.specs.Setting.{lists}
 use Rattle.setting.proofs.Pieces.{record_length_is}
-use Rattle.judge_list.proofs.Numbers.{record_fine_law, record_unfine, read_none, Turn, turn_at, read_more, begins_bad, begins_nowhere}
+use Rattle.judge_list.proofs.Numbers.{record_fine_law, read_none, Turn, turn_at, read_more, begins_bad, begins_nowhere}
 use Rattle.judge_list.proofs.leaf_list.first_bad.Goals as goal
 use Rattle.judge_list.proofs.leaf_list.first_bad.Goals.{In-loop-at}
 
@@ -16,7 +16,7 @@ pub returns-then-not-record_fine : goal.returns-then-not-record_fine
 returns-then-not-record_fine c =
     let a = c.args in
     let e = sym c.record_fine.ensures ∙ not-true c.record_fine.result c.if-not-record_fine.true-raw in
-    begins_bad (lists a.m) a.leaves.now c.loop-at.at (turn (goal.at.returns-then-not-record_fine c).In-loop-at) (record_unfine (lists a.m) a.leaves.now c.loop-at.at e)
+    begins_bad (lists a.m) a.leaves.now c.loop-at.at (turn (goal.at.returns-then-not-record_fine c).In-loop-at) e
 
 pub loop-at-preserved : goal.loop-at-preserved
 loop-at-preserved c =
@@ -27,7 +27,7 @@ loop-at-preserved c =
 
 pub returns : goal.returns
 returns c =
-    begins_nowhere (lists c.args.m) c.args.leaves.now c.requires.1 c.loop-at.at c.loop-at.invariant c.loop-at-test.false
+    begins_nowhere (lists c.args.m) c.args.leaves.now c.loop-at.at c.loop-at.invariant c.loop-at-test.false
 
 pub overflow_mul-record_length : goal.overflow_mul-record_length
 overflow_mul-record_length c = let h = c.requires.0.most in search rules

@@ -40,14 +40,14 @@ loop-i-preserved c =
     let e = rw (to_z-of_z low, to_z-of_z high, m) at c.side_fine.ensures in
     record {
       few = omega arith;
-      within = omega (arith, c.loop-i.invariant.within, byte-few c.side_fine.result);
-      is = one_more c.loop-i.fine c.loop-i.i c.side_fine.result c.loop-i.invariant.within ∙ rw n (ap₂ ◌&&◌ c.loop-i.invariant.is e);
+      within = omega (arith, c.loop-i.invariant.within, c.from-fine.ensures, byte-few c.side_fine.result);
+      is = rw c.from-fine.ensures (one_more c.loop-i.fine c.loop-i.i c.side_fine.result c.loop-i.invariant.within ∙ rw n (ap₂ ◌&&◌ c.loop-i.invariant.is e));
     }
 
 pub overflow_add-fine : goal.overflow_add-fine
 overflow_add-fine c =
     record {
-      fits = omega (arith, c.loop-i.invariant.within, c.loop-i.invariant.few, c.requires.0, byte-few c.side_fine.result);
+      fits = omega (arith, c.loop-i.invariant.within, c.loop-i.invariant.few, c.requires.0, c.from-fine.ensures, byte-few c.side_fine.result);
     }
 
 pub returns : goal.returns

@@ -63,8 +63,5 @@ overflow_mul-i c = let h = room (goal.at.overflow_mul-i c).In-loop-i in search r
 pub put_three-requires : goal.put_three-requires
 put_three-requires c = room (goal.at.put_three-requires c).In-loop-i
 
-pub overflow_add-i : goal.overflow_add-i
-overflow_add-i c = let h = c.loop-i-test.true in search rules
-
 pub loop-i-smaller : goal.loop-i-smaller
 loop-i-smaller c = let h = c.loop-i-test.true in omega arith

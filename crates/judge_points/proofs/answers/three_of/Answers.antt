@@ -11,14 +11,13 @@ use borrow.Author.Rules.{rules}
 use Rattle.integers.proofs.Ranges.{stored}
 use Rattle.setting.specs.Setting.{lists}
 use Rattle.refusals.specs.declared.Refusal.TheVariants.{PointX, PointY}
-use Rattle.judge.specs.declared.judging.Judgement.TheVariants.{On, Off}
-use Rattle.judge.specs.Judging.{judging_fault, FirstHolder}
+use Rattle.judge.specs.Judging.{on, off, judging_fault, FirstHolder}
 use Rattle.judge.specs.Inside.{InRange}
 use Rattle.judge.proofs.Holders.{in_ranges, found_off}
 use Rattle.judge.proofs.Answers.{range_bad, range_fine, x_bad, y_bad, none_bad}
 use Rattle.judge_points.proofs.PointNumbers.{numbers_refused, numbers_found, leaf_below}
 use Rattle.judge_points.proofs.answers.three_of.Goals as goal
-use Rattle.judge_points.proofs.answers.three_of.Goals.{Else-not-in_range-2, Then-cover-m}
+use Rattle.judge_points.proofs.answers.three_of.Goals.{Else-not-in_range-2, In-Some}
 
 -- a point whose x, or whose y alone, fails check 11
 pub returns-then-not-in_range : goal.returns-then-not-in_range
@@ -44,31 +43,31 @@ passed c =
     let f = range_fine c.ranges.y c.in_range-2.ensures c.if-not-in_range-2.false-raw in
     (none_bad (lists a.m) a.leaves.now a.x a.y c.requires.0 c.requires.1 e f, in_ranges c.ranges.x c.ranges.y e f)
 
-pub find_groups-holder-requires : goal.find_groups-holder-requires
-find_groups-holder-requires c = let p = c.requires in (p.0, p.1, (passed c).1, p.2)
+pub find_groups-requires : goal.find_groups-requires
+find_groups-requires c = let p = c.requires in (p.0, p.1, (passed c).1, p.2)
 
 -- the record and the cover that were found
-holder : (c : Then-cover-m)
+holder : (c : In-Some)
     → let a = c.args in
-    let h = c.find_groups-holder.result in
+    let h = c.in-Some.holder in
     FirstHolder (lists a.m) a.leaves.now a.x a.y h.leaf h.cover
-holder c =
-    rw (to_z-of_z c.ranges.x, to_z-of_z c.ranges.y) at (c.find_groups-holder.ensures.on c.if-cover-m.true)
+holder c = rw (to_z-of_z c.ranges.x, to_z-of_z c.ranges.y) at c.in-Some.ensures
 
-pub returns-then-cover-m : goal.returns-then-cover-m
-returns-then-cover-m c =
-    let h = c.find_groups-holder.result in
-    let l = leaf_below (holder c) in
-    let t = c.if-cover-m.true in
+pub returns-in-Some : goal.returns-in-Some
+returns-in-Some c =
+    let h = c.in-Some.holder in
+    let f = holder (goal.at.returns-in-Some c).In-Some in
+    let l = leaf_below f in
+    let t = f.cover in
     let m = c.requires.0.most in
     ap₂ (λ u v. pos 1 ∷ u ∷ v ∷ []) (to_z_pos w64 {n = h.leaf} (search rules)) (to_z_pos w64 {n = h.cover} (search rules))
-    ∙ numbers_found (lists c.args.m) c.args.leaves.now c.args.x c.args.y (On h.leaf h.cover) (passed (goal.at.returns-then-cover-m c).Else-not-in_range-2).0 (holder c)
+    ∙ numbers_found (lists c.args.m) c.args.leaves.now c.args.x c.args.y (on h.leaf h.cover) (passed (goal.at.returns-in-Some c).Else-not-in_range-2).0 f
 
-pub returns : goal.returns
-returns c =
-    let o = rw (to_z-of_z c.ranges.x, to_z-of_z c.ranges.y) at (c.find_groups-holder.ensures.off c.if-cover-m.false) in
-    numbers_found (lists c.args.m) c.args.leaves.now c.args.x c.args.y Off (passed (goal.at.returns c).Else-not-in_range-2).0
+pub returns-in-None : goal.returns-in-None
+returns-in-None c =
+    let o = rw (to_z-of_z c.ranges.x, to_z-of_z c.ranges.y) at c.in-None.ensures in
+    numbers_found (lists c.args.m) c.args.leaves.now c.args.x c.args.y off (passed (goal.at.returns-in-None c).Else-not-in_range-2).0
     (found_off o (le_refl (length c.args.leaves.now)))
 
 pub overflow_cast-result : goal.overflow_cast-result
-overflow_cast-result c = let h = leaf_below (holder c) in search rules
+overflow_cast-result c = let h = leaf_below (holder (goal.at.overflow_cast-result c).In-Some) in search rules

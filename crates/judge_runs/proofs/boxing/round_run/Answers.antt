@@ -49,8 +49,11 @@ overflow_add-m c = let h = more c in search rules
 pub round_boxes-around-requires : goal.round_boxes-around-requires
 round_boxes-around-requires c = let h = more c in omega arith
 
-pub overflow_add-at-in-loop-at : goal.overflow_add-at-in-loop-at
-overflow_add-at-in-loop-at c = let h = more (goal.at.overflow_add-at-in-loop-at c).In-loop-at in search rules
-
 pub loop-at-smaller : goal.loop-at-smaller
 loop-at-smaller c = omega (arith, c.loop-at-test.true)
+
+-- past the last record
+pub returns-2 : goal.returns-2
+returns-2 c =
+    let n = around_more c.loop-at.invariant.1 c.loop-at.invariant.0 in
+    rw (c.round_boxes-around.ensures, add-one c.args.m) (around_less n (omega arith))

@@ -1,11 +1,9 @@
--- `outline_binary64::checks::first_beyond` meets its contract. The loop's invariant: the search from `from` on comes to the search from `i` on. The measure is
--- what is left up to `end`.
-use mathlib.Core.Path.{◌≡◌, refl, sym, ◌∙◌, ap}
+-- `outline_binary64::checks::first_beyond` meets its contract: at each index the number is tested, and past the last one nothing was found.
+use mathlib.Core.Path.{sym, ◌∙◌, ap}
 use mathlib.Core.Bool.{Bool}
 use mathlib.Core.List.{List}
 use Prim.Native.Nat.{ℕ}
 use native.Mathlib.Omega.{arith}
-use borrow.Author.Tests.{not-true, not-false}
 use lib.Ieee.{Float}
 use Rattle.outline.specs.Faults.{coordinate_fine}
 use Rattle.outline.specs.Inside.{found_of}
@@ -14,42 +12,22 @@ use Rattle.integers.proofs.First.{bad_ended, bad_here, bad_on}
 use Rattle.outline_binary64.specs.Lists.{wholes}
 use Rattle.outline_binary64.proofs.Numbers.{near_at}
 use Rattle.outline_binary64.proofs.checks.first_beyond.Goals as goal
-use Rattle.outline_binary64.proofs.checks.first_beyond.Goals.{After-is_near}
 
-abbrev fine-at : List Float → ℕ → Bool
-fine-at xs k = coordinate_fine (entry (wholes xs) k)
-
--- what the code learns of the number at i
-found : (c : After-is_near) → c.is_near.result ≡ fine-at c.args.xs.now c.loop-i.i
-found c = c.is_near.ensures ∙ near_at c.args.xs.now c.loop-i.i (omega arith)
+abbrev fine_at : List Float → ℕ → Bool
+fine_at xs k = coordinate_fine (entry (wholes xs) k)
 
 pub returns-then-not-is_near : goal.returns-then-not-is_near
 returns-then-not-is_near c =
-    sym (ap found_of (c.loop-i.invariant.0 ∙ bad_here (fine-at c.args.xs.now) c.args.end c.loop-i.i (omega arith)
-    (sym (found (goal.at.returns-then-not-is_near c).After-is_near) ∙ not-true c.is_near.result c.if-not-is_near.true-raw)))
+    let xs = c.args.xs.now in
+    let i = c.loop-i.i in
+    sym (ap found_of (c.loop-i.invariant ∙ bad_here (fine_at xs) c.args.end i c.loop-i-test.true
+    (sym (c.if-not-is_near.ensures ∙ near_at xs i (omega arith)))))
 
 pub loop-i-preserved : goal.loop-i-preserved
-loop-i-preserved c = (
-  c.loop-i.invariant.0 ∙ bad_on (fine-at c.args.xs.now) c.args.end c.loop-i.i (omega arith)
-      (sym (found (goal.at.loop-i-preserved c).After-is_near) ∙ not-false c.is_near.result c.if-not-is_near.false-raw),
-  omega arith,
-)
+loop-i-preserved c =
+    let xs = c.args.xs.now in
+    let i = c.loop-i.i in
+    c.loop-i.invariant ∙ bad_on (fine_at xs) c.args.end i c.loop-i-test.true (sym (c.if-not-is_near.ensures ∙ near_at xs i (omega arith)))
 
 pub returns : goal.returns
-returns c =
-    sym (ap found_of (c.loop-i.invariant.0 ∙ bad_ended (fine-at c.args.xs.now) c.args.end c.loop-i.i (omega arith)))
-
-pub loop-i-init : goal.loop-i-init
-loop-i-init c = (refl, c.requires.0)
-
-pub offset_bounds-xs-i : goal.offset_bounds-xs-i
-offset_bounds-xs-i c = omega arith
-
-pub bounds-xs-i : goal.bounds-xs-i
-bounds-xs-i c = omega arith
-
-pub overflow_add-i : goal.overflow_add-i
-overflow_add-i c = omega arith
-
-pub loop-i-smaller : goal.loop-i-smaller
-loop-i-smaller c = omega arith
+returns c = sym (ap found_of (c.loop-i.invariant ∙ bad_ended (fine_at c.args.xs.now) c.args.end c.loop-i.i c.loop-i-test.false))

@@ -1,12 +1,19 @@
--- `text_forms::curve_forms::curve_third` meets its contract: one law a point that is there or not.
-use Rattle.text_forms.proofs.Lines.{curve_of_two, curve_past_two, curve_of_three, curve_of_four}
+-- `text_forms::curve_forms::curve_third` meets its contract: the definition, test by test.
+use Rattle.std.proofs.Common.{arith}
+use Rattle.std.proofs.lemmas.Grind.{common_steps}
+use Rattle.std.proofs.lemmas.Bool.Decides.{nat_tests}
+use Rattle.integers.proofs.Ranges.{read_again}
+use Rattle.text_forms.specs.Forms.{curve_third, curve_fourth}
 use Rattle.text_forms.proofs.curve_forms.curve_third.Goals as goal
 
-pub returns : goal.returns
-returns c = search (curve_past_two, curve_of_four)
-
 pub returns-in_default : goal.returns-in_default
-returns-in_default c = search curve_of_two
+unfolding curve_third curve_fourth
+returns-in_default c = grind (arith, common_steps, nat_tests)
 
 pub returns-in_default-spaced_pair_at : goal.returns-in_default-spaced_pair_at
-returns-in_default-spaced_pair_at c = search (curve_past_two, curve_of_three)
+unfolding curve_third curve_fourth
+returns-in_default-spaced_pair_at c = grind (arith, common_steps, nat_tests, read_again)
+
+pub returns : goal.returns
+unfolding curve_third curve_fourth
+returns c = grind (arith, common_steps, nat_tests, read_again)

@@ -1,16 +1,23 @@
--- `text_forms::form_reading::point_form_at` meets its contract: one law a return.
+-- `text_forms::form_reading::point_form_at` meets its contract: the definition, test by test.
+use Rattle.std.proofs.Common.{arith}
+use Rattle.std.proofs.lemmas.Grind.{common_steps}
+use Rattle.std.proofs.lemmas.Bool.Decides.{nat_tests}
+use Rattle.integers.proofs.Ranges.{read_again}
+use Rattle.text_forms.specs.Forms.{point_form_at}
 use Rattle.text_forms.proofs.FormWords.{closing_fits}
-use Rattle.text_forms.proofs.Lines.{point_no_pair, point_line_law, point_not_closed}
 use Rattle.text_forms.proofs.form_reading.point_form_at.Goals as goal
 
-pub returns-then-word_at : goal.returns-then-word_at
-returns-then-word_at c = search point_line_law
-
-pub returns-in_default : goal.returns-in_default
-returns-in_default c = search point_no_pair
+pub returns-in_err-x : goal.returns-in_err-x
+unfolding point_form_at
+returns-in_err-x c = grind (arith, common_steps, nat_tests)
 
 pub overflow_add-result : goal.overflow_add-result
 overflow_add-result c = search closing_fits
 
+pub returns-then-word_at : goal.returns-then-word_at
+unfolding point_form_at
+returns-then-word_at c = grind (arith, common_steps, nat_tests, read_again)
+
 pub returns-else-word_at : goal.returns-else-word_at
-returns-else-word_at c = search point_not_closed
+unfolding point_form_at
+returns-else-word_at c = grind (arith, common_steps, nat_tests)

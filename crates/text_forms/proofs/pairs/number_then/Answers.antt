@@ -1,12 +1,19 @@
--- `text_forms::pairs::number_then` meets its contract: one law a return.
-use Rattle.text_forms.proofs.PairLaws.{then_no_number, then_other_byte, then_number}
+-- `text_forms::pairs::number_then` meets its contract: the definition, test by test.
+use Rattle.std.proofs.Common.{arith}
+use Rattle.std.proofs.lemmas.Grind.{common_steps}
+use Rattle.std.proofs.lemmas.Bool.Decides.{nat_tests}
+use Rattle.integers.proofs.Ranges.{read_again}
+use Rattle.text_forms.specs.Pairs.{number_then}
 use Rattle.text_forms.proofs.pairs.number_then.Goals as goal
 
-pub returns-in_default : goal.returns-in_default
-returns-in_default c = search then_no_number
+pub returns-in_err-value : goal.returns-in_err-value
+unfolding number_then
+returns-in_err-value c = grind (arith, common_steps, nat_tests)
 
 pub returns-then-byte_at-b : goal.returns-then-byte_at-b
-returns-then-byte_at-b c = search then_other_byte
+unfolding number_then
+returns-then-byte_at-b c = grind (arith, common_steps, nat_tests)
 
 pub returns : goal.returns
-returns c = search then_number
+unfolding number_then
+returns c = grind (arith, common_steps, nat_tests, read_again)

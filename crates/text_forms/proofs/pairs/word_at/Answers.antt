@@ -1,20 +1,13 @@
--- `text_forms::pairs::word_at` meets its contract. The loop's invariant: what is left of the word and of the text compares as the whole does. The
--- measure is what is left of the word.
-use mathlib.Core.Path.{refl}
-use Rattle.text_forms.proofs.PairWords.{word_over, text_over, bytes_differ, bytes_agree}
+-- `text_forms::pairs::word_at` meets its contract: the comparison of slices is the definition's, over what is left of the text.
+use Rattle.std.proofs.Common.{◌≡◌, ◌-◌, ◌∙◌, arith, length, take, drop, length-drop}
+use Rattle.std.proofs.lemmas.List.{drop_min, take_all}
+use Rattle.text_forms.proofs.PairWords.{starts_as}
 use Rattle.text_forms.proofs.pairs.word_at.Goals as goal
 
-pub loop-j-init : goal.loop-j-init
-loop-j-init c = refl
-
-pub returns-then-text-i : goal.returns-then-text-i
-returns-then-text-i c = search text_over
-
-pub returns-then-text-i-2 : goal.returns-then-text-i-2
-returns-then-text-i-2 c = search bytes_differ
-
-pub loop-j-preserved : goal.loop-j-preserved
-loop-j-preserved c = search bytes_agree
-
 pub returns : goal.returns
-returns c = search word_over
+returns c =
+    let s = c.args.text.now in
+    let m = c.min.result in
+    let whole : take (length s - m) (drop m s) ≡ drop m s = take_all _ _ (omega (arith, length-drop m s)) in
+    let rest : drop m s ≡ drop c.args.at s = rw c.min.ensures (drop_min c.args.at s) in
+    rw (whole, rest) at c.starts_with.ensures.value ∙ starts_as c.args.word.now (drop c.args.at s)

@@ -1,18 +1,25 @@
--- `text_lines::line_checks::check_line` meets its contract: one law for each way through it.
-use Rattle.text_lines.proofs.Checking.{at_no_form, at_tolerance, at_late, at_curve, at_point}
+-- `text_lines::line_checks::check_line` meets its contract: the definition, form by form.
+use Rattle.std.proofs.Common.{arith}
+use Rattle.std.proofs.lemmas.Grind.{common_steps}
+use Rattle.text_lines.specs.Inside.{after_line}
 use Rattle.text_lines.proofs.line_checks.check_line.Goals as goal
 
 pub returns-then-late : goal.returns-then-late
-returns-then-late c = search at_late
+unfolding after_line
+returns-then-late c = grind (arith, common_steps)
 
-pub returns-in-NoForm : goal.returns-in-NoForm
-returns-in-NoForm c = search at_no_form
+pub returns-in-None : goal.returns-in-None
+unfolding after_line
+returns-in-None c = grind (arith, common_steps)
 
-pub returns-in-Tolerance : goal.returns-in-Tolerance
-returns-in-Tolerance c = search at_tolerance
+pub returns-in-Some-Tolerance : goal.returns-in-Some-Tolerance
+unfolding after_line
+returns-in-Some-Tolerance c = grind (arith, common_steps)
 
 pub returns-else-late : goal.returns-else-late
-returns-else-late c = search at_curve
+unfolding after_line
+returns-else-late c = grind (arith, common_steps)
 
-pub returns-in-Point : goal.returns-in-Point
-returns-in-Point c = search at_point
+pub returns-in-Some-Point : goal.returns-in-Some-Point
+unfolding after_line
+returns-in-Some-Point c = grind (arith, common_steps)

@@ -1,54 +1,40 @@
 -- `text_lines::line_checks::check_rest` meets its contract: the reader is held in a local from line to line, and each line is one law of `Checking`.
-use Rattle.std.proofs.Common.{◌≡◌, length, List, ℕ, ap, ◌∙◌, rules}
+use Rattle.std.proofs.Common.{◌≡◌, List, ℕ, ap, ◌∙◌}
+use Rattle.std.proofs.lemmas.Result.{err_from_is_err_and}
 use Rattle.text_forms.specs.Forms.{form_at}
-use Rattle.text_reader.specs.Reading.{place_after}
-use Rattle.text_lines.specs.Inside.{after_line}
-use Rattle.text_lines.proofs.Checking.{stands_start, line_fits, after_line_law, line_falls}
+use Rattle.text_lines.specs.Lines.{Line}
+use Rattle.text_lines.proofs.Faults.{rest_over}
+use Rattle.text_lines.proofs.Checking.{Passed, line_passed, line_refused}
 use Rattle.text_lines.proofs.line_checks.check_rest.Goals as goal
-use Rattle.text_lines.proofs.line_checks.check_rest.Goals.{After-check_line-checks, After-next-form}
-
-pub loop-checks-init : goal.loop-checks-init
-loop-checks-init c =
-    let start = stands_start c.args.text.now c.args.at in
-    record {
-      stands = rw (c.before-checks.ensures, c.new-reader.ensures.1) start;
-      of_text = ap (λ t. t.now) c.new-reader.ensures.0;
-    }
+use Rattle.text_lines.proofs.line_checks.check_rest.Goals.{In_ok-late}
 
 -- the form that was read, at the reader's place in the text
-read : (c : After-next-form) → c.next-form.result ≡ form_at c.args.text.now c.loop-checks.reader.read
-read c = c.next-form.ensures ∙ ap (λ (s : List ℕ). form_at s c.loop-checks.reader.read) c.loop-checks.invariant.of_text
+read : (t s : List ℕ) (i : ℕ) (f : Line) → f ≡ form_at t i → t ≡ s → f ≡ form_at s i
+read t s i f e q = e ∙ ap (λ (x : List ℕ). form_at x i) q
 
-pub check_line-checks-requires : goal.check_line-checks-requires
-check_line-checks-requires c =
-    let i = c.loop-checks.reader.read in
-    line_fits c.args.text.now c.args.at c.loop-checks.checks i c.loop-checks-test.true c.loop-checks.invariant.stands (search rules)
+-- what holds after a line that is in order
+passed : (c : In_ok-late) → let now = c.loop-reader in
+    Passed c.args.text.now c.args.at now.late now.reader.read now.line now.invariant.checking c.loop-reader-test.true c.in_ok-late.late
+    c.after-reader.result.read
+passed c =
+    let now = c.loop-reader.invariant in
+    let form = read _ _ _ _ c.next-form.ensures now.of_text in
+    rw c.after-reader.ensures.1
+    (line_passed _ _ _ _ _ now.checking c.loop-reader-test.true c.next-form.result form c.in_ok-late.late c.in_ok-late.ensures)
 
--- the checks after the line
-is : (c : After-check_line-checks)
-    → c.check_line-checks.result
-    ≡ after_line c.loop-checks.checks c.next-form.result (place_after c.next-form.result c.loop-checks.reader.read) (length c.args.text.now)
-is c = rw c.after-reader.ensures.1 at c.check_line-checks.ensures
+pub loop-reader-preserved : goal.loop-reader-preserved
+loop-reader-preserved c =
+    record { checking = (passed c).checking; of_text = ap (λ t. t.now) c.after-reader.ensures.0 ∙ c.loop-reader.invariant.of_text }
 
-pub loop-checks-smaller : goal.loop-checks-smaller
-unfolding after_line
-loop-checks-smaller c =
-    let g = goal.at.loop-checks-smaller c in
-    let i = c.loop-checks.reader.read in
-    rw (is c, c.after-reader.ensures.1, c.loop-checks-test.true)
-    (line_falls c.args.text.now c.args.at c.loop-checks.checks i c.loop-checks-test.true c.loop-checks.invariant.stands c.next-form.result
-    (read g.After-next-form))
+pub loop-reader-smaller : goal.loop-reader-smaller
+loop-reader-smaller c = (passed c).less
 
-pub loop-checks-preserved : goal.loop-checks-preserved
-loop-checks-preserved c =
-    let g = goal.at.loop-checks-preserved c in
-    let i = c.loop-checks.reader.read in
-    record {
-      stands = rw (is c, c.after-reader.ensures.1)
-          (after_line_law c.args.text.now c.args.at c.loop-checks.checks i c.loop-checks-test.true c.loop-checks.invariant.stands
-          c.next-form.result (read g.After-next-form));
-      of_text = ap (λ t. t.now) c.after-reader.ensures.0 ∙ c.loop-checks.invariant.of_text;
-    }
+pub returns-in_err-late : goal.returns-in_err-late
+returns-in_err-late c =
+    let now = c.loop-reader.invariant in
+    let form = read _ _ _ _ c.next-form.ensures now.of_text in
+    let p = err_from_is_err_and c.from_residual.result c.from_residual.ensures.1 in
+    rw (p.1, p.2) (line_refused _ _ _ _ _ now.checking c.loop-reader-test.true c.next-form.result form _ c.in_err-late.ensures)
 
 pub returns : goal.returns
-returns c = c.loop-checks.invariant.stands.found c.loop-checks-test.false
+returns c = rest_over _ _ _ _ _ c.loop-reader.invariant.checking c.loop-reader-test.false
