@@ -1,5 +1,5 @@
 // The first record and cover of a leaf list that hold a point, looked for in the runs whose box does not turn it away.
-ghost use Rattle.std.specs.Prelude.{◌≡◌, ◌+◌, ◌*◌, ◌≤◌, length};
+ghost use Rattle.std.specs.Prelude.{◌≡◌, ◌+◌, ◌*◌, ◌≤◌, ◌<◌, ◌^◌, length};
 ghost use Rattle.setting.specs.Setting.{lists, HasRows};
 ghost use Rattle.boxes.specs.Records.{box_at_index};
 ghost use Rattle.judge.specs.{Judging.{Passed}, Inside.{InRange, Searched, FoundTo}};
@@ -37,6 +37,16 @@ fn next_box(boxes: &[i32], from: usize, to: usize, x: i32, y: i32) -> Option<usi
     None
 }
 
+// The index where run k begins. A call for itself: where it is computed in the loop that looks for the next box, a box
+// passed over takes seven instructions beside its tests, and not four.
+#[inline(never)]
+fn run_start(run: usize, k: usize) -> usize
+    requires { run * k < 2 ^ 64 }
+    ensures { result ≡ run * k }
+{
+    run * k
+}
+
 // The first record of m pieces and its first cover that hold the point (x, y), looked for in runs `from` to before
 // `to`: no record before run `from` holds it.
 fn find_runs(
@@ -57,7 +67,7 @@ fn find_runs(
     // The next box is looked for in two places: in one, a box passed over takes twice the instructions.
     let mut next = next_box(boxes, from, to, x, y);
     while let Some(k) = next {
-        let at = run * k;
+        let at = run_start(run, k);
         let holder = find_to(leaves, m, at, run_end(leaves.len(), at, run), x, y);
         if holder.is_some() {
             return holder;

@@ -25,10 +25,11 @@ returns-after-matches c =
     let e : to_z w64 a.t ≡ pos a.t = to_z_pos w64 (omega (arith, c.ranges.t)) in
     elim c.match-matches.branch [
       | in-TooFewRecords w ↦
-          rw w.matches-is
-          (tight_few (lists a.m) (curves_in Outline a.ns.now a.curves) a.most a.t a.curves 1 _ (rw (e, w.in-TooFewRecords.is) at c.in-Err.ensures.value))
+          let few = tight_few (lists a.m) (curves_in Outline a.ns.now a.curves) a.most a.t a.curves 1 _
+          (rw (e, w.in-TooFewRecords.is) at c.in-Err.ensures.value) in
+          rw w.matches-is few
       | in_default w ↦
-          rw w.matches-is
-          (tight_other (lists a.m) (curves_in Outline a.ns.now a.curves) a.most a.t a.curves 1 c.in-Err.refusal w.in_default.not-TooFewRecords
-          (rw e at c.in-Err.ensures.value))
+          let other = tight_other (lists a.m) (curves_in Outline a.ns.now a.curves) a.most a.t a.curves 1 c.in-Err.refusal
+          w.in_default.not-TooFewRecords (rw e at c.in-Err.ensures.value) in
+          rw w.matches-is other
     ]

@@ -9,11 +9,11 @@ use mir.Facts.{to_z-of_z}
 use Rattle.integers.proofs.Ranges.{stored}
 use Rattle.setting.specs.Setting.{lists, record_length}
 use Rattle.judge.proofs.Judgements.{whole_of}
-use Rattle.judge_runs.specs.Inside.{RunBox}
+use Rattle.judge_runs.specs.Inside.{RunBox, RunEnd}
 use Rattle.judge_runs.proofs.Runs.{end_whole}
 use Rattle.judge_runs.proofs.Passed.{SearchedRuns, SearchedTo, run_searched, search_begun, search_next, search_to, left, left_less, found_none, found_farther}
 use Rattle.judge_runs.proofs.searching.find_runs.Goals as goal
-use Rattle.judge_runs.proofs.searching.find_runs.Goals.{In-Some}
+use Rattle.judge_runs.proofs.searching.find_runs.Goals.{In-Some, After-run_end}
 
 pub loop-next-init : goal.loop-next-init
 loop-next-init c =
@@ -32,16 +32,20 @@ here : (c : In-Some)
     → let a = c.args in RunBox (lists a.m) a.leaves.now a.run a.boxes.now c.in-Some.k
 here c = let r = reached c in c.requires.3.each c.in-Some.k r.1.after r.0
 
-pub overflow_mul-at : goal.overflow_mul-at
-overflow_mul-at c = let h = (here c).begins in search rules
+pub run_start-at-requires : goal.run_start-at-requires
+run_start-at-requires c = let h = (here c).begins in search rules
+
+-- where run k ends, from where it begins
+ends : (c : After-run_end) → let a = c.args in RunEnd (length a.leaves.now) (a.run * c.in-Some.k) a.run c.run_end.result
+ends c = let a = c.args in subst (λ n. RunEnd (length a.leaves.now) n a.run c.run_end.result) c.run_start-at.ensures c.run_end.ensures
 
 pub run_end-requires : goal.run_end-requires
-run_end-requires c = let h = (here (goal.at.run_end-requires c).In-Some).begins in omega arith
+run_end-requires c = let h = (here (goal.at.run_end-requires c).In-Some).begins in omega (arith, h, c.run_start-at.ensures)
 
 pub find_to-holder-requires : goal.find_to-holder-requires
 find_to-holder-requires c =
     let σ = lists c.args.m in
-    let e = c.run_end.ensures in
+    let e = ends (goal.at.find_to-holder-requires c).After-run_end in
     let s = (reached (goal.at.find_to-holder-requires c).In-Some).1.searched in (
       c.requires.0,
       c.requires.1,
@@ -50,7 +54,7 @@ find_to-holder-requires c =
         whole = end_whole (record_length σ) e s.begins c.requires.3.whole (whole_of σ (length c.args.leaves.now) c.requires.1.whole);
         within = e.inside;
       },
-      s,
+      rw c.run_start-at.ensures s,
     )
 
 pub returns-then-is_some : goal.returns-then-is_some
@@ -71,7 +75,7 @@ loop-next-preserved c =
     let r = reached (goal.at.loop-next-preserved c).In-Some in
     let n = found_none (lists a.m) a.leaves.now _ _ _ c.find_to-holder.result c.find_to-holder.ensures (sym c.is_some.ensures ∙ c.if-is_some.false) in
     search_to c.requires.3 c.next_box-next-in-Some.result
-    (search_next r.1 r.0 (run_searched a.run c.in-Some.k c.requires.3.whole c.run_end.ensures r.1.searched.begins n))
+    (search_next r.1 r.0 (run_searched a.run c.in-Some.k c.requires.3.whole (ends (goal.at.loop-next-preserved c).After-run_end) r.1.searched.begins n))
     c.next_box-next-in-Some.ensures
 
 pub loop-next-smaller : goal.loop-next-smaller
