@@ -37,8 +37,8 @@ fn next_box(boxes: &[i32], from: usize, to: usize, x: i32, y: i32) -> Option<usi
     None
 }
 
-// The index where run k begins. A call for itself: where it is computed in the loop that looks for the next box, a box
-// passed over takes seven instructions beside its tests, and not four.
+// The index where run k begins. A call of its own: inlined, the product is carried along in the loop that looks for the
+// next box, and a box passed over takes six to eight instructions beside its tests, and not four.
 #[inline(never)]
 fn run_start(run: usize, k: usize) -> usize
     requires { run * k < 2 ^ 64 }
